@@ -1,0 +1,38 @@
+-- Tests, sums, a logarithm and two forms of a lent list: nothing here is of JPEG 2000.
+-- A branch that calls itself is bound by a `let`, so that only the branch taken is computed.
+use Prim.Native.Nat.{ℕ, zero, suc, _+_, _/_}
+use mathlib.Core.Bool.{Bool, true, false, cond, _&&_, _||_}
+use mathlib.Core.List.{List, [], _∷_, _++_}
+use lib.ListN.{length, drop, replicate}
+use lib.Dec.{ltb}
+
+-- the test holds at each number below n
+unfoldable pub every : ℕ → (ℕ → Bool) → Bool
+every zero f = true
+every (suc n) f = f n && every n f
+
+-- the test holds of some entry
+unfoldable pub any {ℓ} : {A : Type ℓ} → (A → Bool) → List A → Bool
+any f [] = false
+any f (x ∷ xs) = f x || any f xs
+
+unfoldable pub sum : List ℕ → ℕ
+sum [] = 0
+sum (x ∷ xs) = x + sum xs
+
+-- how often n can be halved before it is below 2; the first argument bounds that
+unfoldable pub halvings : ℕ → ℕ → ℕ
+halvings zero n = 0
+halvings (suc f) n = let r = 1 + halvings f (n / 2) in cond (ltb n 2) 0 r
+
+-- floor (log2 n), and 0 at 0
+unfoldable pub floorLog2 : ℕ → ℕ
+floorLog2 n = halvings n n
+
+-- xs over the front of a lent list
+unfoldable pub overwrite : List ℕ → List ℕ → List ℕ
+overwrite lent xs = xs ++ drop (length xs) lent
+
+-- zeros over the whole of a lent list
+abbrev pub wiped : List ℕ → List ℕ
+wiped lent = replicate (length lent) 0

@@ -1,0 +1,79 @@
+-- Bits and bytes of a packet header (T.800, B.10.1; document 01, "Bits"): bits fill bytes from the high end, and behind a byte FF
+-- the next byte's high bit is a stuffed 0. A bit is the number 0 or 1.
+use Prim.Native.Nat.{ℕ, zero, suc, _+_, _-_, _*_, _/_, _%_, _^_, min}
+use mathlib.Core.Bool.{Bool, cond, _&&_}
+use mathlib.Core.List.{List, [], _∷_}
+use lib.ListN.{length, getD}
+use lib.Dec.{eqb}
+use Rattle.t800.specs.declared.Bio.{Bio}
+
+-- the low n bits of v, high bit first
+unfoldable pub bitsOf : ℕ → ℕ → List ℕ
+bitsOf zero v = []
+bitsOf (suc n) v = v / 2 ^ n % 2 ∷ bitsOf n v
+
+-- ---- writing
+
+-- how many bits go into the byte behind this one
+unfoldable pub bitsAfter : ℕ → ℕ
+bitsAfter byte = cond (eqb byte 255) 7 8
+
+-- a last byte FF gets a 00 behind it
+unfoldable pub lastBytes : ℕ → List ℕ
+lastBytes byte = byte ∷ cond (eqb byte 255) (0 ∷ []) []
+
+-- the bytes that the bits make, where `byte` is being filled and its low `free` bits are free
+unfoldable pub packFrom : ℕ → ℕ → List ℕ → List ℕ
+packFrom byte free [] = lastBytes byte
+packFrom byte zero (b ∷ bs) = byte ∷ packFrom (b * 2 ^ (bitsAfter byte - 1)) (bitsAfter byte - 1) bs
+packFrom byte (suc free) (b ∷ bs) = packFrom (byte + b * 2 ^ free) free bs
+
+unfoldable pub pack : List ℕ → List ℕ
+pack bits = packFrom 0 8 bits
+
+-- ---- reading
+
+-- a number that was read, and where reading goes on
+pub record Decoded : Type 0 where
+  pub value : ℕ
+  pub bio : Bio
+
+-- before the first bit, with the next byte at p
+abbrev pub bioAt : ℕ → Bio
+bioAt p = record { bp = p; buf = 0; ct = 0 }
+
+-- The held word is moved up by eight and cut to sixteen bits, and the next byte moves in, a 0 past the end. Behind FF seven bits
+-- of it count. The place stops at length + 1, which says that the held byte lies past the end.
+unfoldable pub byteIn : List ℕ → Bio → Bio
+byteIn src b =
+    let moved = b .buf * 256 % 65536 in
+    record { bp = min (b .bp + 1) (length src + 1); buf = moved + getD src (b .bp) 0; ct = cond (eqb moved 0xff00) 7 8 }
+
+-- the next bit of the held word
+unfoldable pub heldBit : Bio → Decoded
+heldBit b = record { value = b .buf / 2 ^ (b .ct - 1) % 2; bio = record { bp = b .bp; buf = b .buf; ct = b .ct - 1 } }
+
+unfoldable pub getBit : List ℕ → Bio → Decoded
+getBit src b = heldBit (cond (eqb (b .ct) 0) (byteIn src b) b)
+
+-- n bits as a number, high bit first, behind those that v holds
+unfoldable pub readBitsOnto : List ℕ → ℕ → ℕ → Bio → Decoded
+readBitsOnto src zero v b = record { value = v; bio = b }
+readBitsOnto src (suc n) v b = let r = getBit src b in readBitsOnto src n (2 * v + r .value) (r .bio)
+
+unfoldable pub readBits : List ℕ → ℕ → Bio → Decoded
+readBits src n b = readBitsOnto src n 0 b
+
+-- ---- the header's end
+
+-- the last bit read lies in a byte FF
+unfoldable pub inFF : Bio → Bool
+inFF b = eqb (b .buf % 256) 255
+
+-- refusal 12: and the input ends with that byte
+unfoldable pub endsInFF : List ℕ → Bio → Bool
+endsInFF src b = inFF b && eqb (b .bp) (length src)
+
+-- the bytes taken: a byte FF takes the one behind it along
+unfoldable pub bytesTaken : List ℕ → Bio → ℕ
+bytesTaken src b = cond (inFF b) (b .bp + 1) (min (b .bp) (length src))

@@ -1,0 +1,17 @@
+pub mod Base
+pub mod Bits
+pub mod TagTree
+pub mod PassCount
+pub mod Segments
+pub mod State
+pub mod Ranges
+pub mod Start
+pub mod Reports
+pub mod WriteHeader
+pub mod ReadHeader
+pub mod MarkerSegments
+pub mod Packet
+pub mod Book
+pub mod RoundTrip
+pub mod Table
+pub mod Packets

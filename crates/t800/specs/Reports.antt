@@ -1,0 +1,29 @@
+-- What a read tells of a packet (document 01, "What turns a packet away"), and how it lies in the lent lists.
+use Prim.Native.Nat.{ℕ}
+use mathlib.Core.List.{List, [], _∷_}
+
+-- a block's report: 0 absent, 1 first time, 2 again; zero planes and block planes, both 0 unless it is 1; passes
+pub record BlockReport : Type 0 where
+  pub inclusion : ℕ
+  pub zeroPlanes : ℕ
+  pub planes : ℕ
+  pub passes : ℕ
+
+-- a segment's record: block number; 1 if it opens a segment, else 0; passes; length
+pub record SegmentRecord : Type 0 where
+  pub block : ℕ
+  pub opens : ℕ
+  pub passes : ℕ
+  pub bytes : ℕ
+
+abbrev pub absent : BlockReport
+absent = record { inclusion = 0; zeroPlanes = 0; planes = 0; passes = 0 }
+
+-- four words each, in this order
+unfoldable pub reportWords : List BlockReport → List ℕ
+reportWords [] = []
+reportWords (r ∷ rs) = r .inclusion ∷ r .zeroPlanes ∷ r .planes ∷ r .passes ∷ reportWords rs
+
+unfoldable pub recordWords : List SegmentRecord → List ℕ
+recordWords [] = []
+recordWords (r ∷ rs) = r .block ∷ r .opens ∷ r .passes ∷ r .bytes ∷ recordWords rs

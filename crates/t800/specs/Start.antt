@@ -1,0 +1,67 @@
+-- Start (document 01, "The calls an archive makes"): a lent state is filled for a writer or a reader. It stands for the reset of the
+-- trees at layer 0.
+use Prim.Native.Nat.{ℕ, zero, suc, _-_}
+use mathlib.Core.Bool.{Bool, cond, _||_, not}
+use mathlib.Core.List.{List, [], _∷_, _++_}
+use lib.ListN.{length, take, replicate}
+use lib.Dec.{eqb}
+use Rattle.t800.specs.declared.Band.{Band}
+use Rattle.t800.specs.TagTree.{setValue}
+use Rattle.t800.specs.State.{Block, notYetIncluded, notYetPlanes, writer, blocksIn, bandNodes, blocks, stateLength}
+use Rattle.t800.specs.Ranges.{badShape, badStyle, bandTooDeep, blockTooDeep}
+
+-- ---- a fresh state
+
+-- n nodes with the value v, low 0, known 0
+unfoldable pub freshNodes : ℕ → ℕ → List ℕ
+freshNodes v zero = []
+freshNodes v (suc n) = v ∷ 0 ∷ 0 ∷ freshNodes v n
+
+unfoldable pub freshBlocks : ℕ → List ℕ
+freshBlocks zero = []
+freshBlocks (suc n) = 0 ∷ 0 ∷ 0 ∷ 0 ∷ freshBlocks n
+
+unfoldable pub freshBands : List Band → List ℕ
+freshBands [] = []
+freshBands (b ∷ bs) = freshNodes notYetIncluded (bandNodes b) ++ freshNodes notYetPlanes (bandNodes b) ++ freshBlocks (blocksIn b) ++ freshBands bs
+
+-- three words for each of n bands, 0 where there is none
+unfoldable pub bandWords : List Band → ℕ → List ℕ
+bandWords bs zero = []
+bandWords [] (suc n) = 0 ∷ 0 ∷ 0 ∷ bandWords [] n
+bandWords (b ∷ bs) (suc n) = b .across ∷ b .down ∷ b .planes ∷ bandWords bs n
+
+unfoldable pub freshState : ℕ → ℕ → List Band → List ℕ
+freshState r s bs = r ∷ length bs ∷ s ∷ 0 ∷ bandWords bs 3 ++ freshBands bs
+
+-- each block's zero planes, its band's planes minus its own, are set in the zero-plane tree
+unfoldable pub setZeroPlanes : List Block → List ℕ → List ℕ → List ℕ
+setZeroPlanes [] ps ws = ws
+setZeroPlanes (k ∷ ks) [] ws = ws
+setZeroPlanes (k ∷ ks) (p ∷ ps) ws = setZeroPlanes ks ps (setValue (k .zeroTree) (k .path) (k .planes - p) ws)
+
+-- ---- the call
+
+-- 0 or a refusal, and the lent state after it
+pub record StartResult : Type 0 where
+  pub answer : ℕ
+  pub state : List ℕ
+
+-- Role, band count, bands, style byte, block planes (none for a reader), lent state. In the code the bands are an array of three, so
+-- that there are at least as many as a count that isn't refused; those beyond the count are ignored.
+unfoldable pub startRefusal : ℕ → ℕ → List Band → ℕ → List ℕ → List ℕ → ℕ
+unfolding writer
+startRefusal r n given s planes lent =
+    let bs = take n given in
+    let ks = blocks bs in
+    cond (badShape n bs) 1
+    (cond (badStyle s) 2
+    (cond (not (eqb (length lent) (stateLength bs)) || not (eqb (length planes) (cond (eqb r writer) (length ks) 0))) 3
+    (cond (bandTooDeep bs || blockTooDeep ks planes) 4 0)))
+
+unfoldable pub start : ℕ → ℕ → List Band → ℕ → List ℕ → List ℕ → StartResult
+start r n given s planes lent =
+    let why = startRefusal r n given s planes lent in
+    let bs = take n given in
+    let filled = setZeroPlanes (blocks bs) planes (freshState r s bs) in
+    record { answer = why; state = cond (eqb why 0) filled lent }

@@ -1,0 +1,180 @@
+-- A table of calls on precincts, and what it is for a row to hold: each call is computed and compared with what the row says of it, with
+-- document 01's rule for every lent list, and each read of a packet that the row wrote with the book's entry. No definition rests on this.
+use Prim.Native.Nat.{ℕ, _+_}
+use mathlib.Core.Bool.{Bool, true, false, cond, _&&_, _||_, not}
+use mathlib.Core.List.{List, [], _∷_, _++_}
+use lib.ListN.{length, drop, replicate}
+use lib.Dec.{leb, eqb}
+use Rattle.t800.specs.declared.Band.{Band}
+use Rattle.t800.specs.declared.Markers.{Markers}
+use Rattle.t800.specs.declared.ReadAnswer.{ReadAnswer}
+use Rattle.t800.specs.Base.{every, any, sum, halvings, floorLog2, overwrite, wiped}
+use Rattle.t800.specs.Bits.{bitsOf, bitsAfter, lastBytes, packFrom, pack, byteIn, heldBit, getBit, readBitsOnto, readBits, inFF, endsInFF, bytesTaken}
+use Rattle.t800.specs.TagTree.{levelsFrom, levels, nodesIn, nodes, pathFrom, pathToRoot, setValue, lowAfter, nodeBits, knownAfter, codePath, readNode, readPath}
+use Rattle.t800.specs.PassCount.{passBits, readPasses}
+use Rattle.t800.specs.Segments.{termAll, bypass, firstLimit, nextLimit, isLimit, segmentsFrom, segmentsOf, width, bitLength, increment, commaBits, lengthFields, readOnes, readComma}
+use Rattle.t800.specs.State.{writer, reader, blocksIn, bandNodes, bandLength, blocksFrom, blocksAt, endOf, blocks, stateLength, bandAt, bands}
+use Rattle.t800.specs.Ranges.{badShape, badStyle, bandTooDeep, blockTooDeep, nodeInRange, blockInRange, bandInRange, bandsInRange, unusedBandsZero, validState}
+use Rattle.t800.specs.Start.{freshNodes, freshBlocks, freshBands, bandWords, freshState, setZeroPlanes, startRefusal, start}
+use Rattle.t800.specs.Reports.{reportWords, recordWords}
+use Rattle.t800.specs.WriteHeader.{Contribution, isNew, lengthBitsBefore, setNewBlocks, codeInclusion, codeZeroPlanes, codePasses, codeBlock, codeBlocks, codeHeader, segmentTooLong, fieldTooWide}
+use Rattle.t800.specs.ReadHeader.{opensSegment, currentLimit, currentPasses, passesTaken, readSegment, readSegments, readZeroPlanesFrom, readZeroPlanes, firstReport, againReport, readIncluded, readNewBlock, readOldBlock, readBlock, readBlocks, readHeader}
+use Rattle.t800.specs.MarkerSegments.{sopBytes, ephBytes, withMarkers, readMarker, readSop, readEph}
+use Rattle.t800.specs.Packet.{wrongLists, measureRefusal, front, MeasureResult, measure, packet, writeRefusal, WriteResult, write, readRefusal, readAbsent, readPresent, ReadResult, read}
+use Rattle.t800.specs.Book.{BlockEntry, Entry, opensAt, newEntries, newBook, reportOf, recordsFrom, recordsOf, entryFrom, entry, addCounts}
+
+-- ---- rows
+
+-- a start: role, band count, bands, style byte, block planes, words of the lent state
+pub record Starting : Type 0 where
+  pub role : ℕ
+  pub count : ℕ
+  pub given : List Band
+  pub style : ℕ
+  pub planes : List ℕ
+  pub lent : ℕ
+
+-- a writing call: what it is given, and how many scratch words, body bytes and output bytes it is lent
+pub record Writing : Type 0 where
+  pub contribution : Contribution
+  pub markers : Markers
+  pub number : ℕ
+  pub scratch : ℕ
+  pub body : ℕ
+  pub output : ℕ
+
+-- a reading call: what it is given, and how many words of scratch, reports and records it is lent
+pub record Reading : Type 0 where
+  pub markers : Markers
+  pub input : List ℕ
+  pub scratch : ℕ
+  pub reports : ℕ
+  pub records : ℕ
+
+pub data Step : Type 0 where
+  -- a start on a list of its own, and its answer
+  starts : Starting → ℕ → Step
+  -- the words of the row's writer, or of its reader, from here on; or what they are here
+  loads-writer loads-reader holds-writer holds-reader : List ℕ → Step
+  -- a writing call and the measuring call with the same arguments: the refusal or 0, and the packet less its body
+  writes : Writing → ℕ → List ℕ → Step
+  -- the same of a packet whose body is too long to be built: measured, its header computed, and the state moved on
+  heads : Writing → ℕ → List ℕ → Step
+  -- a reading call: its answer as refusal, present, taken, segments, SOP mark, EPH mark; reports; records
+  reads : Reading → List ℕ → List ℕ → List ℕ → Step
+
+-- a writer and a reader that are started alike, and steps on them
+pub record Row : Type 0 where
+  pub given : List Band
+  pub planes : List ℕ
+  pub style : ℕ
+  pub steps : List Step
+
+-- ---- what holds
+
+unfoldable pub same : List ℕ → List ℕ → Bool
+same [] [] = true
+same [] (y ∷ ys) = false
+same (x ∷ xs) [] = false
+same (x ∷ xs) (y ∷ ys) = eqb x y && same xs ys
+
+abbrev answerWords : ReadAnswer → List ℕ
+answerWords a = a .refusal ∷ a .present ∷ a .taken ∷ a .segments ∷ a .sop ∷ a .eph ∷ []
+
+-- the lent lists at entry
+abbrev scratchOf : ℕ → List ℕ
+scratchOf n = replicate n 3
+
+abbrev bodyOf : ℕ → List ℕ
+bodyOf n = replicate n 7
+
+abbrev outputOf : ℕ → List ℕ
+outputOf n = replicate n 9
+
+abbrev reportsOf : ℕ → List ℕ
+reportsOf n = replicate n 5
+
+abbrev recordsLent : ℕ → List ℕ
+recordsLent n = replicate n 6
+
+unfoldable pub startHolds : Starting → ℕ → Bool
+startHolds s why =
+    let lent = scratchOf (s .lent) in
+    let r = start (s .role) (s .count) (s .given) (s .style) (s .planes) lent in
+    eqb (r .answer) why && (eqb why 0 || same (r .state) lent)
+
+-- measuring: refused with `why`, or with the lengths of the packet and the state after it in scratch
+unfoldable pub measureHolds : Writing → MeasureResult → ℕ → List ℕ → List ℕ → Bool
+measureHolds c m why bytes after =
+    let done = eqb (m .answer .header) (length bytes) && eqb (m .answer .body) (sum (c .contribution .lengths)) && same (m .scratch) after in
+    let otherwise = eqb (m .answer .header) 0 && eqb (m .answer .body) 0 && same (m .scratch) (scratchOf (c .scratch)) in
+    eqb (m .answer .refusal) why && cond (eqb why 0) done otherwise
+
+unfoldable pub writeHolds : Writing → List ℕ → WriteResult → ℕ → List ℕ → Bool
+writeHolds c w o why bytes =
+    let out = outputOf (c .output) in
+    let scr = scratchOf (c .scratch) in
+    let done = same (o .output) (overwrite out (bytes ++ bodyOf (c .body))) && same (o .scratch) (o .state) && eqb (o .answer .bytes) (length bytes + c .body) in
+    let wipes = eqb why 11 in
+    let otherwise =
+    same (o .output) (cond wipes (wiped out) out) && same (o .scratch) (cond wipes (wiped scr) scr) && same (o .state) w && eqb (o .answer .bytes) 0 in
+    eqb (o .answer .refusal) why && cond (eqb why 0) done otherwise
+
+unfoldable pub readHolds : Reading → List ℕ → ReadResult → List ℕ → List ℕ → List ℕ → Bool
+readHolds c r o answer reports records =
+    let scr = scratchOf (c .scratch) in
+    let rep = reportsOf (c .reports) in
+    let rec = recordsLent (c .records) in
+    let why = o .answer .refusal in
+    let wipes = leb 9 why in
+    let done = same (o .reports) reports && same (o .records) (overwrite rec records) && same (o .scratch) (o .state) in
+    let otherwise =
+    same (o .reports) (cond wipes (wiped rep) rep) && same (o .records) (cond wipes (wiped rec) rec) && same (o .scratch) (cond wipes (wiped scr) scr) && same (o .state) r in
+    same (answerWords (o .answer)) answer && cond (eqb why 0) done otherwise
+
+-- the book's next entry, where the row wrote a packet for it
+unfoldable pub asOwed : List Entry → List ℕ → List ℕ → Bool
+asOwed [] reports records = true
+asOwed (e ∷ es) reports records = same (reportWords (e .reports)) reports && same (recordWords (e .records)) records
+
+-- the style; the book and the entries not yet read; the writer's words and the reader's
+unfoldable pub stepsHold : ℕ → List Step → List BlockEntry → List Entry → List ℕ → List ℕ → Bool
+stepsHold style [] book es w r = true
+stepsHold style (starts s why ∷ rest) book es w r = startHolds s why && stepsHold style rest book es w r
+stepsHold style (loads-writer ws ∷ rest) book es w r = stepsHold style rest book es ws r
+stepsHold style (loads-reader ws ∷ rest) book es w r = stepsHold style rest book es w ws
+stepsHold style (holds-writer ws ∷ rest) book es w r = same w ws && stepsHold style rest book es w r
+stepsHold style (holds-reader ws ∷ rest) book es w r = same r ws && stepsHold style rest book es w r
+stepsHold style (writes c why bytes ∷ rest) book es w r =
+    let p = c .contribution in
+    let m = measure w (scratchOf (c .scratch)) p (c .markers) in
+    let o = write w (scratchOf (c .scratch)) p (bodyOf (c .body)) (c .markers) (c .number) (outputOf (c .output)) in
+    let owes = stepsHold style rest (addCounts book (p .counts)) (es ++ entry style book (p .counts) (p .lengths) ∷ []) (o .state) r in
+    let otherwise = stepsHold style rest book es (o .state) r in
+    (leb 10 why || measureHolds c m why bytes (o .state)) && writeHolds c w o why bytes && cond (eqb why 0) owes otherwise
+stepsHold style (heads c why bytes ∷ rest) book es w r =
+    let p = c .contribution in
+    let m = measure w (scratchOf (c .scratch)) p (c .markers) in
+    let next = same (front w p (c .markers) (c .number)) bytes && stepsHold style rest book es (m .scratch) r in
+    let otherwise = stepsHold style rest book es w r in
+    measureHolds c m why bytes (m .scratch) && cond (eqb why 0) next otherwise
+stepsHold style (reads c answer reports records ∷ rest) book es w r =
+    let o = read r (scratchOf (c .scratch)) (c .markers) (c .input) (reportsOf (c .reports)) (recordsLent (c .records)) in
+    let next = asOwed es reports records && stepsHold style rest book (drop 1 es) w (o .state) in
+    let otherwise = stepsHold style rest book es w (o .state) in
+    readHolds c r o answer reports records && cond (eqb (o .answer .refusal) 0) next otherwise
+
+-- `unfolding rowHolds` computes a row: it opens every definition of the base
+unfoldable pub rowHolds : Row → Bool
+unfolding same startHolds measureHolds writeHolds readHolds asOwed stepsHold every any sum halvings floorLog2 overwrite bitsOf bitsAfter lastBytes packFrom pack byteIn heldBit getBit readBitsOnto readBits inFF endsInFF bytesTaken levelsFrom levels nodesIn nodes pathFrom pathToRoot setValue lowAfter nodeBits knownAfter codePath readNode readPath passBits readPasses termAll bypass firstLimit nextLimit isLimit segmentsFrom segmentsOf width bitLength increment commaBits lengthFields readOnes readComma writer reader blocksIn bandNodes bandLength blocksFrom blocksAt endOf blocks stateLength bandAt bands badShape badStyle bandTooDeep blockTooDeep nodeInRange blockInRange bandInRange bandsInRange unusedBandsZero validState freshNodes freshBlocks freshBands bandWords freshState setZeroPlanes startRefusal start reportWords recordWords isNew lengthBitsBefore setNewBlocks codeInclusion codeZeroPlanes codePasses codeBlock codeBlocks codeHeader segmentTooLong fieldTooWide opensSegment currentLimit currentPasses passesTaken readSegment readSegments readZeroPlanesFrom readZeroPlanes firstReport againReport readIncluded readNewBlock readOldBlock readBlock readBlocks readHeader sopBytes ephBytes withMarkers readMarker readSop readEph wrongLists measureRefusal front measure packet writeRefusal write readRefusal readAbsent readPresent read opensAt newEntries newBook reportOf recordsFrom recordsOf entryFrom entry addCounts
+rowHolds row =
+    let bs = row .given in
+    let lent = scratchOf (stateLength bs) in
+    let w = start writer (length bs) bs (row .style) (row .planes) lent in
+    let r = start reader (length bs) bs (row .style) [] lent in
+    eqb (w .answer) 0 && eqb (r .answer) 0 && stepsHold (row .style) (row .steps) (newBook bs (row .planes)) [] (w .state) (r .state)
+
+-- the numbers, from 0, of the rows that do not hold
+unfoldable pub failing : ℕ → List Row → List ℕ
+failing n [] = []
+failing n (row ∷ rows) = let later = failing (n + 1) rows in cond (rowHolds row) later (n ∷ later)

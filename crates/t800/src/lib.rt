@@ -1,0 +1,48 @@
+// The definitions of document 01's base stand in specs/; here are the plain structs that definitions and code both speak of.
+
+// Where the bits of a header stand: the next byte's place, the held word, and how many of its low bits are still to be read or free.
+pub struct Bio {
+    pub bp: usize,
+    pub buf: u32,
+    pub ct: u32,
+}
+
+// One level of a tag tree: nodes across and down.
+pub struct Level {
+    pub w: u32,
+    pub h: u32,
+}
+
+// One band of the precinct: code-blocks across and down, and bit-planes.
+pub struct Band {
+    pub across: u32,
+    pub down: u32,
+    pub planes: u32,
+}
+
+// Whether SOP and EPH are used.
+pub struct Markers {
+    pub sop: bool,
+    pub eph: bool,
+}
+
+// The answers. `refusal` is a number of document 01's table, or 0; all else is 0 where it isn't.
+pub struct MeasureAnswer {
+    pub refusal: u32,
+    pub header: u64,
+    pub body: u64,
+}
+
+pub struct WriteAnswer {
+    pub refusal: u32,
+    pub bytes: u64,
+}
+
+pub struct ReadAnswer {
+    pub refusal: u32,
+    pub present: u32,
+    pub taken: u64,
+    pub segments: u64,
+    pub sop: u32,
+    pub eph: u32,
+}
