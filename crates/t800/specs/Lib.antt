@@ -13,5 +13,3 @@ pub mod MarkerSegments
 pub mod Packet
 pub mod Book
 pub mod RoundTrip
-pub mod Table
-pub mod Packets

@@ -9,7 +9,7 @@ use Rattle.t800.specs.declared.Band.{Band}
 use Rattle.t800.specs.declared.Markers.{Markers}
 use Rattle.t800.specs.WriteHeader.{Contribution}
 use Rattle.t800.specs.Base.{sum}
-use Rattle.t800.specs.Table.{Starting, Writing, Reading, Step, starts, loads-writer, loads-reader, holds-writer, holds-reader, writes, heads, reads, Row, rowHolds, failing}
+use Rattle.t800.proofs.Table.{Starting, Writing, Reading, Step, starts, loads-writer, loads-reader, holds-writer, holds-reader, writes, heads, reads, Row, rowHolds, failing}
 
 -- ---- short forms
 
