@@ -1,1 +1,4 @@
+pub mod Computed
 pub mod Pack
+pub mod Levels
+pub mod PassCodes
