@@ -8,3 +8,5 @@ pub mod Layout
 pub mod FirstWords
 pub mod FreshState
 pub mod SetLeaf
+pub mod Accepted
+pub mod LeastZeroPlanes
