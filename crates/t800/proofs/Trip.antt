@@ -1,0 +1,9 @@
+pub mod Bits
+pub mod Codes
+pub mod Nodes
+pub mod NodeSync
+pub mod ZeroPlanes
+pub mod NodeWords
+pub mod Trees
+pub mod Limits
+pub mod Segments
