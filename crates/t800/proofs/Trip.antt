@@ -7,3 +7,9 @@ pub mod NodeWords
 pub mod Trees
 pub mod Limits
 pub mod Segments
+pub mod Changes
+pub mod SetLeaves
+pub mod WriterState
+pub mod InStep
+pub mod Booked
+pub mod Block

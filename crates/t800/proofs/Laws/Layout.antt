@@ -83,6 +83,13 @@ on-tree L inclusion zeroPlanes f g = g (λ a b n m. L .other-tree a b n m)
 on-tree L zeroPlanes inclusion f g = g (λ a b n m e. L .other-tree b a m n (sym e))
 on-tree L zeroPlanes zeroPlanes f g = f refl
 
+-- a node's second and third word are no node's first
+pub second-no-node : (L : Layout) (t u : Tree) (a b : ℕ) → L .Node t a → L .Node u b → a + 1 ≢ b
+second-no-node L t u a b n m e = let p = L .nodes-apart t u a b n m (omega arith) in omega arith
+
+pub third-no-node : (L : Layout) (t u : Tree) (a b : ℕ) → L .Node t a → L .Node u b → a + 2 ≢ b
+third-no-node L t u a b n m e = let p = L .nodes-apart t u a b n m (omega arith) in omega arith
+
 -- ---- a block's path
 
 abbrev pub leafToRoot : Tree → Block → List ℕ

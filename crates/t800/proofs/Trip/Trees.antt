@@ -111,7 +111,7 @@ from-path L t a ws rs (b ∷ xs) n h (cons y ys) f =
     (λ e. rw e y)
     (λ e. from-path L t a ws rs xs n (h .1) ys (λ o. f (L .nodes-apart t t a b n (h .0) e, o)))
 
-all-apart : (L : Layout) (t u : Tree) (a : ℕ) (xs : List ℕ) → L .Node t a → All (L .Node u) xs → ((a b : ℕ) → L .Node t a → L .Node u b → a ≢ b) → ApartFromAll a xs
+pub all-apart : (L : Layout) (t u : Tree) (a : ℕ) (xs : List ℕ) → L .Node t a → All (L .Node u) xs → ((a b : ℕ) → L .Node t a → L .Node u b → a ≢ b) → ApartFromAll a xs
 all-apart L t u a [] n h f = tt
 all-apart L t u a (b ∷ xs) n h f = (L .nodes-apart t u a b n (h .0) (f a b n (h .0)), all-apart L t u a xs n (h .1) f)
 
@@ -125,8 +125,8 @@ rejoin L u ws rs vs us xs ns ms h y p q z t a n =
     from-path L t a vs us xs n (subst (λ (w : Tree). All (L .Node w) xs) (sym e) h) on apart)
     (λ f. apart (all-apart L t u a xs n h f))
 
--- what reading a path does to the reader's words
-pub record PathRead′ (L : Layout) (rs us : List ℕ) : Type 0 where
+-- words in which nodes alone changed
+pub record NodesChanged (L : Layout) (rs us : List ℕ) : Type 0 where
   pub long : length us ≡ length rs
   pub off : NodesOnly L rs us
 
@@ -150,7 +150,7 @@ module _ (L : Layout) (u : Tree) (k : Block) (P : Placed L k) (ws rs : List ℕ)
   pub path-read : (s : List ℕ) (t : ℕ) (b e : Bio) → t ≤ notYet u → Reads s b (codePath (treeOf u k) t (reverse (k .path)) 0 ws .bits) e
       → (readPath s (treeOf u k) t (reverse (k .path)) 0 rs b .bio ≡ e)
       × SyncAll L (codePath (treeOf u k) t (reverse (k .path)) 0 ws .words) (readPath s (treeOf u k) t (reverse (k .path)) 0 rs b .words)
-      × PathRead′ L rs (readPath s (treeOf u k) t (reverse (k .path)) 0 rs b .words)
+      × NodesChanged L rs (readPath s (treeOf u k) t (reverse (k .path)) 0 rs b .words)
       × (ltb (value (readPath s (treeOf u k) t (reverse (k .path)) 0 rs b .words) (leafOf u k)) t ≡ ltb (value ws (leafOf u k)) t)
   path-read s t b e ht r =
       let c = path-coded L u k P t ws wl in
@@ -218,7 +218,7 @@ module _ (L : Layout) (k : Block) (P : Placed L k) (ws rs : List ℕ) (wl : leng
   pub planes-read : (s : List ℕ) (b e : Bio) → value ws (leafOf zeroPlanes k) < notYetPlanes → Reads s b (codePath (k .zeroTree) notYetPlanes (reverse (k .path)) 0 ws .bits) e
       → (readZeroPlanesFrom s k (notYetPlanes + 2) 0 rs b .bio ≡ e)
       × SyncAll L (codePath (k .zeroTree) notYetPlanes (reverse (k .path)) 0 ws .words) (readZeroPlanesFrom s k (notYetPlanes + 2) 0 rs b .words)
-      × PathRead′ L rs (readZeroPlanesFrom s k (notYetPlanes + 2) 0 rs b .words)
+      × NodesChanged L rs (readZeroPlanesFrom s k (notYetPlanes + 2) 0 rs b .words)
       × (value (readZeroPlanesFrom s k (notYetPlanes + 2) 0 rs b .words) (leafOf zeroPlanes k) ≡ value ws (leafOf zeroPlanes k))
   planes-read s b e small r =
       let xs : List ℕ = rootToLeaf zeroPlanes k in
@@ -227,8 +227,8 @@ module _ (L : Layout) (k : Block) (P : Placed L k) (ws rs : List ℕ) (wl : leng
       let c = path-coded L zeroPlanes k P notYetPlanes ws wl in
       let d = raised-as L k P s (notYetPlanes + 2) 0 rs b (from-root-apart L zeroPlanes k P) (path-in-reader L zeroPlanes k P ws rs wl rl y o) in
       let q = zero-planes-read s b e (increasing L zeroPlanes k P ws rs wl rl y o) (on-path L zeroPlanes k P ws rs wl rl y o) (rw (last ws) small) (rw (c .bits) at r) in (
-        d .bio ∙ q .bits,
+        d .bio ∙ q .ends,
         rejoin L zeroPlanes ws rs _ _ xs _ _ ns y (c .words) (d .words) (q .sync),
         record { long = d .words .long; off = λ i f. d .words .clear i (all-clear L zeroPlanes i xs f ns) },
-        sym (last (readZeroPlanesFrom s k (notYetPlanes + 2) 0 rs b .words)) ∙ ap (leafValue 0) (d .words .nodes) ∙ q .at ∙ last ws,
+        sym (last (readZeroPlanesFrom s k (notYetPlanes + 2) 0 rs b .words)) ∙ ap (leafValue 0) (d .words .nodes) ∙ q .leaf-is ∙ last ws,
       )

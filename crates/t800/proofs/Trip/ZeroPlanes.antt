@@ -258,16 +258,16 @@ same-side t l {ns = ns} {os = os} c y z =
 
 -- what raising gives: the leaf's value, where the bits end, and nodes in step
 pub record Raised (mark : ℕ) (r : NodesRead) (v : ℕ) (e : Bio) (ns : List Node) : Type 0 where
-  pub at : leafValue 0 (r .nodes) ≡ v
-  pub bits : r .bio ≡ e
+  pub leaf-is : leafValue 0 (r .nodes) ≡ v
+  pub ends : r .bio ≡ e
   pub sync : AllSync mark ns (r .nodes)
 
--- one addCounts that ends
+-- one turn that ends
 pub raise-stops : (s : List ℕ) (f i : ℕ) (b : Bio) (ms : List Node) → leafValue 0 (readAll s i 0 b ms .nodes) < i → raiseFrom s (suc f) i b ms ≡ readAll s i 0 b ms
 unfolding raiseFrom
 raise-stops s f i b ms h = if-lt (leafValue 0 (readAll s i 0 b ms .nodes)) i _ _ h
 
--- one addCounts that goes on
+-- one turn that goes on
 pub raise-goes-on : (s : List ℕ) (f i : ℕ) (b : Bio) (ms : List Node) → i ≤ leafValue 0 (readAll s i 0 b ms .nodes)
     → raiseFrom s (suc f) i b ms ≡ raiseFrom s f (i + 1) (readAll s i 0 b ms .bio) (readAll s i 0 b ms .nodes)
 unfolding raiseFrom
@@ -282,7 +282,7 @@ zero-planes-from s (suc f) i b e {mark = mark} {ns = ns} {ms = ms} c y small le 
     (λ h. let q = above-leaf i mark 0 (omega arith) c y h in
     let p = path-sync mark s i 0 b e (omega arith) c y (rw (← q .0) at r) in
     let t : leafValue 0 (readAll s i 0 b ms .nodes) ≡ v = leaf-known i 0 0 0 c y (p .1) h refl in
-    rw (raise-stops s f i b ms (omega arith)) (record { at = t; bits = p .0; sync = rw (← q .1) (p .1) }))
+    rw (raise-stops s f i b ms (omega arith)) (record { leaf-is = t; ends = p .0; sync = rw (← q .1) (p .1) }))
     (λ h. let q = lower-then-higher i mark 0 (omega arith) c y in
     let d = reads-split s b e (bitsOfPath i 0 ns) (bitsOfPath mark 0 (nodesAfter i 0 ns)) (rw (← q .0) at r) in
     let p = path-sync mark s i 0 b (d .0) (omega arith) c y (d .1) in
