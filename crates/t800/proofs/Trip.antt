@@ -13,3 +13,7 @@ pub mod WriterState
 pub mod InStep
 pub mod Booked
 pub mod Block
+pub mod Blocks
+pub mod HeaderBits
+pub mod ValidStates
+pub mod Header
