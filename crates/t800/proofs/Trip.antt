@@ -17,3 +17,8 @@ pub mod Blocks
 pub mod HeaderBits
 pub mod ValidStates
 pub mod Header
+pub mod Packet
+pub mod Calls
+pub mod Start
+pub mod Invariant
+pub mod RoundTrip

@@ -1,0 +1,136 @@
+-- A packet is read as it was written: markers, header, and where the body begins.
+use mathlib.Core.Path.{_≡_, refl, sym, ap, ap₂, _∙_}
+use mathlib.Core.Bool.{Bool, true, false, cond, _&&_}
+use mathlib.Core.List.{List, [], _∷_, _++_, append-assoc}
+use Prim.Native.Nat.{ℕ, suc, _+_, _-_, _*_, _/_, _%_, _≤_, _<_}
+use native.Mathlib.Numerals.{add-one}
+use native.Mathlib.Omega.{arith}
+use lib.ListN.{length, getD, set, take, drop, length-append, length-drop, take-append-drop}
+use lib.Seq.{drop-append-seam}
+use lib.Dec.{T, eqb}
+use borrow.Author.Tests.{eq-eqb}
+use Rattle.t800.specs.declared.Bio.{Bio}
+use Rattle.t800.specs.declared.Markers.{Markers}
+use Rattle.t800.specs.Base.{overwrite}
+use Rattle.t800.specs.Bits.{bioAt, pack, endsInFF, bytesTaken}
+use Rattle.t800.specs.Reports.{BlockReport, SegmentRecord, reportWords, recordWords}
+use Rattle.t800.specs.State.{Block, notYetIncluded, blocks, bands, layer}
+use Rattle.t800.specs.WriteHeader.{Contribution, codeHeader}
+use Rattle.t800.specs.ReadHeader.{HeaderRead, readBlocks, readHeader}
+use Rattle.t800.specs.MarkerSegments.{sopBytes, ephBytes, withMarkers, MarkerRead, readMarker, readSop, readEph}
+use Rattle.t800.specs.Packet.{ReadResult, readRefusal, readPresent, read}
+use Rattle.t800.specs.Book.{BlockEntry, Entry, entry, addCounts, terminatedAsStyle}
+use Rattle.t800.proofs.Laws.Tests.{if-true, if-ge, drop-head}
+use Rattle.t800.proofs.Laws.Layout.{Layout, AllPlaced}
+use Rattle.t800.proofs.Trip.Bits.{nextBit, bioAfter}
+use Rattle.t800.proofs.Trip.Segments.{readSoFar}
+use Rattle.t800.proofs.Trip.WriterState.{Acceptable, headerBlocks}
+use Rattle.t800.proofs.Trip.Header.{Between, HeaderReadBack, header-read}
+
+-- ---- markers
+
+abbrev found : ℕ → MarkerRead
+found n = record { skip = n; mark = 0 }
+
+both : {x y : Bool} → x ≡ true → y ≡ true → (x && y) ≡ true
+both p q = rw (p, q)
+
+-- a marker that stands there if it is used
+marker-read : (used : Bool) (n second : ℕ) (rest src : List ℕ) (p : ℕ) (t : List ℕ) → suc (suc (length rest)) ≡ n → drop p src ≡ cond used (255 ∷ second ∷ rest) [] ++ t
+    → readMarker used n second src p ≡ found (length (cond used (255 ∷ second ∷ rest) []))
+unfolding readMarker
+marker-read false n second rest src p t l e = refl
+marker-read true n second rest src p t l e =
+    let a = drop-head src p 255 (second ∷ rest ++ t) 0 e in
+    let b = drop-head src (suc p) second (rest ++ t) 0 (a .2) in
+    let len : length src - p ≡ suc (suc (length rest + length t)) = sym (length-drop p src) ∙ ap length e ∙ ap (λ (z : ℕ). suc (suc z)) (length-append rest t) in
+    let q : getD src (p + 1) 0 ≡ second = ap (λ (z : ℕ). getD src z 0) (add-one p) ∙ b .1 in
+    if-ge (length src - p) n _ _ (omega arith)
+    ∙ if-true (eqb (getD src p 0) 255 && eqb (getD src (p + 1) 0) second) _ _ (both (eq-eqb (getD src p 0) 255 (a .1)) (eq-eqb (getD src (p + 1) 0) second q))
+    ∙ ap found (sym l)
+
+sop-read : (m : Markers) (number : ℕ) (src t : List ℕ) → src ≡ cond (m .sop) (sopBytes number) [] ++ t → readSop m src ≡ found (length (cond (m .sop) (sopBytes number) []))
+unfolding readSop sopBytes
+sop-read m number src t e = marker-read (m .sop) 6 0x91 (0 ∷ 4 ∷ number / 256 % 256 ∷ number % 256 ∷ []) src 0 t refl e
+
+eph-read : (m : Markers) (src : List ℕ) (p : ℕ) (t : List ℕ) → drop p src ≡ cond (m .eph) ephBytes [] ++ t → readEph m src p ≡ found (length (cond (m .eph) ephBytes []))
+unfolding readEph ephBytes
+eph-read m src p t e = marker-read (m .eph) 2 0x92 [] src p t refl e
+
+-- ---- the call
+
+pub header-coded : (c : Contribution) (ws : List ℕ) (t : ℕ) (ks : List Block) → layer ws ≡ t → blocks (bands ws) ≡ ks
+    → codeHeader c ws ≡ record { bits = 1 ∷ headerBlocks t ks c ws .bits; words = set (headerBlocks t ks c ws .words) 3 (t + 1) }
+unfolding codeHeader
+header-coded c ws t ks l k = rw (l, k)
+
+header-is : (src : List ℕ) (room : ℕ) (rs : List ℕ) (h : Bio) (t : ℕ) (ks : List Block) (us : List ℕ) (end : Bio) (reps : List BlockReport) (recs : List SegmentRecord) → layer rs ≡ t → blocks (bands rs) ≡ ks
+    → readBlocks src room t 0 ks (readSoFar rs h [] []) ≡ readSoFar us end reps recs → endsInFF src end ≡ false → readHeader src room rs h ≡ readSoFar us end reps recs
+unfolding readHeader
+header-is src room rs h t ks us end reps recs l k e w = rw (l, k, e, w)
+
+read-is : (rs scratch : List ℕ) (m : Markers) (src reports records : List ℕ) (n : ℕ) (us : List ℕ) (end : Bio) (reps : List BlockReport) (recs : List SegmentRecord) → readRefusal rs scratch reports ≡ 0
+    → readSop m src ≡ found n → nextBit src (bioAt n) ≡ 1 → readHeader src (length records / 4) rs (bioAfter src (bioAt n)) ≡ readSoFar us end reps recs
+    → read rs scratch m src reports records ≡ readPresent rs m src records (found n) (readSoFar us end reps recs)
+unfolding read
+read-is rs scratch m src reports records n us end reps recs e₁ e₂ e₃ e₄ = rw (e₁, e₂, e₃, e₄)
+
+present-is : (rs : List ℕ) (t : ℕ) (m : Markers) (src records : List ℕ) (n : ℕ) (us : List ℕ) (end : Bio) (reps : List BlockReport) (recs : List SegmentRecord) (at skip : ℕ) → layer rs ≡ t → bytesTaken src end ≡ at
+    → readEph m src at ≡ found skip
+    → readPresent rs m src records (found n) (readSoFar us end reps recs)
+    ≡ record {
+      answer = record { refusal = 0; present = 1; taken = at + skip; segments = length recs; sop = 0; eph = 0 };
+      state = set us 3 (t + 1);
+      scratch = set us 3 (t + 1);
+      reports = reportWords reps;
+      records = overwrite records (recordWords recs);
+    }
+unfolding readPresent
+present-is rs t m src records n us end reps recs at skip l a e = rw (a, e, l)
+
+-- ---- the packet
+
+pub record PacketRead (L : Layout) (s t : ℕ) (ws rs vs : List ℕ) (ks : List Block) (es : List BlockEntry) (c : Contribution) (fr records : List ℕ) (r : ReadResult) : Type 0 where
+  pub words : List ℕ
+  pub answer : r .answer ≡ record { refusal = 0; present = 1; taken = length fr; segments = length (entry s es (c .counts) (c .lengths) .records); sop = 0; eph = 0 }
+  pub reports : r .reports ≡ reportWords (entry s es (c .counts) (c .lengths) .reports)
+  pub records-are : r .records ≡ overwrite records (recordWords (entry s es (c .counts) (c .lengths) .records))
+  pub state : r .state ≡ set words 3 (t + 1)
+  pub between : Between L s (t + 1) ks vs words (addCounts es (c .counts))
+  pub writer-first : (j : ℕ) → j < 13 → getD vs j 0 ≡ getD ws j 0
+  pub reader-first : (j : ℕ) → j < 13 → getD words j 0 ≡ getD rs j 0
+
+pub packet-read : (L : Layout) (s t : ℕ) (ks : List Block) → AllPlaced L ks → t < notYetIncluded → (src scratch : List ℕ) (m : Markers) (number : ℕ) (reports records : List ℕ) (ws rs : List ℕ) (es : List BlockEntry) (c : Contribution)
+    → Between L s t ks ws rs es → Acceptable ws ks c → T (terminatedAsStyle s es (c .counts) (c .marks)) → layer rs ≡ t → blocks (bands rs) ≡ ks → readRefusal rs scratch reports ≡ 0
+    → 4 * length (entry s es (c .counts) (c .lengths) .records) ≤ length records
+    → take (length (withMarkers m number (pack (1 ∷ headerBlocks t ks c ws .bits)))) src ≡ withMarkers m number (pack (1 ∷ headerBlocks t ks c ws .bits))
+    → PacketRead L s t ws rs (headerBlocks t ks c ws .words) ks es c (withMarkers m number (pack (1 ∷ headerBlocks t ks c ws .bits))) records (read rs scratch m src reports records)
+unfolding withMarkers
+packet-read L s t ks f ht src scratch m number reports records ws rs es c y q term l kb why enough e =
+    let A : List ℕ = cond (m .sop) (sopBytes number) [] in
+    let B : List ℕ = pack (1 ∷ headerBlocks t ks c ws .bits) in
+    let C : List ℕ = cond (m .eph) ephBytes [] in
+    let fr : List ℕ = A ++ B ++ C in
+    let tail : List ℕ = drop (length fr) src in
+    let whole : src ≡ A ++ B ++ C ++ tail = sym (take-append-drop (length fr) src) ∙ ap (λ (z : List ℕ). z ++ tail) e in
+    let from-b : src ≡ A ++ (B ++ (C ++ tail)) = whole ∙ append-assoc (A ++ B) C tail ∙ append-assoc A B (C ++ tail) in
+    let from-c : src ≡ A ++ B ++ (C ++ tail) = whole ∙ append-assoc (A ++ B) C tail in
+    let at-b : drop (length A) src ≡ B ++ (C ++ tail) = ap (drop (length A)) from-b ∙ drop-append-seam A (B ++ (C ++ tail)) in
+    let at-c : drop (length A + length B) src ≡ C ++ tail = ap₂ (λ (n : ℕ) (z : List ℕ). drop n z) (sym (length-append A B)) from-c ∙ drop-append-seam (A ++ B) (C ++ tail) in
+    let E : Entry = entry s es (c .counts) (c .lengths) in
+    let room : ℕ = length records / 4 in
+    let h = header-read L s t ks f ht src (C ++ tail) room (length A) ws rs es c y q term (omega arith) at-b in
+    let hd = header-is src room rs (bioAfter src (bioAt (length A))) t ks (h .words) (h .end) (E .reports) (E .records) l kb (h .is) (h .whole) in
+    let is = read-is rs scratch m src reports records (length A) (h .words) (h .end) (E .reports) (E .records) why (sop-read m number src (B ++ (C ++ tail)) from-b) (h .first-bit) hd
+    ∙ present-is rs t m src records (length A) (h .words) (h .end) (E .reports) (E .records) (length A + length B) (length C) l (h .taken) (eph-read m src (length A + length B) tail at-c) in
+    let len : length A + length B + length C ≡ length fr = sym (length-append (A ++ B) C ∙ ap (λ (z : ℕ). z + length C) (length-append A B)) in
+    record {
+      words = h .words;
+      answer = ap (λ (r : ReadResult). r .answer) is ∙ ap (λ (z : ℕ). record { refusal = 0; present = 1; taken = z; segments = length (E .records); sop = 0; eph = 0 }) len;
+      reports = ap (λ (r : ReadResult). r .reports) is;
+      records-are = ap (λ (r : ReadResult). r .records) is;
+      state = ap (λ (r : ReadResult). r .state) is;
+      between = h .between;
+      writer-first = h .writer-first;
+      reader-first = h .reader-first;
+    }
