@@ -20,5 +20,6 @@ pub mod Header
 pub mod Packet
 pub mod Calls
 pub mod Start
+pub mod WriterInRange
 pub mod Invariant
 pub mod RoundTrip

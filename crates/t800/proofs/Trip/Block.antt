@@ -3,31 +3,31 @@ use mathlib.Core.Path.{_≡_, refl, sym, ap, ap₂, _∙_, subst}
 use mathlib.Core.Logic.{_≢_}
 use mathlib.Core.Bool.{Bool, true, false, cond}
 use mathlib.Core.List.{List, [], _∷_, _++_, append-nil, reverse}
-use Prim.Native.Nat.{ℕ, suc, _+_, _-_, _*_, _%_, _≤_, _<_}
-use native.Mathlib.Nat.{le-trans, le-of-eq}
+use Prim.Native.Nat.{ℕ, _+_, _-_, _%_, _≤_, _<_}
+use native.Mathlib.Nat.{le-of-eq}
 use native.Mathlib.Omega.{arith}
 use lib.ListN.{length, getD, set}
-use lib.Dec.{T, ltb, eqb}
+use lib.Dec.{T, ltb}
 use borrow.Author.Tests.{eq-eqb, ne-eqb, lt-ltb, le-ltb}
 use Rattle.t800.specs.declared.Bio.{Bio}
-use Rattle.t800.specs.TagTree.{Coded, PathRead, value, codePath, readPath}
+use Rattle.t800.specs.TagTree.{Coded, value, codePath, readPath}
 use Rattle.t800.specs.PassCount.{passBits, readPasses}
-use Rattle.t800.specs.Segments.{Segment, segmentsOf, width, increment, commaBits, lengthFields, readComma}
+use Rattle.t800.specs.Segments.{Segment, segmentsOf, increment, commaBits, lengthFields, readComma}
 use Rattle.t800.specs.Reports.{BlockReport, SegmentRecord, absent}
-use Rattle.t800.specs.State.{Block, notYetIncluded, notYetPlanes, style, passesSoFar}
+use Rattle.t800.specs.State.{Block, notYetIncluded, notYetPlanes, passesSoFar}
 use Rattle.t800.specs.WriteHeader.{isNew, lengthBitsBefore, codeInclusion, codeZeroPlanes, codePasses, codeBlock}
 use Rattle.t800.specs.ReadHeader.{HeaderRead, readSegments, readZeroPlanesFrom, readZeroPlanes, firstReport, againReport, readIncluded, readNewBlock, readOldBlock, readBlock}
 use Rattle.t800.specs.Book.{BlockEntry, reportOf, recordsOf, terminatedAt}
 use Rattle.t800.proofs.Laws.Tests.{on-eq, on-lt, if-lt, if-ge, if-true, if-false, if-eq, if-ne}
-use Rattle.t800.proofs.Laws.Layout.{Tree, inclusion, zeroPlanes, treeOf, leafOf, Layout, Placed, leaf-node}
+use Rattle.t800.proofs.Laws.Layout.{inclusion, zeroPlanes, leafOf, Layout, Placed, leaf-node}
 use Rattle.t800.proofs.Trip.Bits.{nextBit, Reads, reads-split}
 use Rattle.t800.proofs.Trip.Codes.{decoded, passes-read, comma-read, LengthsFit, lengths-fit}
-use Rattle.t800.proofs.Trip.Trees.{LowsOnly, NodesChanged, coding-keeps, path-read, planes-read}
+use Rattle.t800.proofs.Trip.Trees.{NodesChanged, coding-keeps, path-read, planes-read}
 use Rattle.t800.proofs.Trip.Limits.{limitAfter, passesAfter}
 use Rattle.t800.proofs.Trip.Segments.{readSoFar, segmentsIn, tooWide, SegmentNow, segments-are-records, no-records, segments-read}
-use Rattle.t800.proofs.Trip.Changes.{SameBlock, same-then, block-stays, first-stays, lows-same, inclusion-keeps, planes-keep, stored-passes, stored-bits, stored-others, stored-length}
+use Rattle.t800.proofs.Trip.Changes.{SameBlock, block-stays, first-stays, inclusion-keeps, planes-keep, stored-passes, stored-bits, stored-others, stored-length}
 use Rattle.t800.proofs.Trip.WriterState.{Codable, same-codable, same-bits-before}
-use Rattle.t800.proofs.Trip.InStep.{BlockInStep, InStep, path-in-step, block-in-step}
+use Rattle.t800.proofs.Trip.InStep.{InStep, path-in-step, block-in-step}
 use Rattle.t800.proofs.Trip.Booked.{PlanesBooked, same-planes}
 
 -- what a block must meet before it is coded in layer t with c passes, of these lengths and marks

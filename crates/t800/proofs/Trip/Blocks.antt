@@ -1,16 +1,15 @@
 -- All blocks of a packet header are read as they were written.
-use mathlib.Core.Path.{_≡_, refl, sym, ap, ap₂, _∙_}
+use mathlib.Core.Path.{_≡_, refl, sym, ap₂, _∙_}
 use mathlib.Core.Bool.{Bool, false}
 use mathlib.Core.List.{List, [], _∷_, _++_, append-nil, append-assoc}
 use Prim.Native.Nat.{ℕ, _+_, _*_, _≤_, _<_}
-use native.Mathlib.Nat.{le-trans, le-of-eq}
 use native.Mathlib.Omega.{arith}
 use lib.ListN.{length, getD, take, drop, length-append}
 use lib.Dec.{T, ltb}
 use lib.Ieee.Fits.{and-l, and-r}
 use Rattle.t800.specs.declared.Bio.{Bio}
 use Rattle.t800.specs.Base.{any, sum}
-use Rattle.t800.specs.TagTree.{Coded, value}
+use Rattle.t800.specs.TagTree.{Coded}
 use Rattle.t800.specs.Segments.{segmentsOf}
 use Rattle.t800.specs.Reports.{BlockReport, SegmentRecord}
 use Rattle.t800.specs.State.{Block, notYetIncluded, passesSoFar}
@@ -18,14 +17,14 @@ use Rattle.t800.specs.WriteHeader.{codeBlock, codeBlocks, fieldTooWide}
 use Rattle.t800.specs.ReadHeader.{HeaderRead, readBlock, readBlocks}
 use Rattle.t800.specs.Book.{BlockEntry, Entry, reportOf, recordsOf, entryFrom, terminatedAt, terminatedAsStyle}
 use Rattle.t800.proofs.Laws.Tests.{or-left, or-right}
-use Rattle.t800.proofs.Laws.Layout.{Tree, inclusion, zeroPlanes, leafOf, Layout, SeparateFromAll, AllPlaced, leaf-node}
+use Rattle.t800.proofs.Laws.Layout.{inclusion, zeroPlanes, leafOf, Layout, SeparateFromAll, AllPlaced, leaf-node}
 use Rattle.t800.proofs.Trip.Bits.{Reads, reads-split}
 use Rattle.t800.proofs.Trip.Segments.{readSoFar}
 use Rattle.t800.proofs.Trip.Changes.{ValuesOnly, nodes-only, block-stays, BlockCoded, block-coded}
 use Rattle.t800.proofs.Trip.SetLeaves.{Leaves, LayerSet}
 use Rattle.t800.proofs.Trip.WriterState.{codable-part, later-fits}
 use Rattle.t800.proofs.Trip.InStep.{InStep}
-use Rattle.t800.proofs.Trip.Booked.{Booked, AllBooked, same-planes}
+use Rattle.t800.proofs.Trip.Booked.{AllBooked, same-planes}
 use Rattle.t800.proofs.Trip.Block.{Ready, same-ready, block-read}
 
 abbrev pub AllReady : ℕ → ℕ → List ℕ → List Block → List BlockEntry → List ℕ → List ℕ → List ℕ → Type 0

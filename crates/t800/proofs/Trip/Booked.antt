@@ -2,14 +2,14 @@
 -- passes.
 use mathlib.Core.Path.{_≡_, refl, sym, ap, _∙_}
 use mathlib.Core.List.{List, [], _∷_}
-use Prim.Native.Nat.{ℕ, suc, _+_, _-_, _*_, _≤_, _<_}
+use Prim.Native.Nat.{ℕ, suc, _+_, _-_, _≤_, _<_}
 use native.Mathlib.Omega.{arith}
 use lib.ListN.{length, set}
 use lib.Seq.{getD-set-other}
 use Rattle.t800.specs.TagTree.{value}
 use Rattle.t800.specs.State.{Block, notYetIncluded, notYetPlanes, passesSoFar}
 use Rattle.t800.specs.Book.{BlockEntry, addCounts}
-use Rattle.t800.proofs.Laws.Layout.{Tree, inclusion, zeroPlanes, leafOf, Layout, Placed, AllPlaced, leaf-node}
+use Rattle.t800.proofs.Laws.Layout.{Tree, inclusion, zeroPlanes, leafOf, Layout, AllPlaced, leaf-node}
 use Rattle.t800.proofs.Trip.Changes.{ValuesOnly, nodes-only, block-stays, PassesAdded}
 use Rattle.t800.proofs.Trip.SetLeaves.{Leaves, LayerSet}
 

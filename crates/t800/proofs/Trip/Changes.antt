@@ -1,26 +1,24 @@
 -- Which words each step of writing changes: setting leaves changes values, coding a path lows and knowns, and coding a block besides two of
 -- its own words.
-use mathlib.Core.Path.{_≡_, refl, sym, ap, _∙_}
+use mathlib.Core.Path.{_≡_, refl, ap, _∙_}
 use mathlib.Core.Logic.{_≢_}
-use mathlib.Core.Bool.{cond}
-use mathlib.Core.List.{List, [], _∷_, reverse}
-use Prim.Native.Nat.{ℕ, _+_, _*_, _≤_, _<_}
-use native.Mathlib.Nat.{le-trans, le-of-eq, le-refl}
+use mathlib.Core.List.{List, [], _∷_}
+use Prim.Native.Nat.{ℕ, _+_, _≤_, _<_}
+use native.Mathlib.Nat.{le-trans, le-refl}
 use native.Mathlib.Omega.{arith}
 use lib.ListN.{length, getD, set, take, drop, length-set}
 use lib.Seq.{getD-set-same, getD-set-other}
-use lib.Dec.{eqb}
-use Rattle.t800.specs.TagTree.{Coded, value, low, known, setValue, codePath}
+use Rattle.t800.specs.TagTree.{Coded, value, low, known, setValue}
 use Rattle.t800.specs.Segments.{Segment, segmentsOf, increment}
 use Rattle.t800.specs.State.{Block, notYetPlanes, passesSoFar}
 use Rattle.t800.specs.WriteHeader.{isNew, lengthBitsBefore, codeInclusion, codeZeroPlanes, codePasses, codeBlock, codeBlocks}
 use Rattle.t800.proofs.Laws.Tests.{either, on-eq, if-eq, if-ne}
-use Rattle.t800.proofs.Laws.Paths.{All, NotIn, addresses, Clear}
-use Rattle.t800.proofs.Laws.Layout.{Tree, inclusion, zeroPlanes, treeOf, leafOf, Layout, Placed, SeparateFromAll, AllPlaced, leafToRoot, path-nodes, second-no-node, third-no-node}
+use Rattle.t800.proofs.Laws.Paths.{All, NotIn}
+use Rattle.t800.proofs.Laws.Layout.{Tree, inclusion, zeroPlanes, treeOf, Layout, Placed, SeparateFromAll, AllPlaced, leafToRoot, path-nodes, second-no-node, third-no-node}
 use Rattle.t800.proofs.Laws.SetLeaf.{length-setValue, off-path-stays, every-word}
-use Rattle.t800.proofs.Trip.Nodes.{Node, node}
+use Rattle.t800.proofs.Trip.Nodes.{Node}
 use Rattle.t800.proofs.Trip.NodeWords.{nodeAt}
-use Rattle.t800.proofs.Trip.Trees.{OffNodes, NodesOnly, LowsOnly, coding-keeps}
+use Rattle.t800.proofs.Trip.Trees.{NodesOnly, LowsOnly, coding-keeps}
 
 -- ---- a block's four words
 

@@ -1,9 +1,9 @@
--- All that a header is coded as are bits, 0 or 1.
-use mathlib.Core.Bool.{Bool, true, false, cond, _&&_}
+-- All that a header is coded as is bits, 0 or 1.
+use mathlib.Core.Bool.{cond, _&&_}
 use mathlib.Core.List.{List, [], _∷_, _++_, reverse}
-use Prim.Native.Nat.{ℕ, zero, suc, _+_, _-_, _*_, _≤_, _<_, max}
+use Prim.Native.Nat.{ℕ, zero, suc, _+_, _-_, _<_}
 use native.Mathlib.Omega.{arith}
-use lib.ListN.{length, getD, take, drop, replicate}
+use lib.ListN.{take, drop, replicate}
 use lib.Dec.{ltb, leb, eqb}
 use Rattle.t800.specs.Bits.{bitsOf}
 use Rattle.t800.specs.TagTree.{Coded, lowAfter, nodeBits, codePath}

@@ -1,9 +1,8 @@
 -- Writer's and reader's words in step: the trees in sync, the values in order, and each block with the same passes and length bits, while the
 -- reader's current segment follows from the passes. What a change of some words leaves of that.
-use mathlib.Core.Path.{_≡_, refl, sym, ap, _∙_, subst₂}
-use mathlib.Core.Logic.{_≢_}
-use mathlib.Core.List.{List, [], _∷_}
-use Prim.Native.Nat.{ℕ, _+_, _≤_, _<_}
+use mathlib.Core.Path.{_≡_, sym, ap, _∙_, subst₂}
+use mathlib.Core.List.{List}
+use Prim.Native.Nat.{ℕ, _+_, _≤_}
 use native.Mathlib.Nat.{le-trans, le-of-eq}
 use native.Mathlib.Omega.{arith}
 use lib.ListN.{length, getD, set, length-set}
@@ -15,7 +14,7 @@ use Rattle.t800.proofs.Laws.Layout.{Tree, notYet, Layout}
 use Rattle.t800.proofs.Laws.SetLeaf.{Ordered}
 use Rattle.t800.proofs.Trip.Nodes.{Node, Sync}
 use Rattle.t800.proofs.Trip.NodeWords.{nodeAt}
-use Rattle.t800.proofs.Trip.Trees.{SyncAll, NodesOnly, LowsOnly, NodesChanged}
+use Rattle.t800.proofs.Trip.Trees.{SyncAll, LowsOnly, NodesChanged}
 use Rattle.t800.proofs.Trip.Limits.{limitAfter, passesAfter}
 use Rattle.t800.proofs.Trip.Changes.{SameBlock, block-stays, first-stays, BlockOnly, node-stays, value-stays, other-block-stays, first-words-stay}
 

@@ -1,19 +1,18 @@
 -- The invariant between packets, for whole states: it holds after a start, and each accepted packet and the read of it keep it.
 use mathlib.Core.Path.{_≡_, refl, sym, ap, _∙_, subst}
 use mathlib.Core.Logic.{_≢_}
-use mathlib.Core.Bool.{Bool, true, false, not}
-use mathlib.Core.List.{List, [], _∷_, _++_}
-use Prim.Native.Nat.{ℕ, suc, _+_, _-_, _*_, _≤_, _<_}
-use native.Mathlib.Nat.{le-trans, le-of-eq, le-refl}
+use mathlib.Core.Bool.{true}
+use mathlib.Core.List.{List, [], _∷_}
+use Prim.Native.Nat.{ℕ, suc, _+_, _-_, _*_, _≤_}
+use native.Mathlib.Nat.{le-trans, le-of-eq}
 use native.Mathlib.Omega.{arith}
-use lib.ListN.{length, getD, set, take, drop, length-take}
+use lib.ListN.{length, set, take, drop, length-take}
 use lib.Seq.{take-append-le}
-use lib.Dec.{T, eqb}
+use lib.Dec.{T}
 use borrow.Author.Tests.{eq-eqb, ne-eqb}
 use Rattle.t800.specs.declared.Band.{Band}
 use Rattle.t800.specs.declared.Markers.{Markers}
 use Rattle.t800.specs.declared.ReadAnswer.{ReadAnswer}
-use Rattle.t800.specs.Base.{sum}
 use Rattle.t800.specs.Bits.{pack}
 use Rattle.t800.specs.TagTree.{Coded}
 use Rattle.t800.specs.State.{Block, notYetIncluded, blocks, bands, layer, writer, reader}
@@ -22,31 +21,30 @@ use Rattle.t800.specs.Start.{freshState, setZeroPlanes, start}
 use Rattle.t800.specs.WriteHeader.{Contribution}
 use Rattle.t800.specs.MarkerSegments.{withMarkers}
 use Rattle.t800.specs.Packet.{front, readRefusal, read}
-use Rattle.t800.specs.Book.{BlockEntry, Entry, entryFrom, entry, newBook, addCounts, terminatedAsStyle}
+use Rattle.t800.specs.Book.{BlockEntry, entryFrom, entry, newBook, addCounts, terminatedAsStyle}
 use Rattle.t800.specs.RoundTrip.{WriteCall, writeOf, accepted, Owed, owedFor, ReadCall, readOf, ReadsPacket, GivesEntry, withMore}
 use Rattle.t800.proofs.Laws.Layout.{Layout, layoutOf, blocks-placed, end-after}
 use Rattle.t800.proofs.Laws.FirstWords.{FirstWords, next-layer}
 use Rattle.t800.proofs.Laws.FreshState.{fresh-first-words}
-use Rattle.t800.proofs.Trip.WriterState.{WriterState, Acceptable, headerBlocks, layer-in-range, layer-word}
+use Rattle.t800.proofs.Trip.WriterState.{headerBlocks}
 use Rattle.t800.proofs.Trip.InStep.{InStep, layer-in-step}
 use Rattle.t800.proofs.Trip.Booked.{AllBooked, entries-length, layer-booked}
-use Rattle.t800.proofs.Trip.ValidStates.{Startable, writer-valid, reader-valid}
-use Rattle.t800.proofs.Trip.Header.{Between}
-use Rattle.t800.proofs.Trip.Packet.{header-coded, PacketRead, packet-read}
-use Rattle.t800.proofs.Trip.Calls.{Accepted, is-accepted}
-use Rattle.t800.proofs.Trip.Start.{started-between, started-first-words, StartAccepted, start-accepted, few-bands, startable}
+use Rattle.t800.proofs.Trip.ValidStates.{reader-valid}
+use Rattle.t800.proofs.Trip.Packet.{PacketRead, packet-read}
+use Rattle.t800.proofs.Trip.Calls.{is-accepted}
+use Rattle.t800.proofs.Trip.Start.{started-in-step, started-booked, start-accepted, few-bands}
+use Rattle.t800.proofs.Trip.WriterInRange.{WriterInvariant, writer-after-start, header-coded, blocks-are, layer-left, acceptable, state-is, writer-after}
 
 -- with bands bs, style s and next layer t: writer's words, reader's words, and the book
 pub record Invariant (bs : List Band) (s t : ℕ) (ws rs : List ℕ) (es : List BlockEntry) : Type 0 where
-  pub startable : Startable bs s
-  pub between : Between (layoutOf bs) s t (blocks bs) ws rs es
-  pub writer-first : FirstWords 1 bs s t ws
+  pub writer-side : WriterInvariant bs s t ws
+  pub in-step : InStep (layoutOf bs) s ws rs
+  pub booked : AllBooked ws (blocks bs) es
   pub reader-first : FirstWords 2 bs s t rs
-  pub layers : t ≤ notYetIncluded
 
 -- the reader isn't refused with 5
 pub reader-in-range : (bs : List Band) (s t : ℕ) (ws rs : List ℕ) (es : List BlockEntry) (n : ℕ) → Invariant bs s t ws rs es → n ≡ length rs → validState reader rs n ≡ true
-reader-in-range bs s t ws rs es n y e = reader-valid bs s t ws rs n (y .reader-first) (y .startable) (y .layers) (y .between .writer-state) (y .between .in-step) e
+reader-in-range bs s t ws rs es n y e = let w = y .writer-side in reader-valid bs s t ws rs n (y .reader-first) (w .startable) (w .layers) (w .state) (y .in-step) e
 
 -- ---- after a start
 
@@ -63,17 +61,14 @@ after-start n given s planes lent lent′ enough ew er =
     let ks : List Block = blocks bs in
     let w = start-accepted writer n given s planes lent ew in
     let r = start-accepted reader n given s [] lent′ er in
-    let few = few-bands n given (w .shape) in
-    let vs : List ℕ = setZeroPlanes ks planes (freshState 1 s bs) in
-    subst (λ (v : List ℕ). Invariant bs s 0 v (start reader n given s [] lent′ .state) (newBook bs planes)) (sym (w .state))
-    (subst (λ (v : List ℕ). Invariant bs s 0 vs v (newBook bs planes)) (sym (r .state ∙ no-planes ks (freshState 2 s bs)))
+    let vs : List ℕ = start writer n given s planes lent .state in
+    subst (λ (v : List ℕ). Invariant bs s 0 vs v (newBook bs planes)) (sym (r .state ∙ no-planes ks (freshState 2 s bs)))
     (record {
-      startable = startable writer n given s planes lent enough w;
-      between = started-between bs s planes (w .planes-length) (w .bands-in) (w .blocks-in);
-      writer-first = started-first-words bs s planes few;
-      reader-first = fresh-first-words 2 s bs few;
-      layers = omega arith;
-    }))
+      writer-side = writer-after-start n given s planes lent enough ew;
+      in-step = subst (λ (v : List ℕ). InStep (layoutOf bs) s v (freshState 2 s bs)) (sym (w .state)) (started-in-step bs s planes);
+      booked = subst (λ (v : List ℕ). AllBooked v ks (newBook bs planes)) (sym (w .state)) (started-booked bs s planes (w .planes-length) (w .bands-in) (w .blocks-in));
+      reader-first = fresh-first-words 2 s bs (few-bands n given (w .shape));
+    })
 
 -- ---- a packet
 
@@ -94,9 +89,6 @@ read-not-refused rs scratch reports v l r = rw (v, ne-eqb (layer rs) notYetInclu
 front-coded : (ws : List ℕ) (c : Contribution) (m : Markers) (number t : ℕ) (ks : List Block) → layer ws ≡ t → blocks (bands ws) ≡ ks → front ws c m number ≡ withMarkers m number (pack (1 ∷ headerBlocks t ks c ws .bits))
 unfolding front
 front-coded ws c m number t ks l k = ap (λ (x : Coded). withMarkers m number (pack (x .bits))) (header-coded c ws t ks l k)
-
-below : (t : ℕ) → t ≤ notYetIncluded → t ≢ notYetIncluded → t < notYetIncluded
-below t h e = omega arith
 
 -- the same call with more input reads the packet too
 reads-with-more : (rs : List ℕ) (o : Owed) (r : ReadCall) (more : List ℕ) → ReadsPacket rs o r → ReadsPacket rs o (withMore r more)
@@ -121,42 +113,33 @@ module _ (bs : List Band) (s t : ℕ) (ws rs : List ℕ) (es : List BlockEntry) 
   abbrev ks : List Block
   ks = blocks bs
 
-  A : Accepted ws w
-  A = is-accepted ws w a
-
-  blocks-are : blocks (bands ws) ≡ ks
-  blocks-are = ap blocks (y .writer-first .bands-are)
-
-  layer-left : t < notYetIncluded
-  layer-left = below t (y .layers) (λ e. A .layer-left (y .writer-first .layer-is ∙ e))
-
-  acceptable : Acceptable ws ks c
-  acceptable = subst (λ (z : List Block). Acceptable ws z c) blocks-are (A .acceptable)
+  W : WriterInvariant bs s t ws
+  W = y .writer-side
 
   abbrev fr : List ℕ
   fr = withMarkers (w .markers) (w .number) (pack (1 ∷ headerBlocks t ks c ws .bits))
 
   pub front-is : owedFor s ws es w .front ≡ fr
   unfolding owedFor
-  front-is = A .front-is ∙ front-coded ws c (w .markers) (w .number) t ks (y .writer-first .layer-is) blocks-are
+  front-is = is-accepted ws w a .front-is ∙ front-coded ws c (w .markers) (w .number) t ks (W .first-words .layer-is) (blocks-are bs s t ws w W a)
 
   reports-are : length (owedFor s ws es w .entry .reports) ≡ length ks
   unfolding owedFor
-  reports-are = let l = entries-length ws ks es (y .between .booked) in entry-reports s es (c .counts) (c .lengths) (acceptable .counts ∙ sym l) ∙ l
+  reports-are = let l = entries-length ws ks es (y .booked) in entry-reports s es (c .counts) (c .lengths) (acceptable bs s t ws w W a .counts ∙ sym l) ∙ l
 
   -- the call r reads the packet
   module _ (r : ReadCall) (ask : ReadsPacket rs (owedFor s ws es w) r) where
     not-refused-yet : readRefusal rs (r .scratch) (r .reports) ≡ 0
     not-refused-yet = read-not-refused rs (r .scratch) (r .reports)
         (reader-in-range bs s t ws rs es (length (r .scratch)) y (ask .scratch-length))
-        (λ e. omega (arith, sym (y .reader-first .layer-is) ∙ e, layer-left))
+        (λ e. omega (arith, sym (y .reader-first .layer-is) ∙ e, layer-left bs s t ws w W a))
         (ask .reports-length ∙ ap (λ (n : ℕ). 4 * n) (reports-are ∙ ap length (sym (ap blocks (y .reader-first .bands-are)))))
 
     reads : PacketRead (layoutOf bs) s t ws rs (headerBlocks t ks c ws .words) ks es c fr (r .records) (readOf rs r)
     unfolding owedFor
     reads =
         subst (λ (m : Markers). PacketRead (layoutOf bs) s t ws rs (headerBlocks t ks c ws .words) ks es c fr (r .records) (read rs (r .scratch) m (r .input) (r .reports) (r .records))) (sym (ask .same-markers))
-        (packet-read (layoutOf bs) s t ks (blocks-placed bs) layer-left (r .input) (r .scratch) (w .markers) (w .number) (r .reports) (r .records) ws rs es c (y .between) acceptable term
+        (packet-read (layoutOf bs) s t ks (blocks-placed bs) (layer-left bs s t ws w W a) (r .input) (r .scratch) (w .markers) (w .number) (r .reports) (r .records) ws rs es c (W .state) (y .in-step) (y .booked) (acceptable bs s t ws w W a) term
         (y .reader-first .layer-is) (ap blocks (y .reader-first .bands-are)) not-refused-yet (ask .records-enough) (subst (λ (x : List ℕ). take (length x) (r .input) ≡ x) front-is (ask .begins)))
 
     pub packet-gives : GivesEntry (owedFor s ws es w) r (readOf rs r)
@@ -179,23 +162,15 @@ module _ (bs : List Band) (s t : ℕ) (ws rs : List ℕ) (es : List BlockEntry) 
         let L : Layout = layoutOf bs in
         let vs : List ℕ = headerBlocks t ks c ws .words in
         let q = reads in
-        let B = q .between in
-        let state : writeOf ws w .state ≡ set vs 3 (t + 1) = A .state ∙ ap (λ (x : Coded). x .words) (header-coded c ws t ks (y .writer-first .layer-is) blocks-are) in
-        let lw : 13 ≤ length vs = le-trans (end-after 13 bs) (le-of-eq (sym (B .writer-state .long))) in
-        let lr : 13 ≤ length (q .words) = le-trans (end-after 13 bs) (le-of-eq (sym (B .in-step .reader-length))) in
-        subst (λ (v : List ℕ). Invariant bs s (t + 1) v (readOf rs r .state) (addCounts es (c .counts))) (sym state)
-        (subst (λ (v : List ℕ). Invariant bs s (t + 1) (set vs 3 (t + 1)) v (addCounts es (c .counts))) (sym (q .state))
+        let state = state-is bs s t ws w W a in
+        let l : 13 ≤ length (q .words) = le-trans (end-after 13 bs) (le-of-eq (sym (q .in-step .reader-length))) in
+        subst (λ (v : List ℕ). Invariant bs s (t + 1) (writeOf ws w .state) v (addCounts es (c .counts))) (sym (q .state))
         (record {
-          startable = y .startable;
-          between = record {
-            writer-state = layer-word L (t + 1) (t + 1) vs (B .writer-state);
-            in-step = layer-in-step L s vs (q .words) (t + 1) (B .in-step);
-            booked = layer-booked L vs (t + 1) ks (addCounts es (c .counts)) (blocks-placed bs) (B .booked);
-          };
-          writer-first = next-layer 1 bs s t (t + 1) ws vs lw (q .writer-first) (y .writer-first);
-          reader-first = next-layer 2 bs s t (t + 1) rs (q .words) lr (q .reader-first) (y .reader-first);
-          layers = omega (arith, layer-left);
-        }))
+          writer-side = writer-after bs s t ws w W a;
+          in-step = subst (λ (v : List ℕ). InStep L s v (set (q .words) 3 (t + 1))) (sym state) (layer-in-step L s vs (q .words) (t + 1) (q .in-step));
+          booked = subst (λ (v : List ℕ). AllBooked v ks (addCounts es (c .counts))) (sym state) (layer-booked L vs (t + 1) ks (addCounts es (c .counts)) (blocks-placed bs) (q .booked));
+          reader-first = next-layer 2 bs s t (t + 1) rs (q .words) l (q .reader-first) (y .reader-first);
+        })
 
   -- more input doesn't change what is given
   pub more-gives : (r : ReadCall) → ReadsPacket rs (owedFor s ws es w) r → (more : List ℕ) → GivesEntry (owedFor s ws es w) r (readOf rs (withMore r more))

@@ -1,15 +1,14 @@
 -- The limit and passes of a block's current segment, which a reader keeps in its state, in closed form from the block's passes so far; and
 -- that segments open exactly where the book says.
-use mathlib.Core.Path.{_≡_, refl, sym, ap, ap₂, _∙_, subst}
+use mathlib.Core.Path.{_≡_, refl, sym, ap, _∙_}
 use mathlib.Core.Logic.{_≢_}
 use mathlib.Core.Bool.{Bool, true, false, cond, _&&_, _||_, not}
-use Prim.Native.Nat.{ℕ, zero, suc, _+_, _-_, _*_, _/_, _%_, _≤_, _<_, min}
+use Prim.Native.Nat.{ℕ, _+_, _-_, _%_, _≤_, _<_}
 use native.Mathlib.Nat.{sub-zero, le-trans, le-of-eq}
 use native.Mathlib.Omega.{arith}
-use lib.Dec.{ltb, leb, eqb}
+use lib.Dec.{leb, eqb}
 use borrow.Author.Tests.{eq-eqb, ne-eqb, le-leb, lt-leb}
 use Rattle.t800.specs.Segments.{termAll, bypass, firstLimit, nextLimit, isLimit}
-use Rattle.t800.specs.Book.{opensAt}
 use Rattle.t800.proofs.Laws.Tests.{on-eq, on-lt, if-eq, if-ne, if-le, if-gt, if-true, if-false}
 
 -- by the style's two bits
@@ -91,7 +90,7 @@ first-stays-open : (p : ℕ) → 1 ≤ p → p < 10 → opensIn false true p ≡
 first-stays-open p h g = cc (ne-eqb p 0 (omega arith), lt-leb 10 p g)
 
 first-opens : (p : ℕ) → p ≡ 0 → opensIn false true p ≡ true
-first-opens p h = cc (eq-eqb p 0 h)
+first-opens p h = rw (eq-eqb p 0 h)
 
 later-opens : (p : ℕ) → 10 ≤ p → (p - 10) % 3 ≢ 1 → opensIn false true p ≡ true
 later-opens p h g = rw (ne-eqb p 0 (omega arith), le-leb 10 p h, ne-eqb ((p - 10) % 3) 1 g)

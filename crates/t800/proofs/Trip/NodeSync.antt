@@ -1,20 +1,18 @@
 -- A node of a tag tree, and a path of them: the reader takes the writer's bits, and the two stay in sync.
-use mathlib.Core.Path.{_≡_, refl, sym, ap, ap₂, _∙_, subst}
-use mathlib.Core.Bool.{Bool, true, false, not, cond, _&&_, and-false}
-use mathlib.Core.Logic.{_≢_}
-use mathlib.Core.List.{List, [], _∷_, _++_, append-nil}
-use Prim.Native.Nat.{ℕ, zero, suc, _+_, _-_, _*_, _≤_, _<_, min, max}
-use native.Mathlib.Nat.{add-zero, zero-add, suc-add, add-suc, max-le, min-eq-left, min-eq-right, min-le-right, min-le-left, le-max-right, sub-eq-zero-of-le, le-trans, le-of-eq}
-use native.Mathlib.Numerals.{add-one}
+use mathlib.Core.Path.{_≡_, refl, sym, ap, _∙_}
+use mathlib.Core.Bool.{Bool, true, false, cond, and-false}
+use mathlib.Core.List.{List, [], _∷_, _++_}
+use Prim.Native.Nat.{ℕ, zero, suc, _+_, _-_, _≤_, _<_, max}
+use native.Mathlib.Nat.{add-zero, zero-add, suc-add, max-le, min-eq-right, min-le-left, le-max-right, le-trans, le-of-eq}
 use native.Mathlib.Omega.{arith}
-use lib.ListN.{length, replicate}
-use lib.Dec.{T, eqb, ltb}
+use lib.ListN.{replicate}
+use lib.Dec.{ltb}
 use Rattle.t800.specs.declared.Bio.{Bio}
 use Rattle.t800.specs.TagTree.{NodeRead, readNode}
 use borrow.Author.Tests.{lt-ltb, le-ltb, eq-eqb, ne-eqb}
 use Rattle.t800.proofs.Laws.Tests.{if-eq, if-ne, if-lt, if-ge, on-lt}
 use Rattle.t800.proofs.Trip.Bits.{nextBit, bioAfter, Reads, reads-split}
-use Rattle.t800.proofs.Trip.Nodes.{Node, node, lowOut, putsOne, bitsOfNode, nodeAfter, bitsOfPath, nodesAfter, nodeRead, readOne, readInto, NodesRead, readAll, leafValue, raiseFrom, Sync, not-known, is-known, AllSync, nil, cons, Increasing}
+use Rattle.t800.proofs.Trip.Nodes.{Node, node, lowOut, putsOne, bitsOfNode, nodeAfter, bitsOfPath, nodesAfter, nodeRead, readOne, readInto, NodesRead, readAll, Sync, not-known, is-known, AllSync, nil, cons, Increasing}
 
 step-zero : (s : List ℕ) (d v l : ℕ) (b : Bio) → l < v → nextBit s b ≡ 0 → readNode s (suc d) v l b ≡ readNode s d v (l + 1) (bioAfter s b)
 unfolding readNode

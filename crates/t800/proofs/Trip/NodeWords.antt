@@ -9,7 +9,7 @@ use lib.Seq.{getD-set-same, getD-set-other}
 use Rattle.t800.specs.declared.Bio.{Bio}
 use Rattle.t800.specs.TagTree.{NodeRead, lowAfter, nodeBits, knownAfter, codePath, readPath}
 use Rattle.t800.proofs.Laws.Paths.{All, addresses, Clear, Apart, ApartFromAll, AllApart}
-use Rattle.t800.proofs.Trip.Nodes.{Node, node, lowOut, bitsOfNode, nodeAfter, bitsOfPath, nodesAfter, readOne, readInto, NodesRead, readAll}
+use Rattle.t800.proofs.Trip.Nodes.{Node, node, lowOut, bitsOfNode, nodeAfter, bitsOfPath, nodesAfter, readOne, readInto, readAll}
 
 abbrev pub nodeAt : List ℕ → ℕ → Node
 nodeAt ws a = node (getD ws a 0) (getD ws (a + 1) 0) (getD ws (a + 2) 0)

@@ -15,8 +15,8 @@ use Rattle.t800.specs.Base.{overwrite}
 use Rattle.t800.specs.Bits.{bioAt, pack, endsInFF, bytesTaken}
 use Rattle.t800.specs.Reports.{BlockReport, SegmentRecord, reportWords, recordWords}
 use Rattle.t800.specs.State.{Block, notYetIncluded, blocks, bands, layer}
-use Rattle.t800.specs.WriteHeader.{Contribution, codeHeader}
-use Rattle.t800.specs.ReadHeader.{HeaderRead, readBlocks, readHeader}
+use Rattle.t800.specs.WriteHeader.{Contribution}
+use Rattle.t800.specs.ReadHeader.{readBlocks, readHeader}
 use Rattle.t800.specs.MarkerSegments.{sopBytes, ephBytes, withMarkers, MarkerRead, readMarker, readSop, readEph}
 use Rattle.t800.specs.Packet.{ReadResult, readRefusal, readPresent, read}
 use Rattle.t800.specs.Book.{BlockEntry, Entry, entry, addCounts, terminatedAsStyle}
@@ -24,8 +24,10 @@ use Rattle.t800.proofs.Laws.Tests.{if-true, if-ge, drop-head}
 use Rattle.t800.proofs.Laws.Layout.{Layout, AllPlaced}
 use Rattle.t800.proofs.Trip.Bits.{nextBit, bioAfter}
 use Rattle.t800.proofs.Trip.Segments.{readSoFar}
-use Rattle.t800.proofs.Trip.WriterState.{Acceptable, headerBlocks}
-use Rattle.t800.proofs.Trip.Header.{Between, HeaderReadBack, header-read}
+use Rattle.t800.proofs.Trip.WriterState.{WriterState, Acceptable, headerBlocks}
+use Rattle.t800.proofs.Trip.InStep.{InStep}
+use Rattle.t800.proofs.Trip.Booked.{AllBooked}
+use Rattle.t800.proofs.Trip.Header.{header-read}
 
 -- ---- markers
 
@@ -59,11 +61,6 @@ eph-read m src p t e = marker-read (m .eph) 2 0x92 [] src p t refl e
 
 -- ---- the call
 
-pub header-coded : (c : Contribution) (ws : List ℕ) (t : ℕ) (ks : List Block) → layer ws ≡ t → blocks (bands ws) ≡ ks
-    → codeHeader c ws ≡ record { bits = 1 ∷ headerBlocks t ks c ws .bits; words = set (headerBlocks t ks c ws .words) 3 (t + 1) }
-unfolding codeHeader
-header-coded c ws t ks l k = rw (l, k)
-
 header-is : (src : List ℕ) (room : ℕ) (rs : List ℕ) (h : Bio) (t : ℕ) (ks : List Block) (us : List ℕ) (end : Bio) (reps : List BlockReport) (recs : List SegmentRecord) → layer rs ≡ t → blocks (bands rs) ≡ ks
     → readBlocks src room t 0 ks (readSoFar rs h [] []) ≡ readSoFar us end reps recs → endsInFF src end ≡ false → readHeader src room rs h ≡ readSoFar us end reps recs
 unfolding readHeader
@@ -96,17 +93,17 @@ pub record PacketRead (L : Layout) (s t : ℕ) (ws rs vs : List ℕ) (ks : List 
   pub reports : r .reports ≡ reportWords (entry s es (c .counts) (c .lengths) .reports)
   pub records-are : r .records ≡ overwrite records (recordWords (entry s es (c .counts) (c .lengths) .records))
   pub state : r .state ≡ set words 3 (t + 1)
-  pub between : Between L s (t + 1) ks vs words (addCounts es (c .counts))
-  pub writer-first : (j : ℕ) → j < 13 → getD vs j 0 ≡ getD ws j 0
+  pub in-step : InStep L s vs words
+  pub booked : AllBooked vs ks (addCounts es (c .counts))
   pub reader-first : (j : ℕ) → j < 13 → getD words j 0 ≡ getD rs j 0
 
 pub packet-read : (L : Layout) (s t : ℕ) (ks : List Block) → AllPlaced L ks → t < notYetIncluded → (src scratch : List ℕ) (m : Markers) (number : ℕ) (reports records : List ℕ) (ws rs : List ℕ) (es : List BlockEntry) (c : Contribution)
-    → Between L s t ks ws rs es → Acceptable ws ks c → T (terminatedAsStyle s es (c .counts) (c .marks)) → layer rs ≡ t → blocks (bands rs) ≡ ks → readRefusal rs scratch reports ≡ 0
+    → WriterState L t ws → InStep L s ws rs → AllBooked ws ks es → Acceptable ws ks c → T (terminatedAsStyle s es (c .counts) (c .marks)) → layer rs ≡ t → blocks (bands rs) ≡ ks → readRefusal rs scratch reports ≡ 0
     → 4 * length (entry s es (c .counts) (c .lengths) .records) ≤ length records
     → take (length (withMarkers m number (pack (1 ∷ headerBlocks t ks c ws .bits)))) src ≡ withMarkers m number (pack (1 ∷ headerBlocks t ks c ws .bits))
     → PacketRead L s t ws rs (headerBlocks t ks c ws .words) ks es c (withMarkers m number (pack (1 ∷ headerBlocks t ks c ws .bits))) records (read rs scratch m src reports records)
 unfolding withMarkers
-packet-read L s t ks f ht src scratch m number reports records ws rs es c y q term l kb why enough e =
+packet-read L s t ks f ht src scratch m number reports records ws rs es c W y b q term l kb why enough e =
     let A : List ℕ = cond (m .sop) (sopBytes number) [] in
     let B : List ℕ = pack (1 ∷ headerBlocks t ks c ws .bits) in
     let C : List ℕ = cond (m .eph) ephBytes [] in
@@ -119,7 +116,7 @@ packet-read L s t ks f ht src scratch m number reports records ws rs es c y q te
     let at-c : drop (length A + length B) src ≡ C ++ tail = ap₂ (λ (n : ℕ) (z : List ℕ). drop n z) (sym (length-append A B)) from-c ∙ drop-append-seam (A ++ B) (C ++ tail) in
     let E : Entry = entry s es (c .counts) (c .lengths) in
     let room : ℕ = length records / 4 in
-    let h = header-read L s t ks f ht src (C ++ tail) room (length A) ws rs es c y q term (omega arith) at-b in
+    let h = header-read L s t ks f ht src (C ++ tail) room (length A) ws rs es c W y b q term (omega arith) at-b in
     let hd = header-is src room rs (bioAfter src (bioAt (length A))) t ks (h .words) (h .end) (E .reports) (E .records) l kb (h .is) (h .whole) in
     let is = read-is rs scratch m src reports records (length A) (h .words) (h .end) (E .reports) (E .records) why (sop-read m number src (B ++ (C ++ tail)) from-b) (h .first-bit) hd
     ∙ present-is rs t m src records (length A) (h .words) (h .end) (E .reports) (E .records) (length A + length B) (length C) l (h .taken) (eph-read m src (length A + length B) tail at-c) in
@@ -130,7 +127,7 @@ packet-read L s t ks f ht src scratch m number reports records ws rs es c y q te
       reports = ap (λ (r : ReadResult). r .reports) is;
       records-are = ap (λ (r : ReadResult). r .records) is;
       state = ap (λ (r : ReadResult). r .state) is;
-      between = h .between;
-      writer-first = h .writer-first;
+      in-step = h .in-step;
+      booked = h .booked;
       reader-first = h .reader-first;
     }

@@ -1,16 +1,16 @@
--- A block's segments: the writer's recordsOf by marks is the book's, and the reader's recordsOf by limits is the book's.
+-- A block's segments: by marks that terminate as the style does, the writer's are the book's records; by the limits in its state the reader's
+-- are the book's records too, with their lengths.
 use mathlib.Core.Path.{_≡_, refl, sym, ap, ap₂, _∙_, subst}
 use mathlib.Core.Logic.{_≢_}
-use mathlib.Core.Bool.{or-true, or-false, true≢false, Bool·beq, Bool, true, false, cond, _&&_, _||_, not}
+use mathlib.Core.Bool.{or-true, or-false, true≢false, Bool·beq, Bool, true, false, cond, _||_, not}
 use mathlib.Core.List.{List, [], _∷_, _++_, append-assoc, append-nil}
-use Prim.Native.Nat.{ℕ, zero, suc, _+_, _-_, _*_, _/_, _%_, _^_, _≤_, _<_, min}
-use native.Mathlib.Nat.{zero-add, add-zero, add-assoc}
-use native.Mathlib.Numerals.{add-one}
+use Prim.Native.Nat.{ℕ, zero, suc, _+_, _-_, _^_, _≤_, _<_, min}
+use native.Mathlib.Nat.{zero-add, add-zero}
 use native.Mathlib.Omega.{arith}
-use lib.ListN.{length, getD, set, drop, take, length-set, length-drop, length-append, drop-of-length-le}
+use lib.ListN.{length, getD, set, drop, length-set, length-drop, length-append, drop-of-length-le}
 use lib.Seq.{getD-set-same, getD-set-other}
-use lib.Dec.{T, ltb, leb, eqb}
-use borrow.Author.Tests.{eq-eqb, ne-eqb, lt-ltb, le-ltb}
+use lib.Dec.{T, ltb, eqb}
+use borrow.Author.Tests.{lt-ltb, le-ltb}
 use Rattle.t800.specs.declared.Bio.{Bio}
 use Rattle.t800.specs.Base.{any}
 use Rattle.t800.specs.Bits.{bitsOf}
@@ -23,7 +23,7 @@ use lib.Ieee.Fits.{and-l, and-r}
 use Rattle.t800.proofs.Laws.Tests.{on-lt, if-lt, if-ge, if-gt, if-true, if-false}
 use Rattle.t800.proofs.Trip.Bits.{Reads, reads-split}
 use Rattle.t800.proofs.Trip.Codes.{number-read, LengthsFit}
-use Rattle.t800.proofs.Trip.Limits.{NextSegment, opensIn, next-segment, limitIn, passesIn, limitAfter, passesAfter}
+use Rattle.t800.proofs.Trip.Limits.{opensIn, next-segment, limitIn, passesIn, limitAfter, passesAfter}
 
 abbrev pub recordWith : ℕ → ℕ → ℕ → ℕ → SegmentRecord
 recordWith b f p l = record { block = b; opens = f; passes = p; bytes = l }
@@ -39,7 +39,7 @@ abbrev pub segmentsIn : List SegmentRecord → List Segment
 segmentsIn [] = []
 segmentsIn (a ∷ l) = segment (a .passes) (a .bytes) ∷ segmentsIn l
 
--- ---- the writer's recordsOf
+-- ---- the writer's segments
 
 agrees : (a b : Bool) → T (Bool·beq a b) → b ≡ a
 agrees true true h = refl
@@ -77,7 +77,7 @@ module _ (s i : ℕ) where
   unfolding recordsFrom
   pass-stays p now l ls e = if-false (opensAt s p) _ _ e
 
-  -- by marks as the style cuts
+  -- from the segment that is being made
   segments-from : (f p n len l : ℕ) (ls : List ℕ) (m : ℕ) (ms : List ℕ) → length ls ≡ length ms → T (terminatedAt s p (m ∷ ms))
       → segmentsFrom n len (l ∷ ls) (m ∷ ms) ≡ segmentsIn (recordsFrom s (p + 1) (recordWith i f (n + 1) (len + l)) ls)
   unfolding terminatedAt recordsFrom
@@ -100,7 +100,6 @@ module _ (s i : ℕ) where
       go false o a u w =
           pass-goes-on n len l ls m ms x y (a ∙ o) ∙ w ∙ sym (ap segmentsIn (pass-stays (p + 1) (recordWith i f (n + 1) (len + l)) x ls o))
 
-  -- THE WRITER'S CUT
   pub segments-are-records : (p : ℕ) (ls ms : List ℕ) → length ls ≡ length ms → T (terminatedAt s p ms) → segmentsOf ls ms ≡ segmentsIn (recordsOf s i p ls)
   unfolding segmentsOf recordsOf segmentsFrom
   segments-are-records p [] ms e h = refl
@@ -109,9 +108,9 @@ module _ (s i : ℕ) where
       segments-from (cond (opensAt s p) 1 0) p 0 0 l ls m ms (omega arith) h
       ∙ ap (λ (z : ℕ). segmentsIn (recordsFrom s (p + 1) (recordWith i (cond (opensAt s p) 1 0) 1 z) ls)) (zero-add l)
 
-  -- ---- the reader's
+  -- ---- the reader's segments
 
-  -- a no-opening-run of passes that open nothing
+  -- passes that open nothing go into the record that is being made
   no-opening-run : (d p : ℕ) (f n len : ℕ) (ls : List ℕ) → ((j : ℕ) → j < d → opensAt s (p + j) ≡ false) → opensAt s (p + d) ≡ true
       → (v : ℕ) × (recordsFrom s p (recordWith i f n len) ls ≡ recordWith i f (n + min d (length ls)) v ∷ recordsOf s i (p + min d (length ls)) (drop d ls))
   unfolding recordsFrom recordsOf
@@ -131,7 +130,7 @@ module _ (s i : ℕ) where
             ∙ ap₂ (λ (x y : ℕ). recordWith i f x (r .0) ∷ recordsOf s i y (drop d ls)) e g,
       )
 
-  -- the bioAfter segment: as many passes as it has room for
+  -- the first record has as many passes as its segment has room for
   pub first-record : (p d : ℕ) (ls : List ℕ) → 1 ≤ length ls → 1 ≤ d → ((j : ℕ) → 1 ≤ j → j < d → opensAt s (p + j) ≡ false) → opensAt s (p + d) ≡ true
       → (v : ℕ) × (recordsOf s i p ls ≡ recordWith i (cond (opensAt s p) 1 0) (min d (length ls)) v ∷ recordsOf s i (p + min d (length ls)) (drop (min d (length ls)) ls))
   unfolding recordsOf
@@ -149,19 +148,19 @@ module _ (s i : ℕ) where
             ∙ ap (λ (z : List ℕ). recordWith i (cond (opensAt s p) 1 0) (min (suc d) (suc (length ls))) (r .0) ∷ recordsOf s i (p + min (suc d) (suc (length ls))) z) k,
       )
 
--- ---- reading them
+-- ---- reading
 
 abbrev pub readSoFar : List ℕ → Bio → List BlockReport → List SegmentRecord → HeaderRead
 readSoFar ws b reps recs = record { refusal = 0; words = ws; bio = b; reports = reps; records = recs }
 
--- words of a block's current segment after p passes, nothing else changed
+-- the words of a block's current segment are those after p passes, and no other word changed
 pub record SegmentNow (rs us : List ℕ) (s at p : ℕ) : Type 0 where
   pub limit : getD us (at + 2) 0 ≡ limitAfter s p
   pub used : getD us (at + 3) 0 ≡ passesAfter s p
   pub others : (i : ℕ) → i ≢ at + 2 → i ≢ at + 3 → getD us i 0 ≡ getD rs i 0
   pub long : length us ≡ length rs
 
--- the reader's words tell the segment that the bioAfter passes go into
+-- the reader's words tell the segment that the next passes go into
 module _ (s : ℕ) (k : Block) (rs : List ℕ) (p : ℕ) (st : getD rs 2 0 ≡ s) (l : getD rs (k .at + 2) 0 ≡ limitAfter s p) (u : getD rs (k .at + 3) 0 ≡ passesAfter s p) where
   now-opens : opensSegment rs k ≡ opensAt s p
   unfolding opensSegment opensAt limitAfter passesAfter
@@ -178,15 +177,6 @@ module _ (s : ℕ) (k : Block) (rs : List ℕ) (p : ℕ) (st : getD rs 2 0 ≡ s
   now-takes : (left : ℕ) → passesTaken rs k left ≡ min (next-segment s p .limit - next-segment s p .has) left
   unfolding passesTaken
   now-takes left = ap₂ (λ (x y : ℕ). min (x - y) left) now-limit now-used
-
--- there is a opens segment
-pub some-record : (s i p : ℕ) (ls : List ℕ) → 0 < length ls → (a : SegmentRecord) × (l : List SegmentRecord) × (recordsOf s i p ls ≡ a ∷ l)
-unfolding opensAt
-some-record s i p ls h =
-    let t = next-segment s p in
-    let d : ℕ = t .limit - t .has in
-    let c = first-record s i p d ls h (omega (arith, t .room)) (λ j lo hi. t .stays-open j lo (omega (arith, t .room))) (t .opens-next) in
-    (recordWith i (cond (opensAt s p) 1 0) (min d (length ls)) (c .0), recordsOf s i (p + min d (length ls)) (drop (min d (length ls)) ls), c .1)
 
 -- one segment
 segment-read : (src : List ℕ) (room i : ℕ) (k : Block) (n : ℕ) (rs : List ℕ) (b e : Bio) (reps : List BlockReport) (recs : List SegmentRecord) (lb v : ℕ)

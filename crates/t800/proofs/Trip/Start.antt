@@ -1,8 +1,8 @@
 -- A started writer and a started reader are in step, in range, and as the new book says.
-use mathlib.Core.Path.{_≡_, refl, sym, ap, ap₂, _∙_, subst}
-use mathlib.Core.Bool.{Bool, true, false, cond, _||_, not}
+use mathlib.Core.Path.{_≡_, refl, sym, ap, _∙_, subst}
+use mathlib.Core.Bool.{Bool, false, cond, _||_, not}
 use mathlib.Core.List.{List, [], _∷_, _++_}
-use Prim.Native.Nat.{ℕ, zero, suc, _+_, _-_, _*_, _≤_, _<_}
+use Prim.Native.Nat.{ℕ, zero, suc, _+_, _-_, _≤_, _<_}
 use native.Mathlib.Nat.{le-trans, le-of-eq, add-zero}
 use native.Mathlib.Omega.{arith}
 use lib.ListN.{length, getD, take, drop, length-append, length-take, length-drop}
@@ -11,7 +11,7 @@ use borrow.Author.Tests.{eqb-true, eq-eqb, ltb-false, not-false}
 use Rattle.t800.specs.declared.Band.{Band}
 use Rattle.t800.specs.Base.{any}
 use Rattle.t800.specs.TagTree.{value, low}
-use Rattle.t800.specs.State.{Block, notYetIncluded, notYetPlanes, blocksIn, bandLength, blocksFrom, blocksAt, blocks, stateLength, writer, style, passesSoFar}
+use Rattle.t800.specs.State.{Block, notYetPlanes, blocksIn, bandLength, blocksFrom, blocksAt, blocks, stateLength, writer, style, passesSoFar}
 use Rattle.t800.specs.Ranges.{badShape, badStyle, bandTooDeep, blockTooDeep}
 use Rattle.t800.specs.Start.{freshState, setZeroPlanes, startRefusal, start}
 use Rattle.t800.specs.Book.{BlockEntry, newEntries, newBook}
@@ -30,7 +30,6 @@ use Rattle.t800.proofs.Trip.WriterState.{WriterBlock, WriterState, valu
 use Rattle.t800.proofs.Trip.InStep.{BlockInStep, InStep, same-in-step}
 use Rattle.t800.proofs.Trip.Booked.{AllBooked}
 use Rattle.t800.proofs.Trip.ValidStates.{Startable}
-use Rattle.t800.proofs.Trip.Header.{Between}
 
 -- ---- the new book, block by block
 
@@ -174,25 +173,26 @@ module _ (bs : List Band) (s : ℕ) where
       same-first-words 1 bs s 0 (fresh 1) (setZeroPlanes ks planes (fresh 1)) (first-stays L (fresh 1) (setZeroPlanes ks planes (fresh 1)) (nodes-only L zeroPlanes (fresh 1) (setZeroPlanes ks planes (fresh 1)) (planes-written planes .0 .only)))
       (fresh-first-words 1 s bs few)
 
-  pub started-between : (planes : List ℕ) → length planes ≡ length ks → bandTooDeep bs ≡ false → blockTooDeep ks planes ≡ false
-      → Between L s 0 ks (setZeroPlanes ks planes (fresh 1)) (fresh 2) (newBook bs planes)
+  pub started-in-step : (planes : List ℕ) → InStep L s (setZeroPlanes ks planes (fresh 1)) (fresh 2)
+  started-in-step planes =
+      let q = planes-written planes .0 in
+      let vs : List ℕ = setZeroPlanes ks planes (fresh 1) in
+      let o = nodes-only L zeroPlanes (fresh 1) vs (q .only) in
+      record {
+        sync = q .sync (fresh 2) fresh-sync;
+        order = q .order (fresh-order 1);
+        blocks = λ p b. same-in-step s (fresh 1) (fresh 2) vs (fresh 2) p (block-stays L (fresh 1) vs o p b) (refl, refl, refl, refl) (fresh-in-step p b);
+        writer-length = q .only .long ∙ fresh-length 1 s bs;
+        reader-length = fresh-length 2 s bs;
+        style-is = fresh-style 2;
+      }
+
+  pub started-booked : (planes : List ℕ) → length planes ≡ length ks → bandTooDeep bs ≡ false → blockTooDeep ks planes ≡ false → AllBooked (setZeroPlanes ks planes (fresh 1)) ks (newBook bs planes)
   unfolding blocks
-  started-between planes l d t =
+  started-booked planes l d t =
       let q = planes-written planes in
       let vs : List ℕ = setZeroPlanes ks planes (fresh 1) in
-      let o = nodes-only L zeroPlanes (fresh 1) vs (q .0 .only) in
-      record {
-        writer-state = started-writer planes;
-        in-step = record {
-          sync = q .0 .sync (fresh 2) fresh-sync;
-          order = q .0 .order (fresh-order 1);
-          blocks = λ p b. same-in-step s (fresh 1) (fresh 2) vs (fresh 2) p (block-stays L (fresh 1) vs o p b) (refl, refl, refl, refl) (fresh-in-step p b);
-          writer-length = q .0 .only .long ∙ fresh-length 1 s bs;
-          reader-length = fresh-length 2 s bs;
-          style-is = fresh-style 2;
-        };
-        booked = subst (AllBooked vs ks) (sym (new-book-is 13 bs planes l)) (all-booked ks planes vs (blocks-placed bs) l (q .0 .only) (q .1) (not-too-deep 13 bs d) t);
-      }
+      subst (AllBooked vs ks) (sym (new-book-is 13 bs planes l)) (all-booked ks planes vs (blocks-placed bs) l (q .0 .only) (q .1) (not-too-deep 13 bs d) t)
 
 -- ---- an accepted start
 

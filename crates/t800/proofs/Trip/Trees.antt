@@ -4,7 +4,6 @@ use mathlib.Core.Path.{_≡_, refl, sym, ap, ap₂, _∙_, subst, subst₂}
 use mathlib.Core.Logic.{_≢_}
 use mathlib.Core.List.{List, [], _∷_, reverse, reverseAux}
 use Prim.Native.Nat.{ℕ, zero, suc, _+_, _*_, _≤_, _<_, max, zero-le}
-use native.Mathlib.Nat.{le-trans, le-of-eq}
 use native.Mathlib.Omega.{arith}
 use lib.ListN.{length, getD, set}
 use lib.Seq.{getD-set-other}
@@ -14,14 +13,14 @@ use Rattle.t800.specs.TagTree.{PathRead, value, lowAfter, codePath, read
 use Rattle.t800.specs.State.{Block, notYetPlanes}
 use Rattle.t800.specs.ReadHeader.{readZeroPlanesFrom}
 use Rattle.t800.proofs.Laws.Tests.{on-eq, on-lt, if-lt, if-ge}
-use Rattle.t800.proofs.Laws.Paths.{All, addresses, Clear, Apart, ApartFromAll, AllApart, Ancestors}
-use Rattle.t800.proofs.Laws.Layout.{Tree, zeroPlanes, notYet, treeOf, leafOf, Layout, Placed, on-tree, rootToLeaf, path-nodes, from-root-nodes, from-root-apart}
+use Rattle.t800.proofs.Laws.Paths.{All, addresses, Clear, ApartFromAll, AllApart, Ancestors}
+use Rattle.t800.proofs.Laws.Layout.{Tree, zeroPlanes, notYet, treeOf, leafOf, Layout, Placed, on-tree, rootToLeaf, from-root-nodes, from-root-apart}
 use Rattle.t800.proofs.Laws.SetLeaf.{Ordered}
 use Rattle.t800.proofs.Trip.Bits.{Reads}
-use Rattle.t800.proofs.Trip.Nodes.{Node, bitsOfPath, nodesAfter, NodesRead, readAll, leafValue, raiseFrom, Sync, AllSync, nil, cons, Increasing}
+use Rattle.t800.proofs.Trip.Nodes.{Node, NodesRead, readAll, leafValue, raiseFrom, Sync, AllSync, nil, cons, Increasing}
 use Rattle.t800.proofs.Trip.NodeSync.{path-sync}
 use Rattle.t800.proofs.Trip.ZeroPlanes.{zero-planes-read, raise-stops, raise-goes-on, same-side}
-use Rattle.t800.proofs.Trip.NodeWords.{nodeAt, nodesAt, PathChanged, CodedAs, coded-as, ReadAs, read-as}
+use Rattle.t800.proofs.Trip.NodeWords.{nodeAt, nodesAt, PathChanged, CodedAs, coded-as, read-as}
 
 -- ---- words that are no node's
 

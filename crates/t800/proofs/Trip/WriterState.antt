@@ -1,10 +1,9 @@
 -- A writer's state, whatever the termination marks: its nodes and blocks are in the ranges of refusal 5, and a layer that nothing refuses
 -- keeps them there. No low of an inclusion tree is above the next layer.
-use mathlib.Core.Path.{_≡_, refl, sym, ap, ap₂, _∙_, subst}
-use mathlib.Core.Logic.{_≢_}
-use mathlib.Core.Bool.{Bool, false, cond, _||_, not, or-true}
+use mathlib.Core.Path.{_≡_, refl, sym, ap₂, _∙_, subst}
+use mathlib.Core.Bool.{false, cond, _||_, not, or-true}
 use mathlib.Core.List.{List, [], _∷_, reverse}
-use Prim.Native.Nat.{ℕ, zero, suc, _+_, _-_, _*_, _≤_, _<_, min, max, zero-le}
+use Prim.Native.Nat.{ℕ, _+_, _-_, _*_, _≤_, _<_, zero-le}
 use native.Mathlib.Nat.{le-trans, le-of-eq, le-refl, max-le, min-le-right}
 use native.Mathlib.Omega.{arith}
 use lib.ListN.{length, getD, set, take, drop, length-set, length-take, length-drop}
@@ -14,13 +13,13 @@ use borrow.Author.Tests.{ltb-false}
 use Rattle.t800.specs.Base.{any, sum}
 use Rattle.t800.specs.TagTree.{Coded, codePath}
 use Rattle.t800.specs.Segments.{Segment, segmentsFrom, segmentsOf, width, increment}
-use Rattle.t800.specs.State.{Block, notYetIncluded, notYetPlanes, passesSoFar, lengthBits, segmentLimit, segmentPasses}
+use Rattle.t800.specs.State.{Block, notYetPlanes, passesSoFar, lengthBits, segmentLimit, segmentPasses}
 use Rattle.t800.specs.WriteHeader.{Contribution, isNew, lengthBitsBefore, setNewBlocks, codeInclusion, codeZeroPlanes, codePasses, codeBlock, codeBlocks, fieldTooWide}
-use Rattle.t800.proofs.Laws.Tests.{on-eq, on-lt, if-true, if-eq, if-ne, either, or-left, or-right}
+use Rattle.t800.proofs.Laws.Tests.{on-eq, if-eq, if-ne, either, or-left, or-right}
 use Rattle.t800.proofs.Laws.Paths.{All, ApartFromAll}
 use Rattle.t800.proofs.Laws.Layout.{Tree, inclusion, zeroPlanes, notYet, treeOf, Layout, Placed, SeparateFromAll, AllPlaced, on-tree, rootToLeaf, from-root-nodes}
-use Rattle.t800.proofs.Trip.Nodes.{Node, node, lowOut, nodeAfter, nodesAfter}
-use Rattle.t800.proofs.Trip.NodeWords.{nodeAt, nodesAt, PathChanged}
+use Rattle.t800.proofs.Trip.Nodes.{Node, lowOut, nodeAfter, nodesAfter}
+use Rattle.t800.proofs.Trip.NodeWords.{nodeAt, nodesAt}
 use Rattle.t800.proofs.Trip.Trees.{NodesOnly, all-apart, path-coded, coding-keeps}
 use Rattle.t800.proofs.Trip.Segments.{tooWide, field-fits}
 use Rattle.t800.proofs.Trip.Changes.{SameBlock, block-stays, BlockOnly, node-stays, other-block-stays, stored, stored-passes, stored-bits, stored-others, stored-length, ValuesOnly, nodes-only, low-stays, known-stays, BlockCoded, block-coded, paths-keep}

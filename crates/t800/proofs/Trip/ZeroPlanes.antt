@@ -1,21 +1,19 @@
 -- Coding a path with a smaller threshold and then with a larger one is coding it with the larger one; so raising the threshold step by step
 -- reads what was coded with the mark as threshold, as zero planes are.
-use mathlib.Core.Path.{_≡_, refl, sym, ap, ap₂, _∙_, subst}
-use mathlib.Core.Bool.{Bool, true, false, not, cond, _&&_, and-false}
-use mathlib.Core.Logic.{_≢_}
+use mathlib.Core.Path.{_≡_, refl, sym, ap, ap₂, _∙_}
+use mathlib.Core.Bool.{Bool, true, false, cond, _&&_}
 use mathlib.Core.List.{List, [], _∷_, _++_, append-nil, append-assoc}
-use Prim.Native.Nat.{ℕ, zero, suc, _+_, _-_, _*_, _≤_, _<_, min, max, suc-le-suc}
-use native.Mathlib.Nat.{sub-self, max-le, min-eq-left, min-eq-right, max-eq-left, max-eq-right, min-le-right, min-le-left, le-max-right, le-max-left, sub-eq-zero-of-le, le-trans, le-of-eq, le-refl, le-min}
+use Prim.Native.Nat.{ℕ, zero, suc, _+_, _-_, _≤_, _<_, min, max, suc-le-suc}
+use native.Mathlib.Nat.{sub-self, max-le, min-eq-right, max-eq-left, max-eq-right, min-le-right, le-max-right, le-max-left, le-trans, le-of-eq, le-refl, le-min}
 use native.Mathlib.Omega.{arith}
-use lib.ListN.{length, replicate, replicate-append-replicate}
-use lib.Dec.{T, eqb, ltb}
+use lib.ListN.{replicate, replicate-append-replicate}
+use lib.Dec.{eqb, ltb}
 use Rattle.t800.specs.declared.Bio.{Bio}
-use Rattle.t800.specs.TagTree.{NodeRead, readNode}
-use borrow.Author.Tests.{lt-ltb, le-ltb, eq-eqb, ne-eqb}
-use Rattle.t800.proofs.Laws.Tests.{if-eq, if-ne, if-lt, if-ge, on-lt}
-use Rattle.t800.proofs.Trip.Bits.{nextBit, bioAfter, Reads, reads-split}
+use borrow.Author.Tests.{lt-ltb, le-ltb}
+use Rattle.t800.proofs.Laws.Tests.{if-lt, if-ge, on-lt}
+use Rattle.t800.proofs.Trip.Bits.{Reads, reads-split}
 use Rattle.t800.proofs.Trip.NodeSync.{puts-none, known-puts-none, sync-low, low-out-le, increasing-from, path-sync}
-use Rattle.t800.proofs.Trip.Nodes.{Node, node, lowOut, putsOne, bitsOfNode, nodeAfter, bitsOfPath, nodesAfter, nodeRead, readOne, readInto, NodesRead, readAll, leafValue, raiseFrom, Sync, not-known, is-known, AllSync, nil, cons, Increasing}
+use Rattle.t800.proofs.Trip.Nodes.{Node, node, lowOut, putsOne, bitsOfNode, nodeAfter, bitsOfPath, nodesAfter, NodesRead, readAll, leafValue, raiseFrom, Sync, not-known, is-known, AllSync, nil, cons, Increasing}
 
 -- ---- one node, by what its parts come to
 
@@ -226,7 +224,7 @@ unfolding nodesAfter nodeAfter
 leaf-same i k v [] = refl
 leaf-same i k v (n ∷ ns) = leaf-same i (lowOut i k n) (n .value) ns
 
--- what the reader's leafValue says
+-- what the reader's leaf says
 sync-ge : {mark : ℕ} {n m : Node} → Sync mark n m → n .value ≤ m .value
 sync-ge (is-known k mv ml nl nv mk) = le-of-eq (sym mv)
 sync-ge (not-known k mv ml nl nv mk) = omega arith
@@ -256,7 +254,7 @@ same-side t l {ns = ns} {os = os} c y z =
 
 -- ---- zero planes
 
--- what raising gives: the leaf's value, where the bits end, and nodes in step
+-- what raising gives: the leaf's value, where the bits end, and nodes in sync
 pub record Raised (mark : ℕ) (r : NodesRead) (v : ℕ) (e : Bio) (ns : List Node) : Type 0 where
   pub leaf-is : leafValue 0 (r .nodes) ≡ v
   pub ends : r .bio ≡ e
