@@ -17,6 +17,7 @@ pub mod Blocks
 pub mod HeaderBits
 pub mod ValidStates
 pub mod Header
+pub mod FewerRecords
 pub mod Packet
 pub mod Calls
 pub mod Start

@@ -135,12 +135,17 @@ module _ (bs : List Band) (s t : ℕ) (ws rs : List ℕ) (es : List BlockEntry) 
         (λ e. omega (arith, sym (y .reader-first .layer-is) ∙ e, layer-left bs s t ws w W a))
         (ask .reports-length ∙ ap (λ (n : ℕ). 4 * n) (reports-are ∙ ap length (sym (ap blocks (y .reader-first .bands-are)))))
 
-    reads : PacketRead (layoutOf bs) s t ws rs (headerBlocks t ks c ws .words) ks es c fr (r .records) (readOf rs r)
+    abbrev Reads : List ℕ → Markers → Type 0
+    Reads src m = PacketRead (layoutOf bs) s t ks (blocks-placed bs) (layer-left bs s t ws w W a) ws rs es c (W .state) (y .in-step) (y .booked) (acceptable bs s t ws w W a) term (y .reader-first .layer-is)
+        (ap blocks (y .reader-first .bands-are)) (w .markers) (w .number) src (r .records) (read rs (r .scratch) m src (r .reports) (r .records))
+
+    reads : Reads (r .input) (r .markers)
     unfolding owedFor
     reads =
-        subst (λ (m : Markers). PacketRead (layoutOf bs) s t ws rs (headerBlocks t ks c ws .words) ks es c fr (r .records) (read rs (r .scratch) m (r .input) (r .reports) (r .records))) (sym (ask .same-markers))
-        (packet-read (layoutOf bs) s t ks (blocks-placed bs) (layer-left bs s t ws w W a) (r .input) (r .scratch) (w .markers) (w .number) (r .reports) (r .records) ws rs es c (W .state) (y .in-step) (y .booked) (acceptable bs s t ws w W a) term
-        (y .reader-first .layer-is) (ap blocks (y .reader-first .bands-are)) not-refused-yet (ask .records-enough) (subst (λ (x : List ℕ). take (length x) (r .input) ≡ x) front-is (ask .begins)))
+        subst (Reads (r .input)) (sym (ask .same-markers))
+        (packet-read (layoutOf bs) s t ks (blocks-placed bs) (layer-left bs s t ws w W a) ws rs es c (W .state) (y .in-step) (y .booked) (acceptable bs s t ws w W a) term (y .reader-first .layer-is)
+        (ap blocks (y .reader-first .bands-are)) (w .markers) (w .number) (r .input) (r .scratch) (r .reports) (r .records) not-refused-yet (ask .records-enough)
+        (subst (λ (x : List ℕ). take (length x) (r .input) ≡ x) front-is (ask .begins)))
 
     pub packet-gives : GivesEntry (owedFor s ws es w) r (readOf rs r)
     unfolding owedFor
@@ -168,7 +173,7 @@ module _ (bs : List Band) (s t : ℕ) (ws rs : List ℕ) (es : List BlockEntry) 
         (record {
           writer-side = writer-after bs s t ws w W a;
           in-step = subst (λ (v : List ℕ). InStep L s v (set (q .words) 3 (t + 1))) (sym state) (layer-in-step L s vs (q .words) (t + 1) (q .in-step));
-          booked = subst (λ (v : List ℕ). AllBooked v ks (addCounts es (c .counts))) (sym state) (layer-booked L vs (t + 1) ks (addCounts es (c .counts)) (blocks-placed bs) (q .booked));
+          booked = subst (λ (v : List ℕ). AllBooked v ks (addCounts es (c .counts))) (sym state) (layer-booked L vs (t + 1) ks (addCounts es (c .counts)) (blocks-placed bs) (q .booked-after));
           reader-first = next-layer 2 bs s t (t + 1) rs (q .words) l (q .reader-first) (y .reader-first);
         })
 

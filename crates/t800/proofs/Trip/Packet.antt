@@ -1,8 +1,10 @@
 -- A packet is read as it was written: markers, header, and where the body begins.
 use mathlib.Core.Path.{_≡_, refl, sym, ap, ap₂, _∙_}
+use mathlib.Core.Logic.{_⊎_, inl, inr}
 use mathlib.Core.Bool.{Bool, true, false, cond, _&&_}
 use mathlib.Core.List.{List, [], _∷_, _++_, append-assoc}
 use Prim.Native.Nat.{ℕ, suc, _+_, _-_, _*_, _/_, _%_, _≤_, _<_}
+use native.Mathlib.Nat.{le-refl}
 use native.Mathlib.Numerals.{add-one}
 use native.Mathlib.Omega.{arith}
 use lib.ListN.{length, getD, set, take, drop, length-append, length-drop, take-append-drop}
@@ -16,22 +18,23 @@ use Rattle.t800.specs.Bits.{bioAt, pack, endsInFF, bytesTaken}
 use Rattle.t800.specs.Reports.{BlockReport, SegmentRecord, reportWords, recordWords}
 use Rattle.t800.specs.State.{Block, notYetIncluded, blocks, bands, layer}
 use Rattle.t800.specs.WriteHeader.{Contribution}
-use Rattle.t800.specs.ReadHeader.{readBlocks, readHeader}
+use Rattle.t800.specs.ReadHeader.{HeaderRead, readBlocks, readHeader}
 use Rattle.t800.specs.MarkerSegments.{sopBytes, ephBytes, withMarkers, MarkerRead, readMarker, readSop, readEph}
 use Rattle.t800.specs.Packet.{ReadResult, readRefusal, readPresent, read}
 use Rattle.t800.specs.Book.{BlockEntry, Entry, entry, addCounts, terminatedAsStyle}
-use Rattle.t800.proofs.Laws.Tests.{if-true, if-ge, drop-head}
+use Rattle.t800.proofs.Laws.Tests.{on-lt, if-true, if-ge, drop-head}
 use Rattle.t800.proofs.Laws.Layout.{Layout, AllPlaced}
 use Rattle.t800.proofs.Trip.Bits.{nextBit, bioAfter}
 use Rattle.t800.proofs.Trip.Segments.{readSoFar}
 use Rattle.t800.proofs.Trip.WriterState.{WriterState, Acceptable, headerBlocks}
+use Rattle.t800.proofs.Trip.FewerRecords.{SameOr13, fewer-records}
 use Rattle.t800.proofs.Trip.InStep.{InStep}
 use Rattle.t800.proofs.Trip.Booked.{AllBooked}
-use Rattle.t800.proofs.Trip.Header.{header-read}
+use Rattle.t800.proofs.Trip.Header.{HeaderReadBack, header-read}
 
 -- ---- markers
 
-abbrev found : ℕ → MarkerRead
+abbrev pub found : ℕ → MarkerRead
 found n = record { skip = n; mark = 0 }
 
 both : {x y : Bool} → x ≡ true → y ≡ true → (x && y) ≡ true
@@ -87,47 +90,90 @@ present-is rs t m src records n us end reps recs at skip l a e = rw (a, e, l)
 
 -- ---- the packet
 
-pub record PacketRead (L : Layout) (s t : ℕ) (ws rs vs : List ℕ) (ks : List Block) (es : List BlockEntry) (c : Contribution) (fr records : List ℕ) (r : ReadResult) : Type 0 where
-  pub words : List ℕ
-  pub answer : r .answer ≡ record { refusal = 0; present = 1; taken = length fr; segments = length (entry s es (c .counts) (c .lengths) .records); sop = 0; eph = 0 }
-  pub reports : r .reports ≡ reportWords (entry s es (c .counts) (c .lengths) .reports)
-  pub records-are : r .records ≡ overwrite records (recordWords (entry s es (c .counts) (c .lengths) .records))
-  pub state : r .state ≡ set words 3 (t + 1)
-  pub in-step : InStep L s vs words
-  pub booked : AllBooked vs ks (addCounts es (c .counts))
-  pub reader-first : (j : ℕ) → j < 13 → getD words j 0 ≡ getD rs j 0
+module _ (L : Layout) (s t : ℕ) (ks : List Block) (f : AllPlaced L ks) (ht : t < notYetIncluded) (ws rs : List ℕ) (es : List BlockEntry) (c : Contribution) (W : WriterState L t ws) (y : InStep L s ws rs)
+    (booked : AllBooked ws ks es) (q : Acceptable ws ks c) (term : T (terminatedAsStyle s es (c .counts) (c .marks))) (l : layer rs ≡ t) (kb : blocks (bands rs) ≡ ks) (m : Markers) (number : ℕ) (src : List ℕ) where
+  abbrev header : List ℕ
+  header = pack (1 ∷ headerBlocks t ks c ws .bits)
 
-pub packet-read : (L : Layout) (s t : ℕ) (ks : List Block) → AllPlaced L ks → t < notYetIncluded → (src scratch : List ℕ) (m : Markers) (number : ℕ) (reports records : List ℕ) (ws rs : List ℕ) (es : List BlockEntry) (c : Contribution)
-    → WriterState L t ws → InStep L s ws rs → AllBooked ws ks es → Acceptable ws ks c → T (terminatedAsStyle s es (c .counts) (c .marks)) → layer rs ≡ t → blocks (bands rs) ≡ ks → readRefusal rs scratch reports ≡ 0
-    → 4 * length (entry s es (c .counts) (c .lengths) .records) ≤ length records
-    → take (length (withMarkers m number (pack (1 ∷ headerBlocks t ks c ws .bits)))) src ≡ withMarkers m number (pack (1 ∷ headerBlocks t ks c ws .bits))
-    → PacketRead L s t ws rs (headerBlocks t ks c ws .words) ks es c (withMarkers m number (pack (1 ∷ headerBlocks t ks c ws .bits))) records (read rs scratch m src reports records)
-unfolding withMarkers
-packet-read L s t ks f ht src scratch m number reports records ws rs es c W y b q term l kb why enough e =
-    let A : List ℕ = cond (m .sop) (sopBytes number) [] in
-    let B : List ℕ = pack (1 ∷ headerBlocks t ks c ws .bits) in
-    let C : List ℕ = cond (m .eph) ephBytes [] in
-    let fr : List ℕ = A ++ B ++ C in
-    let tail : List ℕ = drop (length fr) src in
-    let whole : src ≡ A ++ B ++ C ++ tail = sym (take-append-drop (length fr) src) ∙ ap (λ (z : List ℕ). z ++ tail) e in
-    let from-b : src ≡ A ++ (B ++ (C ++ tail)) = whole ∙ append-assoc (A ++ B) C tail ∙ append-assoc A B (C ++ tail) in
-    let from-c : src ≡ A ++ B ++ (C ++ tail) = whole ∙ append-assoc (A ++ B) C tail in
-    let at-b : drop (length A) src ≡ B ++ (C ++ tail) = ap (drop (length A)) from-b ∙ drop-append-seam A (B ++ (C ++ tail)) in
-    let at-c : drop (length A + length B) src ≡ C ++ tail = ap₂ (λ (n : ℕ) (z : List ℕ). drop n z) (sym (length-append A B)) from-c ∙ drop-append-seam (A ++ B) (C ++ tail) in
-    let E : Entry = entry s es (c .counts) (c .lengths) in
-    let room : ℕ = length records / 4 in
-    let h = header-read L s t ks f ht src (C ++ tail) room (length A) ws rs es c W y b q term (omega arith) at-b in
-    let hd = header-is src room rs (bioAfter src (bioAt (length A))) t ks (h .words) (h .end) (E .reports) (E .records) l kb (h .is) (h .whole) in
-    let is = read-is rs scratch m src reports records (length A) (h .words) (h .end) (E .reports) (E .records) why (sop-read m number src (B ++ (C ++ tail)) from-b) (h .first-bit) hd
-    ∙ present-is rs t m src records (length A) (h .words) (h .end) (E .reports) (E .records) (length A + length B) (length C) l (h .taken) (eph-read m src (length A + length B) tail at-c) in
-    let len : length A + length B + length C ≡ length fr = sym (length-append (A ++ B) C ∙ ap (λ (z : ℕ). z + length C) (length-append A B)) in
-    record {
-      words = h .words;
-      answer = ap (λ (r : ReadResult). r .answer) is ∙ ap (λ (z : ℕ). record { refusal = 0; present = 1; taken = z; segments = length (E .records); sop = 0; eph = 0 }) len;
-      reports = ap (λ (r : ReadResult). r .reports) is;
-      records-are = ap (λ (r : ReadResult). r .records) is;
-      state = ap (λ (r : ReadResult). r .state) is;
-      in-step = h .in-step;
-      booked = h .booked;
-      reader-first = h .reader-first;
-    }
+  abbrev owedEntry : Entry
+  owedEntry = entry s es (c .counts) (c .lengths)
+
+  -- the input begins with header and markers, and `room` records are lent
+  pub record FrontRead (room : ℕ) : Type 0 where
+    pub before : ℕ
+    pub sop-is : readSop m src ≡ found before
+    pub back : HeaderReadBack L s t src room before (length header) ws rs (headerBlocks t ks c ws .words) ks es c
+    pub header-back : readHeader src room rs (bioAfter src (bioAt before)) ≡ readSoFar (back .words) (back .end) (owedEntry .reports) (owedEntry .records)
+    pub behind : ℕ
+    pub eph-is : readEph m src (before + length header) ≡ found behind
+    pub all : before + length header + behind ≡ length (withMarkers m number header)
+
+  pub front-read : (room : ℕ) → length (owedEntry .records) ≤ room → take (length (withMarkers m number header)) src ≡ withMarkers m number header → FrontRead room
+  unfolding withMarkers
+  front-read room enough e =
+      let A : List ℕ = cond (m .sop) (sopBytes number) [] in
+      let C : List ℕ = cond (m .eph) ephBytes [] in
+      let fr : List ℕ = A ++ header ++ C in
+      let tail : List ℕ = drop (length fr) src in
+      let whole : src ≡ A ++ header ++ C ++ tail = sym (take-append-drop (length fr) src) ∙ ap (λ (z : List ℕ). z ++ tail) e in
+      let from-header : src ≡ A ++ (header ++ (C ++ tail)) = whole ∙ append-assoc (A ++ header) C tail ∙ append-assoc A header (C ++ tail) in
+      let from-eph : src ≡ A ++ header ++ (C ++ tail) = whole ∙ append-assoc (A ++ header) C tail in
+      let at-header : drop (length A) src ≡ header ++ (C ++ tail) = ap (drop (length A)) from-header ∙ drop-append-seam A (header ++ (C ++ tail)) in
+      let at-eph : drop (length A + length header) src ≡ C ++ tail = ap₂ (λ (n : ℕ) (z : List ℕ). drop n z) (sym (length-append A header)) from-eph ∙ drop-append-seam (A ++ header) (C ++ tail) in
+      let h = header-read L s t ks f ht src (C ++ tail) room (length A) ws rs es c W y booked q term enough at-header in
+      record {
+        before = length A;
+        sop-is = sop-read m number src (header ++ (C ++ tail)) from-header;
+        back = h;
+        header-back = header-is src room rs (bioAfter src (bioAt (length A))) t ks (h .words) (h .end) (owedEntry .reports) (owedEntry .records) l kb (h .is) (h .whole);
+        behind = length C;
+        eph-is = eph-read m src (length A + length header) tail at-eph;
+        all = sym (length-append (A ++ header) C ∙ ap (λ (z : ℕ). z + length C) (length-append A header));
+      }
+
+  pub record PacketRead (records : List ℕ) (r : ReadResult) : Type 0 where
+    pub words : List ℕ
+    pub answer : r .answer ≡ record { refusal = 0; present = 1; taken = length (withMarkers m number header); segments = length (owedEntry .records); sop = 0; eph = 0 }
+    pub reports : r .reports ≡ reportWords (owedEntry .reports)
+    pub records-are : r .records ≡ overwrite records (recordWords (owedEntry .records))
+    pub state : r .state ≡ set words 3 (t + 1)
+    pub in-step : InStep L s (headerBlocks t ks c ws .words) words
+    pub booked-after : AllBooked (headerBlocks t ks c ws .words) ks (addCounts es (c .counts))
+    pub reader-first : (j : ℕ) → j < 13 → getD words j 0 ≡ getD rs j 0
+
+  pub packet-read : (scratch reports records : List ℕ) → readRefusal rs scratch reports ≡ 0 → 4 * length (owedEntry .records) ≤ length records
+      → take (length (withMarkers m number header)) src ≡ withMarkers m number header → PacketRead records (read rs scratch m src reports records)
+  packet-read scratch reports records why enough e =
+      let F = front-read (length records / 4) (omega arith) e in
+      let h = F .back in
+      let is = read-is rs scratch m src reports records (F .before) (h .words) (h .end) (owedEntry .reports) (owedEntry .records) why (F .sop-is) (h .first-bit) (F .header-back)
+      ∙ present-is rs t m src records (F .before) (h .words) (h .end) (owedEntry .reports) (owedEntry .records) (F .before + length header) (F .behind) l (h .taken) (F .eph-is) in
+      record {
+        words = h .words;
+        answer = ap (λ (r : ReadResult). r .answer) is ∙ ap (λ (z : ℕ). record { refusal = 0; present = 1; taken = z; segments = length (owedEntry .records); sop = 0; eph = 0 }) (F .all);
+        reports = ap (λ (r : ReadResult). r .reports) is;
+        records-are = ap (λ (r : ReadResult). r .records) is;
+        state = ap (λ (r : ReadResult). r .state) is;
+        in-step = h .in-step;
+        booked-after = h .booked;
+        reader-first = h .reader-first;
+      }
+
+  -- however few records are lent, reading the header ends in no refusal or in 13
+  pub header-refusal : (room : ℕ) → take (length (withMarkers m number header)) src ≡ withMarkers m number header
+      → (before : ℕ) × (readSop m src ≡ found before) × (nextBit src (bioAt before) ≡ 1)
+      × ((readHeader src room rs (bioAfter src (bioAt before)) .refusal ≡ 0) ⊎ ((readHeader src room rs (bioAfter src (bioAt before)) .refusal ≡ 13) × (room < length (owedEntry .records))))
+  header-refusal room e =
+      on-lt room n
+      (λ h. let F = front-read n (le-refl n) e in
+      (F .before, F .sop-is, F .back .first-bit, fewer h (F .before) (ap (λ (x : HeaderRead). x .refusal) (F .header-back)) (fewer-records src room n (omega arith) rs (bioAfter src (bioAt (F .before))))))
+      (λ h. let F = front-read room h e in (F .before, F .sop-is, F .back .first-bit, inl (ap (λ (x : HeaderRead). x .refusal) (F .header-back))))
+    where
+      n : ℕ
+      n = length (owedEntry .records)
+
+      fewer : room < n → (before : ℕ) → readHeader src n rs (bioAfter src (bioAt before)) .refusal ≡ 0
+          → SameOr13 (readHeader src room rs (bioAfter src (bioAt before))) (readHeader src n rs (bioAfter src (bioAt before)))
+          → (readHeader src room rs (bioAfter src (bioAt before)) .refusal ≡ 0) ⊎ ((readHeader src room rs (bioAfter src (bioAt before)) .refusal ≡ 13) × (room < n))
+      fewer h before z (inl e) = inl (ap (λ (x : HeaderRead). x .refusal) e ∙ z)
+      fewer h before z (inr e) = inr (e, h)
