@@ -24,3 +24,4 @@ pub mod Start
 pub mod WriterInRange
 pub mod Invariant
 pub mod RoundTrip
+pub mod Corollaries

@@ -1,22 +1,20 @@
 -- With fewer records lent a read of a header goes as with more, or ends in refusal 13.
-use mathlib.Core.Path.{_≡_, refl, sym, ap, _∙_, subst}
+use mathlib.Core.Path.{_≡_, refl, ap, _∙_, subst}
 use mathlib.Core.Logic.{_⊎_, inl, inr}
 use mathlib.Core.Bool.{Bool, true, false, cond, _&&_}
 use mathlib.Core.List.{List, [], _∷_}
 use Prim.Native.Nat.{ℕ, zero, suc, _+_, _-_, _≤_}
 use native.Mathlib.Nat.{le-trans}
-use native.Mathlib.Omega.{arith}
 use lib.ListN.{length}
-use lib.Dec.{ltb, leb, eqb}
+use lib.Dec.{ltb, eqb}
 use borrow.Author.Tests.{lt-leb}
 use Rattle.t800.specs.declared.Bio.{Bio}
 use Rattle.t800.specs.Bits.{getBit, endsInFF}
-use Rattle.t800.specs.TagTree.{value, readPath}
+use Rattle.t800.specs.TagTree.{value}
 use Rattle.t800.specs.Segments.{width}
 use Rattle.t800.specs.State.{Block, blocks, bands, layer, lengthBits}
 use Rattle.t800.specs.WriteHeader.{isNew}
 use Rattle.t800.specs.ReadHeader.{HeaderRead, refused, passesTaken, readSegment, readSegments, readIncluded, readNewBlock, readOldBlock, readBlock, readBlocks, readHeader}
-use Rattle.t800.proofs.Laws.Layout.{inclusion, leafOf}
 use Rattle.t800.proofs.Laws.Tests.{on-le, if-le, if-false}
 
 -- x is read with fewer records, y with more

@@ -1,26 +1,29 @@
 -- The invariant between packets, for whole states: it holds after a start, and each accepted packet and the read of it keep it.
 use mathlib.Core.Path.{_≡_, refl, sym, ap, _∙_, subst}
-use mathlib.Core.Logic.{_≢_}
-use mathlib.Core.Bool.{true}
+use mathlib.Core.Logic.{_≢_, _⊎_, inl, inr}
+use mathlib.Core.Bool.{true, not}
 use mathlib.Core.List.{List, [], _∷_}
-use Prim.Native.Nat.{ℕ, suc, _+_, _-_, _*_, _≤_}
+use Prim.Native.Nat.{ℕ, suc, _+_, _-_, _*_, _/_, _≤_, _<_}
 use native.Mathlib.Nat.{le-trans, le-of-eq}
 use native.Mathlib.Omega.{arith}
 use lib.ListN.{length, set, take, drop, length-take}
 use lib.Seq.{take-append-le}
-use lib.Dec.{T}
+use lib.Dec.{T, eqb}
 use borrow.Author.Tests.{eq-eqb, ne-eqb}
 use Rattle.t800.specs.declared.Band.{Band}
 use Rattle.t800.specs.declared.Markers.{Markers}
 use Rattle.t800.specs.declared.ReadAnswer.{ReadAnswer}
-use Rattle.t800.specs.Bits.{pack}
+use Rattle.t800.specs.declared.Bio.{Bio}
+use Rattle.t800.specs.Bits.{bioAt, pack}
 use Rattle.t800.specs.TagTree.{Coded}
 use Rattle.t800.specs.State.{Block, notYetIncluded, blocks, bands, layer, writer, reader}
 use Rattle.t800.specs.Ranges.{validState}
 use Rattle.t800.specs.Start.{freshState, setZeroPlanes, start}
 use Rattle.t800.specs.WriteHeader.{Contribution}
 use Rattle.t800.specs.MarkerSegments.{withMarkers}
-use Rattle.t800.specs.Packet.{front, readRefusal, read}
+use Rattle.t800.specs.MarkerSegments.{MarkerRead, readSop}
+use Rattle.t800.specs.ReadHeader.{readHeader}
+use Rattle.t800.specs.Packet.{front, ReadResult, readRefusal, readAbsent, readPresent, read}
 use Rattle.t800.specs.Book.{BlockEntry, entryFrom, entry, newBook, addCounts, terminatedAsStyle}
 use Rattle.t800.specs.RoundTrip.{WriteCall, writeOf, accepted, Owed, owedFor, ReadCall, readOf, ReadsPacket, GivesEntry, withMore}
 use Rattle.t800.proofs.Laws.Layout.{Layout, layoutOf, blocks-placed, end-after}
@@ -30,7 +33,9 @@ use Rattle.t800.proofs.Trip.WriterState.{headerBlocks}
 use Rattle.t800.proofs.Trip.InStep.{InStep, layer-in-step}
 use Rattle.t800.proofs.Trip.Booked.{AllBooked, entries-length, layer-booked}
 use Rattle.t800.proofs.Trip.ValidStates.{reader-valid}
-use Rattle.t800.proofs.Trip.Packet.{PacketRead, packet-read}
+use Rattle.t800.proofs.Trip.Packet.{PacketRead, packet-read, header-refusal}
+use Rattle.t800.proofs.Trip.Bits.{nextBit, bioAfter}
+use Rattle.t800.proofs.Laws.Tests.{either}
 use Rattle.t800.proofs.Trip.Calls.{is-accepted}
 use Rattle.t800.proofs.Trip.Start.{started-in-step, started-booked, start-accepted, few-bands}
 use Rattle.t800.proofs.Trip.WriterInRange.{WriterInvariant, writer-after-start, header-coded, blocks-are, layer-left, acceptable, state-is, writer-after}
@@ -123,7 +128,7 @@ module _ (bs : List Band) (s t : ℕ) (ws rs : List ℕ) (es : List BlockEntry) 
   unfolding owedFor
   front-is = is-accepted ws w a .front-is ∙ front-coded ws c (w .markers) (w .number) t ks (W .first-words .layer-is) (blocks-are bs s t ws w W a)
 
-  reports-are : length (owedFor s ws es w .entry .reports) ≡ length ks
+  pub reports-are : length (owedFor s ws es w .entry .reports) ≡ length ks
   unfolding owedFor
   reports-are = let l = entries-length ws ks es (y .booked) in entry-reports s es (c .counts) (c .lengths) (acceptable bs s t ws w W a .counts ∙ sym l) ∙ l
 
@@ -182,3 +187,33 @@ module _ (bs : List Band) (s t : ℕ) (ws rs : List ℕ) (es : List BlockEntry) 
   more-gives r ask more =
       let g = packet-gives (withMore r more) (reads-with-more rs (owedFor s ws es w) r more ask) in
       record { accepts = g .accepts; present = g .present; taken = g .taken; segments = g .segments; sop-mark = g .sop-mark; eph-mark = g .eph-mark; reports = g .reports; records = g .records }
+
+  -- a read of the packet, whatever else is lent: never 9 or 12, and 13 only for want of records
+  abbrev pub Harmless : ReadCall → ℕ → Type 0
+  Harmless r x = (x ≢ 9) × (x ≢ 12) × (x ≡ 13 → length (r .records) < 4 * length (owedFor s ws es w .entry .records))
+
+  pub read-harmless : (r : ReadCall) → r .markers ≡ w .markers → take (length (owedFor s ws es w .front)) (r .input) ≡ owedFor s ws es w .front → Harmless r (readOf rs r .answer .refusal)
+  unfolding read readAbsent readPresent readRefusal owedFor
+  read-harmless r marked begins =
+      let room : ℕ = length (r .records) / 4 in
+      let src : List ℕ = r .input in
+      let P : ℕ → Type 0 = Harmless r in
+      let Q : ReadResult → Type 0 = λ x. P (x .answer .refusal) in
+      let zero-is : P 0 = (omega arith, omega arith, λ e. absurd (omega arith)) in
+      let early : P (readRefusal rs (r .scratch) (r .reports))
+      = either P (not (validState reader rs (length (r .scratch)))) 5 _ (omega arith, omega arith, λ e. absurd (omega arith))
+      (either P (eqb (layer rs) notYetIncluded) 6 _ (omega arith, omega arith, λ e. absurd (omega arith))
+      (either P (not (eqb (length (r .reports)) (4 * length (blocks (bands rs))))) 3 0 (omega arith, omega arith, λ e. absurd (omega arith)) zero-is)) in
+      let begins₂ : take (length fr) src ≡ fr = subst (λ (x : List ℕ). take (length x) src ≡ x) front-is begins in
+      let h = header-refusal (layoutOf bs) s t ks (blocks-placed bs) (layer-left bs s t ws w W a) ws rs es c (W .state) (y .in-step) (y .booked) (acceptable bs s t ws w W a) term (y .reader-first .layer-is)
+      (ap blocks (y .reader-first .bands-are)) (w .markers) (w .number) src room begins₂ in
+      let place : bioAt (readSop (r .markers) src .skip) ≡ bioAt (h .0) = ap (λ (m : Markers). bioAt (readSop m src .skip)) marked ∙ ap (λ (x : MarkerRead). bioAt (x .skip)) (h .1) in
+      let late : P (readHeader src room rs (bioAfter src (bioAt (readSop (r .markers) src .skip))) .refusal)
+      = subst (λ (b : Bio). P (readHeader src room rs (bioAfter src b) .refusal)) (sym place) (by-refusal r (readHeader src room rs (bioAfter src (bioAt (h .0))) .refusal) (h .3)) in
+      either Q (not (eqb (readRefusal rs (r .scratch) (r .reports)) 0)) _ _ early
+      (either Q (eqb (nextBit src (bioAt (readSop (r .markers) src .skip))) 0) _ _ zero-is
+      (either Q (eqb (readHeader src room rs (bioAfter src (bioAt (readSop (r .markers) src .skip))) .refusal) 0) _ _ zero-is late))
+    where
+      by-refusal : (r : ReadCall) (x : ℕ) → (x ≡ 0) ⊎ ((x ≡ 13) × (length (r .records) / 4 < length (entry s es (c .counts) (c .lengths) .records))) → (x ≢ 9) × (x ≢ 12) × (x ≡ 13 → length (r .records) < 4 * length (entry s es (c .counts) (c .lengths) .records))
+      by-refusal r x (inl e) = (omega arith, omega arith, λ z. absurd (omega arith))
+      by-refusal r x (inr e) = (omega (arith, e .0), omega (arith, e .0), λ z. omega (arith, e .1))
