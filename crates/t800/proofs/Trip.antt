@@ -25,3 +25,4 @@ pub mod WriterInRange
 pub mod Invariant
 pub mod RoundTrip
 pub mod Corollaries
+pub mod Example
