@@ -1,6 +1,7 @@
 -- What was packed is read back: over any input that holds the packed bytes from some place on, a reader there takes exactly the bits, the
 -- input doesn't end in a byte FF of theirs, and the bytes taken are the packed ones.
 use mathlib.Core.Path.{_≡_, refl, sym, ap, _∙_}
+use mathlib.Core.Logic.{_≢_}
 use mathlib.Core.Bool.{Bool, true, false, cond}
 use mathlib.Core.List.{List, [], _∷_, _++_}
 use Prim.Native.Nat.{ℕ, zero, suc, _+_, _-_, _*_, _/_, _%_, _^_, _≤_, _<_, min}
@@ -47,12 +48,9 @@ AllBits (x ∷ xs) = (x < 2) × AllBits xs
 abbrev span : ℕ → ℕ
 span c = cond (eqb c 255) 7 8
 
-abbrev stuffed : ℕ → List ℕ
-stuffed c = cond (eqb c 255) (0 ∷ []) []
-
 -- a is what the open byte holds so far, k how many bits are to come in it
 unfoldable packFrom : ℕ → ℕ → List ℕ → List ℕ
-packFrom a k [] = a * 2 ^ k ∷ stuffed (a * 2 ^ k)
+packFrom a k [] = lastBytes (a * 2 ^ k)
 packFrom a zero (x ∷ xs) = a ∷ packFrom x (span a - 1) xs
 packFrom a (suc k) (x ∷ xs) = packFrom (a * 2 + x) k xs
 
@@ -60,13 +58,9 @@ span-is : (a : ℕ) → bitsAfter a ≡ span a
 unfolding bitsAfter
 span-is a = refl
 
-last-is : (a : ℕ) → lastBytes a ≡ a ∷ stuffed a
-unfolding lastBytes
-last-is a = refl
-
 pack-from-is : (bs : List ℕ) (a k : ℕ) → B.packFrom (a * 2 ^ k) k bs ≡ packFrom a k bs
 unfolding packFrom B.packFrom
-pack-from-is [] a k = last-is (a * 2 ^ k)
+pack-from-is [] a k = refl
 pack-from-is (x ∷ xs) a zero =
     let e : a * 2 ^ 0 ≡ a = omega arith in
     rw e (ap (λ (z : List ℕ). a ∷ z) (pack-from-is xs x (bitsAfter a - 1) ∙ ap (λ (z : ℕ). packFrom x (z - 1) xs) (span-is a)))
@@ -86,8 +80,8 @@ record FirstByte (a k : ℕ) (l : List ℕ) : Type 0 where
   is : l ≡ (a * 2 ^ k + low) ∷ rest
 
 first-byte : (a k : ℕ) (bs : List ℕ) → AllBits bs → FirstByte a k (packFrom a k bs)
-unfolding packFrom
-first-byte a k [] h = record { low = 0; rest = stuffed (a * 2 ^ k); small = pow-pos k; is = rw add-zero }
+unfolding packFrom lastBytes
+first-byte a k [] h = record { low = 0; rest = drop 1 (lastBytes (a * 2 ^ k)); small = pow-pos k; is = rw add-zero }
 first-byte a zero (x ∷ xs) h = record { low = 0; rest = packFrom x (span a - 1) xs; small = pow-pos 0; is = ap (λ (z : ℕ). z ∷ packFrom x (span a - 1) xs) (omega arith) }
 first-byte a (suc k) (x ∷ xs) h =
     let r = first-byte (a * 2 + x) k xs (h .1) in
@@ -138,6 +132,15 @@ new-byte c x h = go (eqb c 255)
     go true = omega arith
     go false = omega arith
 
+-- the last byte, FF or not
+last-ff : (c : ℕ) → c ≡ 255 → lastBytes c ≡ c ∷ 0 ∷ []
+unfolding lastBytes
+last-ff c h = ap (λ (z : List ℕ). c ∷ z) (if-eq c 255 _ _ h)
+
+last-other : (c : ℕ) → c ≢ 255 → lastBytes c ≡ c ∷ []
+unfolding lastBytes
+last-other c h = ap (λ (z : List ℕ). c ∷ z) (if-ne c 255 _ _ h)
+
 -- ---- all bits
 
 -- reading bs from b ends where nothing is cut short and n bytes are taken
@@ -164,10 +167,10 @@ module _ (s t : List ℕ) where
   unfolding packFrom endsInFF bytesTaken inFF
   no-bits-left p u a k i low e =
       let c : ℕ = a * 2 ^ k in
-      let f = drop-head s p c (stuffed c ++ t) 0 e in
       on-eq c 255
-      (λ h. let g : stuffed c ≡ 0 ∷ [] = if-eq c 255 _ _ h in
-      let f₂ = drop-head s (suc p) 0 t 0 (f .2 ∙ ap (λ (z : List ℕ). z ++ t) g) in
+      (λ h. let g = last-ff c h in
+      let f = drop-head s p c (0 ∷ t) 0 (e ∙ ap (λ (z : List ℕ). z ++ t) g) in
+      let f₂ = drop-head s (suc p) 0 t 0 (f .2) in
       let ff : eqb (u % 256) 255 ≡ true = eq-eqb (u % 256) 255 (low ∙ f .1 ∙ h) in
       record {
         end = bioWith (suc p) u k;
@@ -175,7 +178,8 @@ module _ (s t : List ℕ) where
         whole = rw ff (ne-eqb (suc p) (length s) (omega (arith, f₂ .0)));
         taken = rw (g, ff) (omega arith);
       })
-      (λ h. let g : stuffed c ≡ [] = if-ne c 255 _ _ h in
+      (λ h. let g = last-other c h in
+      let f = drop-head s p c t 0 (e ∙ ap (λ (z : List ℕ). z ++ t) g) in
       let ff : eqb (u % 256) 255 ≡ false = ne-eqb (u % 256) 255 (omega (arith, low, f .1)) in
       record {
         end = bioWith (suc p) u k;
