@@ -12,7 +12,7 @@ use Rattle.t800.specs.declared.Band.{Band}
 use Rattle.t800.specs.TagTree.{pathToRoot}
 use Rattle.t800.specs.State.{notYetIncluded, notYetPlanes, Block, blockOf, blocksIn, bandNodes, bandLength, blocksFrom, blocksAt, blocks, endOf}
 use Rattle.t800.proofs.Laws.Tests.{if-lt, if-ge}
-use Rattle.t800.proofs.Laws.Paths.{All, NotIn, Rising, rising-from, AllBelow, Ancestors, parentOf, parent-in-tree, LeafPath, leaf-path, addresses, Apart, AllApart, all-addresses, lower-not-in, reversed-apart, address-ancestors}
+use Rattle.t800.proofs.Laws.Paths.{All, NotIn, Rising, rising-from, AllBelow, Ancestors, parentOf, parent-in-tree, LeafPath, leaf-path, addresses, Apart, AllApart, all-addresses, lower-not-in, reversed-apart, address-ancestors, all-reversed}
 
 -- ---- the two trees of a band
 
@@ -76,9 +76,40 @@ abbrev pub AllPlaced : Layout → List Block → Type 0
 AllPlaced L [] = Unit {0}
 AllPlaced L (k ∷ ks) = (Placed L k × SeparateFromAll k ks) × AllPlaced L ks
 
--- a block's leaf is a node
-pub leaf-node : (L : Layout) (t : Tree) (k : Block) → Placed L k → L .Node t (leafOf t k)
-leaf-node L t k P = P .path t .nodes .0
+-- the same tree, or no node shared
+pub on-tree {ℓ} : {X : Type ℓ} (L : Layout) (t u : Tree) → (t ≡ u → X) → (((a b : ℕ) → L .Node t a → L .Node u b → a ≢ b) → X) → X
+on-tree L inclusion inclusion f g = f refl
+on-tree L inclusion zeroPlanes f g = g (λ a b n m. L .other-tree a b n m)
+on-tree L zeroPlanes inclusion f g = g (λ a b n m e. L .other-tree b a m n (sym e))
+on-tree L zeroPlanes zeroPlanes f g = f refl
+
+-- a node's second and third word are no node's first
+pub second-no-node : (L : Layout) (t u : Tree) (a b : ℕ) → L .Node t a → L .Node u b → a + 1 ≢ b
+second-no-node L t u a b n m e = let p = L .nodes-apart t u a b n m (omega arith) in omega arith
+
+pub third-no-node : (L : Layout) (t u : Tree) (a b : ℕ) → L .Node t a → L .Node u b → a + 2 ≢ b
+third-no-node L t u a b n m e = let p = L .nodes-apart t u a b n m (omega arith) in omega arith
+
+-- ---- a block's path
+
+abbrev pub leafToRoot : Tree → Block → List ℕ
+leafToRoot t k = addresses (treeOf t k) (k .path)
+
+abbrev pub rootToLeaf : Tree → Block → List ℕ
+rootToLeaf t k = addresses (treeOf t k) (reverse (k .path))
+
+module _ (L : Layout) (t : Tree) (k : Block) (P : Placed L k) where
+  pub leaf-node : L .Node t (leafOf t k)
+  leaf-node = P .path t .nodes .0
+
+  pub path-nodes : All (L .Node t) (leafToRoot t k)
+  path-nodes = subst (λ (z : List ℕ). All (L .Node t) (addresses (treeOf t k) z)) (sym (P .path-is)) (P .path t .nodes)
+
+  pub from-root-nodes : All (L .Node t) (rootToLeaf t k)
+  from-root-nodes = all-reversed (L .Node t) (treeOf t k) (k .path) path-nodes
+
+  pub from-root-apart : AllApart (rootToLeaf t k)
+  from-root-apart = subst (λ (z : List ℕ). AllApart (addresses (treeOf t k) (reverse z))) (sym (P .path-is)) (P .path t .apart)
 
 -- ---- the layout of given bands, whose words begin at `at`
 

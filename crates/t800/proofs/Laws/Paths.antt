@@ -19,10 +19,6 @@ abbrev pub All : (ℕ → Type 0) → List ℕ → Type 0
 All P [] = Unit {0}
 All P (a ∷ xs) = P a × All P xs
 
-pub all-map : {P Q : ℕ → Type 0} (f : (a : ℕ) → P a → Q a) (xs : List ℕ) → All P xs → All Q xs
-all-map f [] h = tt
-all-map f (a ∷ xs) h = (f a (h .0), all-map f xs (h .1))
-
 -- a is none of them
 abbrev pub NotIn : ℕ → List ℕ → Type 0
 NotIn a xs = All (λ b. a ≢ b) xs

@@ -1,0 +1,243 @@
+-- A started writer and a started reader are in step, in range, and as the new book says.
+use mathlib.Core.Path.{_≡_, refl, sym, ap, _∙_, subst}
+use mathlib.Core.Bool.{Bool, false, cond, _||_, not}
+use mathlib.Core.List.{List, [], _∷_, _++_}
+use Prim.Native.Nat.{ℕ, zero, suc, _+_, _-_, _≤_, _<_}
+use native.Mathlib.Nat.{le-trans, le-of-eq, add-zero}
+use native.Mathlib.Omega.{arith}
+use lib.ListN.{length, getD, take, drop, length-append, length-take, length-drop}
+use lib.Dec.{ltb, eqb}
+use borrow.Author.Tests.{eqb-true, eq-eqb, ltb-false, not-false}
+use Rattle.t800.specs.declared.Band.{Band}
+use Rattle.t800.specs.Base.{any}
+use Rattle.t800.specs.TagTree.{value, low}
+use Rattle.t800.specs.State.{Block, notYetPlanes, blocksIn, bandLength, blocksFrom, blocksAt, blocks, stateLength, writer, style, passesSoFar}
+use Rattle.t800.specs.Ranges.{badShape, badStyle, bandTooDeep, blockTooDeep}
+use Rattle.t800.specs.Start.{freshState, setZeroPlanes, startRefusal, start}
+use Rattle.t800.specs.Book.{BlockEntry, newEntries, newBook}
+use Rattle.t800.proofs.Laws.Tests.{or-left, or-right, not-refused, if-true}
+use Rattle.t800.proofs.Laws.Layout.{Tree, inclusion, zeroPlanes, notYet, leafOf, Layout, AllPlaced, leaf-node, layoutOf, blocks-placed}
+use Rattle.t800.proofs.Laws.FirstWords.{FirstWords, same-first-words}
+use Rattle.t800.proofs.Laws.FreshState.{fresh-length, fresh-node, fresh-block, fresh-first-words}
+use Rattle.t800.proofs.Laws.SetLeaf.{Ordered}
+use Rattle.t800.proofs.Trip.Nodes.{Node, node, Sync, not-known}
+use Rattle.t800.proofs.Trip.NodeWords.{nodeAt}
+use Rattle.t800.proofs.Trip.Trees.{SyncAll}
+use Rattle.t800.proofs.Trip.Limits.{none-after-0}
+use Rattle.t800.proofs.Trip.Changes.{ValuesOnly, nodes-only, block-stays, first-stays}
+use Rattle.t800.proofs.Trip.SetLeaves.{LeavesSet, Leaves, PlanesSet, planes-set}
+use Rattle.t800.proofs.Trip.WriterState.{WriterBlock, WriterState, values-in-range}
+use Rattle.t800.proofs.Trip.InStep.{BlockInStep, InStep, same-in-step}
+use Rattle.t800.proofs.Trip.Booked.{AllBooked}
+use Rattle.t800.proofs.Trip.ValidStates.{Startable}
+
+-- ---- the new book, block by block
+
+abbrev entriesFor : List Block → List ℕ → List BlockEntry
+entriesFor [] ps = []
+entriesFor (k ∷ ks) [] = []
+entriesFor (k ∷ ks) (p ∷ ps) = record { bandPlanes = k .planes; planes = p; passes = 0 } ∷ entriesFor ks ps
+
+entries-from : (at : ℕ) (b : Band) (n i : ℕ) (rest : List Block) (ps : List ℕ) → n ≤ length ps → newEntries n (b .planes) ps ++ entriesFor rest (drop n ps) ≡ entriesFor (blocksFrom at b n i ++ rest) ps
+unfolding newEntries blocksFrom
+entries-from at b zero i rest ps h = refl
+entries-from at b (suc n) i rest [] h = absurd (omega arith)
+entries-from at b (suc n) i rest (p ∷ ps) h = ap (λ (z : List BlockEntry). record { bandPlanes = b .planes; planes = p; passes = 0 } ∷ z) (entries-from at b n (i + 1) rest ps (omega arith))
+
+length-from : (at : ℕ) (b : Band) (n i : ℕ) → length (blocksFrom at b n i) ≡ n
+unfolding blocksFrom
+length-from at b zero i = refl
+length-from at b (suc n) i = ap suc (length-from at b n (i + 1))
+
+new-book-is : (at : ℕ) (bs : List Band) (ps : List ℕ) → length ps ≡ length (blocksAt at bs) → newBook bs ps ≡ entriesFor (blocksAt at bs) ps
+unfolding newBook blocksAt
+new-book-is at [] ps h = refl
+new-book-is at (b ∷ bs) ps h =
+    let n : ℕ = blocksIn b in
+    let rest : List Block = blocksAt (at + bandLength b) bs in
+    let l : length ps ≡ n + length rest = h ∙ length-append (blocksFrom at b n 0) rest ∙ ap (λ (z : ℕ). z + length rest) (length-from at b n 0) in
+    ap (λ (z : List BlockEntry). newEntries n (b .planes) ps ++ z) (new-book-is (at + bandLength b) bs (drop n ps) (length-drop n ps ∙ omega arith)) ∙ entries-from at b n 0 rest ps (omega arith)
+
+-- ---- no block is too deep
+
+abbrev NotTooDeep : List Block → Type 0
+NotTooDeep [] = Unit {0}
+NotTooDeep (k ∷ ks) = (k .planes < notYetPlanes) × NotTooDeep ks
+
+band-not-too-deep : (at : ℕ) (b : Band) (n i : ℕ) (rest : List Block) → b .planes < notYetPlanes → NotTooDeep rest → NotTooDeep (blocksFrom at b n i ++ rest)
+unfolding blocksFrom
+band-not-too-deep at b zero i rest h g = g
+band-not-too-deep at b (suc n) i rest h g = (h, band-not-too-deep at b n (i + 1) rest h g)
+
+not-too-deep : (at : ℕ) (bs : List Band) → bandTooDeep bs ≡ false → NotTooDeep (blocksAt at bs)
+unfolding blocksAt bandTooDeep any
+not-too-deep at [] h = tt
+not-too-deep at (b ∷ bs) h =
+    let rest : Bool = any (λ (c : Band). ltb 998 (c .planes)) bs in
+    band-not-too-deep at b (blocksIn b) 0 (blocksAt (at + bandLength b) bs) (let l = ltb-false 998 (b .planes) (or-left (ltb 998 (b .planes)) rest h) in omega arith)
+    (not-too-deep (at + bandLength b) bs (or-right (ltb 998 (b .planes)) rest h))
+
+-- ---- fresh states
+
+module _ (bs : List Band) (s : ℕ) where
+  abbrev L : Layout
+  L = layoutOf bs
+
+  abbrev fresh : ℕ → List ℕ
+  fresh r = freshState r s bs
+
+  fresh-node-is : (r : ℕ) (t : Tree) (a : ℕ) → L .Node t a → nodeAt (fresh r) a ≡ node (notYet t) 0 0
+  fresh-node-is r t a n = let f = fresh-node r s bs t a n in λ i. record { value = f .0 i; low = f .1 i; known = f .2 i }
+
+  fresh-sync : SyncAll L (fresh 1) (fresh 2)
+  fresh-sync t a n =
+      subst (λ (z : Node). Sync (notYet t) z (nodeAt (fresh 2) a)) (sym (fresh-node-is 1 t a n))
+      (subst (λ (z : Node). Sync (notYet t) (node (notYet t) 0 0) z) (sym (fresh-node-is 2 t a n)) (not-known refl refl refl (omega arith) (omega arith) refl))
+
+  fresh-order : (r : ℕ) → Ordered L (fresh r)
+  fresh-order r t a n = le-of-eq (fresh-node r s bs t (L .parent a) (L .parent-node t a n) .0 ∙ sym (fresh-node r s bs t a n .0))
+
+  fresh-passes : (r p : ℕ) → L .BlockAt p → passesSoFar (fresh r) p ≡ 0
+  fresh-passes r p b = ap (λ (z : ℕ). getD (fresh r) z 0) (sym (add-zero p)) ∙ fresh-block r s bs p b 0 (omega arith)
+
+  fresh-in-step : (p : ℕ) → L .BlockAt p → BlockInStep s (fresh 1) (fresh 2) p
+  fresh-in-step p b =
+      let w = fresh-passes 1 p b in
+      record {
+        passes = fresh-passes 2 p b ∙ sym w;
+        bits = fresh-block 2 s bs p b 1 (omega arith) ∙ sym (fresh-block 1 s bs p b 1 (omega arith));
+        limit = fresh-block 2 s bs p b 2 (omega arith) ∙ sym (none-after-0 s (passesSoFar (fresh 1) p) w .0);
+        used = fresh-block 2 s bs p b 3 (omega arith) ∙ sym (none-after-0 s (passesSoFar (fresh 1) p) w .1);
+      }
+
+  fresh-writer-block : (p : ℕ) → L .BlockAt p → WriterBlock 0 (fresh 1) p
+  fresh-writer-block p b =
+      let w = fresh-passes 1 p b in
+      let l = fresh-block 1 s bs p b 1 (omega arith) in
+      record {
+        most = omega (arith, w);
+        no-bits = λ _. l;
+        some-bits = λ h. absurd (omega (arith, w, h));
+        most-bits = omega (arith, l);
+        no-limit = fresh-block 1 s bs p b 2 (omega arith);
+        no-passes = fresh-block 1 s bs p b 3 (omega arith);
+      }
+
+  fresh-writer-state : WriterState L 0 (fresh 1)
+  fresh-writer-state =
+      record {
+        long = fresh-length 1 s bs;
+        nodes = λ u a n. let f = fresh-node 1 s bs u a n in record { value-in = le-of-eq (f .0); low-in = le-trans (le-of-eq (f .1)) (omega arith); known-in = le-trans (le-of-eq (f .2)) (omega arith) };
+        blocks = fresh-writer-block;
+      }
+
+  fresh-style : (r : ℕ) → style (fresh r) ≡ s
+  unfolding freshState
+  fresh-style r = refl
+
+  -- ---- with the zero planes set
+
+  all-booked : (ks : List Block) (ps vs : List ℕ) → AllPlaced L ks → length ps ≡ length ks → ValuesOnly L zeroPlanes (fresh 1) vs → Leaves zeroPlanes PlanesSet (fresh 1) vs ks ps → NotTooDeep ks
+      → blockTooDeep ks ps ≡ false → AllBooked vs ks (entriesFor ks ps)
+  unfolding blockTooDeep
+  all-booked [] ps vs f l o z d t = tt
+  all-booked (k ∷ ks) [] vs f l o z d t = absurd (omega arith)
+  all-booked (k ∷ ks) (p ∷ ps) vs f l o z d t =
+      let P = f .0 .0 in
+      let i = leaf-node L inclusion k P in
+      let before = fresh-node 1 s bs zeroPlanes (leafOf zeroPlanes k) (leaf-node L zeroPlanes k P) .0 in (
+        record {
+          passes = block-stays L (fresh 1) vs (nodes-only L zeroPlanes (fresh 1) vs o) (k .at) (P .block) .0 ∙ fresh-passes 1 (k .at) (P .block);
+          planes = record {
+            zeros = z .0 (omega (arith, before, d .0));
+            band-is = refl;
+            within = ltb-false (k .planes) p (or-left (ltb (k .planes) p) (blockTooDeep ks ps) t);
+            not-too-deep = d .0;
+          };
+          new = λ _. o .off (leafOf inclusion k) (λ a n. L .other-tree (leafOf inclusion k) a i n) ∙ fresh-node 1 s bs inclusion (leafOf inclusion k) i .0;
+        },
+        all-booked ks ps vs (f .1) (omega arith) o (z .1) (d .1) (or-right (ltb (k .planes) p) (blockTooDeep ks ps) t),
+      )
+
+  abbrev ks : List Block
+  ks = blocks bs
+
+  planes-written : (planes : List ℕ) → LeavesSet L zeroPlanes (fresh 1) (setZeroPlanes ks planes (fresh 1)) ks × Leaves zeroPlanes PlanesSet (fresh 1) (setZeroPlanes ks planes (fresh 1)) ks planes
+  planes-written planes = planes-set L ks planes (fresh 1) (blocks-placed bs) (fresh-length 1 s bs) (λ a n. le-of-eq (fresh-node 1 s bs zeroPlanes a n .1))
+
+  pub started-writer : (planes : List ℕ) → WriterState L 0 (setZeroPlanes ks planes (fresh 1))
+  started-writer planes = values-in-range L zeroPlanes 0 (fresh 1) (setZeroPlanes ks planes (fresh 1)) (planes-written planes .0 .only) fresh-writer-state
+
+  pub started-first-words : (planes : List ℕ) → length bs ≤ 3 → FirstWords 1 bs s 0 (setZeroPlanes ks planes (fresh 1))
+  started-first-words planes few =
+      same-first-words 1 bs s 0 (fresh 1) (setZeroPlanes ks planes (fresh 1)) (first-stays L (fresh 1) (setZeroPlanes ks planes (fresh 1)) (nodes-only L zeroPlanes (fresh 1) (setZeroPlanes ks planes (fresh 1)) (planes-written planes .0 .only)))
+      (fresh-first-words 1 s bs few)
+
+  pub started-in-step : (planes : List ℕ) → InStep L s (setZeroPlanes ks planes (fresh 1)) (fresh 2)
+  started-in-step planes =
+      let q = planes-written planes .0 in
+      let vs : List ℕ = setZeroPlanes ks planes (fresh 1) in
+      let o = nodes-only L zeroPlanes (fresh 1) vs (q .only) in
+      record {
+        sync = q .sync (fresh 2) fresh-sync;
+        order = q .order (fresh-order 1);
+        blocks = λ p b. same-in-step s (fresh 1) (fresh 2) vs (fresh 2) p (block-stays L (fresh 1) vs o p b) (refl, refl, refl, refl) (fresh-in-step p b);
+        writer-length = q .only .long ∙ fresh-length 1 s bs;
+        reader-length = fresh-length 2 s bs;
+        style-is = fresh-style 2;
+      }
+
+  pub started-booked : (planes : List ℕ) → length planes ≡ length ks → bandTooDeep bs ≡ false → blockTooDeep ks planes ≡ false → AllBooked (setZeroPlanes ks planes (fresh 1)) ks (newBook bs planes)
+  unfolding blocks
+  started-booked planes l d t =
+      let q = planes-written planes in
+      let vs : List ℕ = setZeroPlanes ks planes (fresh 1) in
+      subst (AllBooked vs ks) (sym (new-book-is 13 bs planes l)) (all-booked ks planes vs (blocks-placed bs) l (q .0 .only) (q .1) (not-too-deep 13 bs d) t)
+
+-- ---- an accepted start
+
+pub record StartAccepted (r n : ℕ) (given : List Band) (s : ℕ) (planes lent : List ℕ) : Type 0 where
+  pub shape : badShape n (take n given) ≡ false
+  pub style-in : badStyle s ≡ false
+  pub lent-length : length lent ≡ stateLength (take n given)
+  pub planes-length : length planes ≡ cond (eqb r writer) (length (blocks (take n given))) 0
+  pub bands-in : bandTooDeep (take n given) ≡ false
+  pub blocks-in : blockTooDeep (blocks (take n given)) planes ≡ false
+  pub state : start r n given s planes lent .state ≡ setZeroPlanes (blocks (take n given)) planes (freshState r s (take n given))
+
+pub start-accepted : (r n : ℕ) (given : List Band) (s : ℕ) (planes lent : List ℕ) → start r n given s planes lent .answer ≡ 0 → StartAccepted r n given s planes lent
+unfolding start startRefusal
+start-accepted r n given s planes lent e =
+    let bs : List Band = take n given in
+    let ks : List Block = blocks bs in
+    let m : ℕ = cond (eqb r writer) (length ks) 0 in
+    let a : Bool = not (eqb (length lent) (stateLength bs)) in
+    let b : Bool = not (eqb (length planes) m) in
+    let c₁ = not-refused (badShape n bs) 1 _ (omega arith) e in
+    let c₂ = not-refused (badStyle s) 2 _ (omega arith) (c₁ .1) in
+    let c₃ = not-refused (a || b) 3 _ (omega arith) (c₂ .1) in
+    let c₄ = not-refused (bandTooDeep bs || blockTooDeep ks planes) 4 0 (omega arith) (c₃ .1) in
+    record {
+      shape = c₁ .0;
+      style-in = c₂ .0;
+      lent-length = eqb-true (length lent) (stateLength bs) (not-false (eqb (length lent) (stateLength bs)) (or-left a b (c₃ .0)));
+      planes-length = eqb-true (length planes) m (not-false (eqb (length planes) m) (or-right a b (c₃ .0)));
+      bands-in = or-left (bandTooDeep bs) (blockTooDeep ks planes) (c₄ .0);
+      blocks-in = or-right (bandTooDeep bs) (blockTooDeep ks planes) (c₄ .0);
+      state = if-true _ _ _ (eq-eqb _ 0 e);
+    }
+
+-- the bands that are given are at least as many as the count
+pub all-given : (n : ℕ) (given : List Band) → n ≤ length given → length (take n given) ≡ n
+all-given n given h = length-take n given ∙ omega arith
+
+pub few-bands : (n : ℕ) (given : List Band) → badShape n (take n given) ≡ false → length (take n given) ≤ 3
+unfolding badShape
+few-bands n given h =
+    let c = or-left (eqb n 0 || ltb 3 n) _ h in
+    let l : n ≤ 3 = ltb-false 3 n (or-right (eqb n 0) (ltb 3 n) c) in
+    le-trans (le-of-eq (length-take n given)) (omega arith)
+
+pub startable : (r n : ℕ) (given : List Band) (s : ℕ) (planes lent : List ℕ) → n ≤ length given → StartAccepted r n given s planes lent → Startable (take n given) s
+startable r n given s planes lent h a =
+    record { shape = subst (λ (m : ℕ). badShape m (take n given) ≡ false) (sym (all-given n given h)) (a .shape); style-in = a .style-in; planes-in = a .bands-in }
