@@ -1,7 +1,6 @@
 -- After a writer's start each node of a zero-plane tree holds the least zero-plane count of the leaves below it (T.800, B.10.2).
 use mathlib.Core.Path.{_≡_, refl, sym, ap, _∙_, subst, subst₂}
 use mathlib.Core.Logic.{_⊎_, inl, inr}
-use mathlib.Core.Bool.{false}
 use mathlib.Core.List.{List, [], _∷_, _++_}
 use Prim.Native.Nat.{ℕ, zero, suc, _+_, _-_, _*_, _/_, _%_, _≤_, _<_}
 use native.Mathlib.Nat.{le-trans, le-of-eq, le-refl, div-add-mod', mul-comm}
@@ -9,21 +8,17 @@ use native.Mathlib.Omega.{arith}
 use lib.Arith.{digits-lt, digits-div, digits-mod}
 use lib.ListN.{length, getD, set, take, List·getD-eq-default}
 use lib.Seq.{getD-set-same, getD-set-other}
-use lib.Dec.{ltb}
-use borrow.Author.Tests.{ltb-false}
 use Rattle.t800.specs.declared.Band.{Band}
 use Rattle.t800.specs.declared.Level.{Level}
-use Rattle.t800.specs.Base.{any}
 use Rattle.t800.specs.TagTree.{levelsFrom, levels, nodesIn, nodes, pathFrom, pathToRoot, value, setValue}
 use Rattle.t800.specs.State.{Block, notYetPlanes, writer, blocksIn, bandNodes, bandLength, blockOf, blocksFrom, blocksAt, blocks}
-use Rattle.t800.specs.Ranges.{bandTooDeep}
 use Rattle.t800.specs.Start.{freshState, setZeroPlanes, start}
-use Rattle.t800.proofs.Laws.Tests.{on-eq, on-lt, or-left, or-right}
+use Rattle.t800.proofs.Laws.Tests.{on-eq, on-lt}
 use Rattle.t800.proofs.Laws.Paths.{All, Ancestors, size, Halves, levels-halve, row-below, column-below, addresses}
 use Rattle.t800.proofs.Laws.Layout.{Tree, zeroPlanes, notYet, Layout, AllPlaced, NodeFrom, layoutOf, blocks-placed}
 use Rattle.t800.proofs.Laws.FreshState.{fresh-length, fresh-node}
 use Rattle.t800.proofs.Laws.SetLeaf.{lowers, ends, length-setValue, every-word, Ordered, setValue-ordered}
-use Rattle.t800.proofs.Laws.Accepted.{start-accepted}
+use Rattle.t800.proofs.Laws.Accepted.{start-accepted, NotTooDeep, not-too-deep}
 
 -- ---- the claim
 
@@ -220,24 +215,7 @@ module _ (L : Layout) where
 
 -- ---- a node with a leaf below it isn't "not yet"
 
-abbrev PlanesInRange : List Block → Type 0
-PlanesInRange [] = Unit {0}
-PlanesInRange (k ∷ ks) = (k .planes < notYetPlanes) × PlanesInRange ks
-
-planes-from : (at : ℕ) (b : Band) (n i : ℕ) (rest : List Block) → b .planes < notYetPlanes → PlanesInRange rest → PlanesInRange (blocksFrom at b n i ++ rest)
-unfolding blocksFrom
-planes-from at b zero i rest h r = r
-planes-from at b (suc n) i rest h r = (h, planes-from at b n (i + 1) rest h r)
-
-planes-in-range : (at : ℕ) (bs : List Band) → bandTooDeep bs ≡ false → PlanesInRange (blocksAt at bs)
-unfolding blocksAt bandTooDeep any
-planes-in-range at [] h = tt
-planes-in-range at (b ∷ bs) h =
-    let rest = or-right (ltb 998 (b .planes)) (bandTooDeep bs) h in
-    planes-from at b (blocksIn b) 0 (blocksAt (at + bandLength b) bs) (omega (arith, ltb-false 998 (b .planes) (or-left (ltb 998 (b .planes)) (bandTooDeep bs) h)))
-    (planes-in-range (at + bandLength b) bs rest)
-
-below-not-yet : (a v : ℕ) (ks : List Block) (ps : List ℕ) → length ps ≡ length ks → PlanesInRange ks → SomeBelow a ks → AtMostBelow a v ks ps → v < notYetPlanes
+below-not-yet : (a v : ℕ) (ks : List Block) (ps : List ℕ) → length ps ≡ length ks → NotTooDeep ks → SomeBelow a ks → AtMostBelow a v ks ps → v < notYetPlanes
 below-not-yet a v [] ps l r s m = absurd s
 below-not-yet a v (k ∷ ks) [] l r s m = absurd (omega arith)
 below-not-yet a v (k ∷ ks) (p ∷ ps) l r (inl i) m = omega (arith, m .0 i, r .0)
@@ -259,7 +237,7 @@ start-sets-least n given style planes lent e a node =
     let fresh : (t : Tree) (a : ℕ) → L .Node t a → value ws a ≡ notYet t = λ t a n. fresh-node writer style bs t a n .0 in
     let o : Ordered L ws = λ t a n. le-of-eq (fresh t (L .parent a) (L .parent-node t a n) ∙ sym (fresh t a n)) in
     let m : AtMostBelow a (value vs a) ks planes = at-most-below L ks planes vs a f (setZeroPlanes-ordered L ks planes ws f (fresh-length writer style bs) o) (leaves-at-most L ks planes ws f) in
-    let small = below-not-yet a (value vs a) ks planes (A .planes-length) (planes-in-range 13 bs (A .bands-deep)) (some-below 13 bs a node) m in
+    let small = below-not-yet a (value vs a) ks planes (A .planes-length) (not-too-deep 13 bs (A .bands-in)) (some-below 13 bs a node) m in
     subst (λ (z : List ℕ). LeastBelow a (value z a) ks planes) (sym (A .state)) (record { at-most = m; reached = go small (fresh zeroPlanes a node) (stays-or-reached ks planes ws a) })
   where
     go : {v w : ℕ} {R : Type 0} → v < notYetPlanes → w ≡ notYetPlanes → (v ≡ w) ⊎ R → R
