@@ -394,6 +394,11 @@ slip-rows =
           ∷ get 33 2 (0xe5 ∷ 0xe1 ∷ 0x40 ∷ []) (told 1 3 3) (1 ∷ 0 ∷ 5 ∷ 1 ∷ 1 ∷ 0 ∷ 6 ∷ 2 ∷ []) (0 ∷ 1 ∷ 1 ∷ 5 ∷ 1 ∷ 1 ∷ 1 ∷ 1 ∷ 1 ∷ 1 ∷ 1 ∷ 2 ∷ [])
           ∷ [];
     }
+    -- a state at layer 0 is taken as it is, where the crate would reset its trees
+    ∷ one
+    (loads-writer (words 1 0 0 (node 0 0 1) (node 0 0 1) (block 0 0 0 0)) ∷ puts 23 (1 ∷ []) (5 ∷ []) (0 ∷ []) (0x94 ∷ [])
+    ∷ loads-reader (words 2 0 0 (node 0 0 1) (node 0 0 1) (block 0 0 0 0)) ∷ get 23 1 (0x94 ∷ []) (told 1 1 1) (1 ∷ 0 ∷ 5 ∷ 1 ∷ []) (0 ∷ 1 ∷ 1 ∷ 5 ∷ [])
+    ∷ [])
     -- a precinct without blocks
     ∷ record { given = band 0 0 5 ∷ []; planes = []; style = 0; steps = puts 13 [] [] [] (0x80 ∷ []) ∷ get 13 0 (0x80 ∷ []) (told 1 1 0) [] [] ∷ [] }
     ∷ []
