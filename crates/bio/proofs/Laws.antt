@@ -1,0 +1,4 @@
+pub mod HeldWord
+pub mod FreeBits
+pub mod WriteChunks
+pub mod ReadChunks
