@@ -16,7 +16,7 @@ abbrev pub bioOf : ℕ → ℕ → ℕ → Bio
 bioOf p u c = record { bp = p; buf = u; ct = c }
 
 -- a bit where one is free
-put-held : (o : List ℕ) (p u c x : ℕ) → putBit (output o (bioOf p u (suc c))) x ≡ output o (bioOf p (u + x * 2 ^ c) c)
+pub put-held : (o : List ℕ) (p u c x : ℕ) → putBit (output o (bioOf p u (suc c))) x ≡ output o (bioOf p (u + x * 2 ^ c) c)
 unfolding putBit makeRoom holdBit
 put-held o p u c x =
     let e : suc c - 1 ≡ c = omega arith in
