@@ -1,0 +1,123 @@
+// The codes of a packet header: pass counts, and the run of ones that adds to the length bits (t2.rs).
+ghost use mathlib.Core.Path.{_≡_};
+ghost use Prim.Native.Nat.{_+_, _*_, _≤_, min};
+ghost use lib.Dec.{T};
+ghost use lib.ListN.{length};
+ghost use Rattle.t800.specs.PassCount.{passBits, readPasses};
+ghost use Rattle.t800.specs.Segments.{commaBits};
+ghost use Rattle.bio.specs.Writing.{output, putBits, FreeBitsClear};
+ghost use Rattle.bio.specs.Alignment.{decoded};
+ghost use Rattle.t2codes.specs.PassTable.{isPassTable, IsCodewordOf};
+ghost use Rattle.t2codes.specs.CommaCode.{onesLimit, readCommaLimited};
+
+mod pass_codes;
+
+use bio::Decoded;
+use pass_codes::PASS_CODES;
+use t800::Bio;
+
+// The low `len` bits of `value`.
+pub struct Codeword {
+    pub value: u32,
+    pub len: u32,
+}
+
+fn codeword_of(codes: &[u32; 328], n: u32) -> Codeword
+    requires { ⌜ (T (isPassTable (now codes))) × (1 ≤ n) × (n ≤ 164) ⌝ }
+    ensures { λ r. ⌜ IsCodewordOf n r ⌝ }
+{
+    let i = (n - 1) as usize;
+    let j = i + 164;
+    Codeword {
+        value: codes[i],
+        len: codes[j],
+    }
+}
+
+pub fn opj_t2_putnumpasses(out: &mut [u8], b: Bio, n: u32) -> Bio
+    requires { ⌜ (FreeBitsClear b) × (1 ≤ n) × (n ≤ 164) ⌝ }
+    ensures { λ r. ⌜ output (now (out .exit)) r ≡ putBits (output (now (out .entry)) b) (passBits n) ⌝ }
+{
+    let codes = PASS_CODES;
+    let c = codeword_of(&codes, n);
+    bio::opj_bio_write(out, b, c.value, c.len)
+}
+
+fn plus(k: u32, r: Decoded) -> Decoded
+    requires { ⌜ k + r .value ≤ 164 ⌝ }
+    ensures { λ s. ⌜ decoded s ≡ record { value = k + r .value; bio = r .bio } ⌝ }
+{
+    let bio = r.bio;
+    Decoded {
+        value: k + r.value,
+        bio,
+    }
+}
+
+pub fn opj_t2_getnumpasses(src: &[u8], b: Bio) -> Decoded
+    requires { ⌜ b .ct ≤ 8 ⌝ }
+    ensures { λ r. ⌜ decoded r ≡ readPasses (now (src .entry)) b ⌝ }
+{
+    let first = bio::opj_bio_getbit(src, b);
+    if first.value == 0 {
+        let bio = first.bio;
+        return Decoded { value: 1, bio };
+    }
+    let second = bio::opj_bio_getbit(src, first.bio);
+    if second.value == 0 {
+        let bio = second.bio;
+        return Decoded { value: 2, bio };
+    }
+    let two = bio::opj_bio_read(src, second.bio, 2);
+    if two.value <= 2 {
+        return plus(3, two);
+    }
+    let five = bio::opj_bio_read(src, two.bio, 5);
+    if five.value <= 30 {
+        return plus(6, five);
+    }
+    plus(37, bio::opj_bio_read(src, five.bio, 7))
+}
+
+// As many ones as a 32-bit write takes at a time.
+pub fn opj_t2_putcommacode(out: &mut [u8], b: Bio, n: u32) -> Bio
+    requires { ⌜ FreeBitsClear b ⌝ }
+    ensures { λ r. ⌜ output (now (out .exit)) r ≡ putBits (output (now (out .entry)) b) (commaBits n) ⌝ }
+{
+    let mut bio = b;
+    let mut left = n;
+    while 30 < left {
+        bio = bio::opj_bio_write(out, bio, 0x3fff_ffff, 30);
+        left -= 30;
+    }
+    bio::opj_bio_write(out, bio, (2 << left) - 2, left + 1)
+}
+
+fn ones_limit(src: &[u8]) -> u32
+    ensures { λ r. ⌜ r ≡ onesLimit (now (src .entry)) ⌝ }
+{
+    if src.len() < 7 {
+        return src.len() as u32 * 8 + 8;
+    }
+    64
+}
+
+// A longer run of ones than the limit is refused whatever follows, so that it isn't read to its end.
+pub fn opj_t2_getcommacode(src: &[u8], b: Bio) -> Decoded
+    requires { ⌜ b .ct ≤ 8 ⌝ }
+    ensures { λ r. ⌜ decoded r ≡ readCommaLimited (now (src .entry)) b ⌝ }
+{
+    let mut bio = b;
+    let mut value = 0;
+    let mut left = ones_limit(src);
+    while 0 < left {
+        let r = bio::opj_bio_getbit(src, bio);
+        bio = r.bio;
+        if r.value == 0 {
+            return Decoded { value, bio };
+        }
+        value += 1;
+        left -= 1;
+    }
+    Decoded { value, bio }
+}
