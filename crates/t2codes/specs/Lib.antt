@@ -1,2 +1,3 @@
 pub mod PassTable
+pub mod PassCount
 pub mod CommaCode

@@ -8,6 +8,7 @@ ghost use Rattle.t800.specs.Segments.{commaBits};
 ghost use Rattle.bio.specs.Writing.{output, putBits, FreeBitsClear};
 ghost use Rattle.bio.specs.Alignment.{decoded};
 ghost use Rattle.t2codes.specs.PassTable.{isPassTable, IsCodewordOf};
+ghost use Rattle.t2codes.specs.PassCount.{counted, readFrom3};
 ghost use Rattle.t2codes.specs.CommaCode.{onesLimit, readCommaLimited};
 
 mod pass_codes;
@@ -45,13 +46,29 @@ pub fn opj_t2_putnumpasses(out: &mut [u8], b: Bio, n: u32) -> Bio
 
 fn plus(k: u32, r: Decoded) -> Decoded
     requires { ⌜ k + r .value ≤ 164 ⌝ }
-    ensures { λ s. ⌜ decoded s ≡ record { value = k + r .value; bio = r .bio } ⌝ }
+    ensures { λ s. ⌜ decoded s ≡ counted k (decoded r) ⌝ }
 {
     let bio = r.bio;
     Decoded {
         value: k + r.value,
         bio,
     }
+}
+
+// Behind two ones.
+fn passes_from_3(src: &[u8], b: Bio) -> Decoded
+    requires { ⌜ b .ct ≤ 8 ⌝ }
+    ensures { λ r. ⌜ decoded r ≡ readFrom3 (now (src .entry)) b ⌝ }
+{
+    let two = bio::opj_bio_read(src, b, 2);
+    if two.value <= 2 {
+        return plus(3, two);
+    }
+    let five = bio::opj_bio_read(src, two.bio, 5);
+    if five.value <= 30 {
+        return plus(6, five);
+    }
+    plus(37, bio::opj_bio_read(src, five.bio, 7))
 }
 
 pub fn opj_t2_getnumpasses(src: &[u8], b: Bio) -> Decoded
@@ -68,15 +85,7 @@ pub fn opj_t2_getnumpasses(src: &[u8], b: Bio) -> Decoded
         let bio = second.bio;
         return Decoded { value: 2, bio };
     }
-    let two = bio::opj_bio_read(src, second.bio, 2);
-    if two.value <= 2 {
-        return plus(3, two);
-    }
-    let five = bio::opj_bio_read(src, two.bio, 5);
-    if five.value <= 30 {
-        return plus(6, five);
-    }
-    plus(37, bio::opj_bio_read(src, five.bio, 7))
+    passes_from_3(src, second.bio)
 }
 
 // As many ones as a 32-bit write takes at a time.

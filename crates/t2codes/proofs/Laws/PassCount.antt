@@ -11,111 +11,117 @@ use Rattle.t800.specs.declared.Bio.{Bio}
 use Rattle.t800.specs.Bits.{Decoded, getBit, readBits}
 use Rattle.t800.specs.PassCount.{readPasses}
 use Rattle.bio.proofs.Laws.ReadChunks.{getBit-ct, readBits-ct, getBit-place, readBits-place, readBits-below}
+use Rattle.t2codes.specs.PassCount.{counted, readFrom3}
 
-abbrev pub found : ℕ → Bio → Decoded
-found n b = record { value = n; bio = b }
+abbrev pub passes : ℕ → Bio → Decoded
+passes n b = record { value = n; bio = b }
 
--- as the code reads them: each from where the one before ended
+-- ---- as the code reads: each from where the one before ended
+
+pub ct-kept : (r d : Decoded) → r ≡ d → d .bio .ct ≤ 8 → r .bio .ct ≤ 8
+ct-kept r d e h = rw e h
+
 module _ (src : List ℕ) (b : Bio) (first : Decoded) (e1 : first ≡ getBit src b) where
-  pub passes-1 : first .value ≡ 0 → found 1 (first .bio) ≡ readPasses src b
+  pub passes-1 : first .value ≡ 0 → passes 1 (first .bio) ≡ readPasses src b
   unfolding readPasses
-  passes-1 z = ap (λ (d : Decoded). found 1 (d .bio)) e1 ∙ simp (eq-eqb _ _ (sym (ap (λ (d : Decoded). d .value) e1) ∙ z))
+  passes-1 z = ap (λ (d : Decoded). passes 1 (d .bio)) e1 ∙ simp (eq-eqb _ _ (sym (ap (λ (d : Decoded). d .value) e1) ∙ z))
 
-  module _ (some1 : first .value ≡ 0 → ⊥) (second : Decoded) (e2 : second ≡ getBit src (first .bio)) where
+  module _ (one1 : first .value ≡ 0 → ⊥) (second : Decoded) (e2 : second ≡ getBit src (first .bio)) where
     test1 : eqb (getBit src b .value) 0 ≡ false
-    test1 = ne-eqb _ _ (λ q. some1 (ap (λ (d : Decoded). d .value) e1 ∙ q))
+    test1 = ne-eqb _ _ (λ q. one1 (ap (λ (d : Decoded). d .value) e1 ∙ q))
 
     is2 : second ≡ getBit src (getBit src b .bio)
     is2 = e2 ∙ ap (λ (d : Decoded). getBit src (d .bio)) e1
 
-    pub passes-2 : second .value ≡ 0 → found 2 (second .bio) ≡ readPasses src b
+    pub passes-2 : second .value ≡ 0 → passes 2 (second .bio) ≡ readPasses src b
     unfolding readPasses
-    passes-2 z = ap (λ (d : Decoded). found 2 (d .bio)) is2 ∙ simp (test1, eq-eqb _ _ (sym (ap (λ (d : Decoded). d .value) is2) ∙ z))
+    passes-2 z = ap (λ (d : Decoded). passes 2 (d .bio)) is2 ∙ simp (test1, eq-eqb _ _ (sym (ap (λ (d : Decoded). d .value) is2) ∙ z))
 
-    module _ (some2 : second .value ≡ 0 → ⊥) (two : Decoded) (e3 : two ≡ readBits src 2 (second .bio)) where
-      test2 : eqb (getBit src (getBit src b .bio) .value) 0 ≡ false
-      test2 = ne-eqb _ _ (λ q. some2 (ap (λ (d : Decoded). d .value) is2 ∙ q))
+    pub passes-more : (second .value ≡ 0 → ⊥) → readFrom3 src (second .bio) ≡ readPasses src b
+    unfolding readPasses readFrom3
+    passes-more one2 = ap (λ (d : Decoded). readFrom3 src (d .bio)) is2 ∙ simp (test1, ne-eqb _ _ (λ q. one2 (ap (λ (d : Decoded). d .value) is2 ∙ q)))
 
-      is3 : two ≡ readBits src 2 (getBit src (getBit src b .bio) .bio)
-      is3 = e3 ∙ ap (λ (d : Decoded). readBits src 2 (d .bio)) is2
+module _ (src : List ℕ) (b : Bio) (two : Decoded) (e1 : two ≡ readBits src 2 b) where
+  pub from-3 : two .value ≤ 2 → counted 3 two ≡ readFrom3 src b
+  unfolding readFrom3
+  from-3 l = ap (counted 3) e1 ∙ simp (sym (ap (λ (d : Decoded). leb (d .value) 2) e1) ∙ le-leb _ _ l)
 
-      pub passes-3 : two .value ≤ 2 → found (3 + two .value) (two .bio) ≡ readPasses src b
-      unfolding readPasses
-      passes-3 l = ap (λ (d : Decoded). found (3 + d .value) (d .bio)) is3 ∙ simp (test1, test2, sym (ap (λ (d : Decoded). leb (d .value) 2) is3) ∙ le-leb _ _ l)
+  module _ (ones2 : 2 < two .value) (five : Decoded) (e2 : five ≡ readBits src 5 (two .bio)) where
+    test2 : leb (readBits src 2 b .value) 2 ≡ false
+    test2 = sym (ap (λ (d : Decoded). leb (d .value) 2) e1) ∙ lt-leb _ _ ones2
 
-      module _ (over2 : 2 < two .value) (five : Decoded) (e4 : five ≡ readBits src 5 (two .bio)) where
-        test3 : leb (readBits src 2 (getBit src (getBit src b .bio) .bio) .value) 2 ≡ false
-        test3 = sym (ap (λ (d : Decoded). leb (d .value) 2) is3) ∙ lt-leb _ _ over2
+    is5 : five ≡ readBits src 5 (readBits src 2 b .bio)
+    is5 = e2 ∙ ap (λ (d : Decoded). readBits src 5 (d .bio)) e1
 
-        is4 : five ≡ readBits src 5 (readBits src 2 (getBit src (getBit src b .bio) .bio) .bio)
-        is4 = e4 ∙ ap (λ (d : Decoded). readBits src 5 (d .bio)) is3
+    pub from-6 : five .value ≤ 30 → counted 6 five ≡ readFrom3 src b
+    unfolding readFrom3
+    from-6 l = ap (counted 6) is5 ∙ simp (test2, sym (ap (λ (d : Decoded). leb (d .value) 30) is5) ∙ le-leb _ _ l)
 
-        pub passes-6 : five .value ≤ 30 → found (6 + five .value) (five .bio) ≡ readPasses src b
-        unfolding readPasses
-        passes-6 l = ap (λ (d : Decoded). found (6 + d .value) (d .bio)) is4 ∙ simp (test1, test2, test3, sym (ap (λ (d : Decoded). leb (d .value) 30) is4) ∙ le-leb _ _ l)
-
-        module _ (over30 : 30 < five .value) (seven : Decoded) (e5 : seven ≡ readBits src 7 (five .bio)) where
-          pub passes-37 : found (37 + seven .value) (seven .bio) ≡ readPasses src b
-          unfolding readPasses
-          passes-37 =
-              ap (λ (d : Decoded). found (37 + d .value) (d .bio)) (e5 ∙ ap (λ (d : Decoded). readBits src 7 (d .bio)) is4)
-              ∙ simp (test1, test2, test3, sym (ap (λ (d : Decoded). leb (d .value) 30) is4) ∙ lt-leb _ _ over30)
+    module _ (ones5 : 30 < five .value) (seven : Decoded) (e3 : seven ≡ readBits src 7 (five .bio)) where
+      pub from-37 : counted 37 seven ≡ readFrom3 src b
+      unfolding readFrom3
+      from-37 =
+          ap (counted 37) (e3 ∙ ap (λ (d : Decoded). readBits src 7 (d .bio)) is5)
+          ∙ simp (test2, sym (ap (λ (d : Decoded). leb (d .value) 30) is5) ∙ lt-leb _ _ ones5)
 
 -- ---- what it keeps
 
--- where reading can end, behind 1, 2, 4, 9 or 16 bits
-abbrev bit1 : List ℕ → Bio → Decoded
-bit1 src b = getBit src b
-
-abbrev bit2 : List ℕ → Bio → Decoded
-bit2 src b = getBit src (bit1 src b .bio)
-
-abbrev bits4 : List ℕ → Bio → Decoded
-bits4 src b = readBits src 2 (bit2 src b .bio)
-
-abbrev bits9 : List ℕ → Bio → Decoded
-bits9 src b = readBits src 5 (bits4 src b .bio)
-
-abbrev bits16 : List ℕ → Bio → Decoded
-bits16 src b = readBits src 7 (bits9 src b .bio)
-
 module _ (P : Decoded → Type 0) where
-  one-of : (t : Bool) (x y : Decoded) → P x → P y → P (cond t x y)
-  one-of true x y p q = p
-  one-of false x y p q = q
+  either : (t : Bool) (x y : Decoded) → P x → P y → P (cond t x y)
+  either true x y p q = p
+  either false x y p q = q
 
-  one-of-five : (s t u v : Bool) (r1 r2 r3 r4 r5 : Decoded) → P r1 → P r2 → P r3 → P r4 → P r5 → P (cond s r1 (cond t r2 (cond u r3 (cond v r4 r5))))
-  one-of-five s t u v r1 r2 r3 r4 r5 p1 p2 p3 p4 p5 = one-of s r1 _ p1 (one-of t r2 _ p2 (one-of u r3 _ p3 (one-of v r4 r5 p4 p5)))
+  from3-each : (src : List ℕ) (b : Bio) → let two = readBits src 2 b in let five = readBits src 5 (two .bio) in
+      P (counted 3 two) → P (counted 6 five) → P (counted 37 (readBits src 7 (five .bio))) → P (readFrom3 src b)
+  unfolding readFrom3
+  from3-each src b p3 p6 p37 =
+      let two = readBits src 2 b in
+      let five = readBits src 5 (two .bio) in
+      let seven = readBits src 7 (five .bio) in
+      either (leb (two .value) 2) (counted 3 two) _ p3 (either (leb (five .value) 30) (counted 6 five) (counted 37 seven) p6 p37)
 
-  passes-each : (src : List ℕ) (b : Bio) → P (found 1 (bit1 src b .bio)) → P (found 2 (bit2 src b .bio)) → P (found (3 + bits4 src b .value) (bits4 src b .bio))
-      → P (found (6 + bits9 src b .value) (bits9 src b .bio)) → P (found (37 + bits16 src b .value) (bits16 src b .bio)) → P (readPasses src b)
-  unfolding readPasses
-  passes-each src b p1 p2 p3 p4 p5 =
-      one-of-five (eqb (bit1 src b .value) 0) (eqb (bit2 src b .value) 0) (leb (bits4 src b .value) 2) (leb (bits9 src b .value) 30)
-      (found 1 (bit1 src b .bio)) (found 2 (bit2 src b .bio)) (found (3 + bits4 src b .value) (bits4 src b .bio)) (found (6 + bits9 src b .value) (bits9 src b .bio))
-      (found (37 + bits16 src b .value) (bits16 src b .bio))
-      p1 p2 p3 p4 p5
+  passes-each : (src : List ℕ) (b : Bio) → let first = getBit src b in let second = getBit src (first .bio) in
+      P (passes 1 (first .bio)) → P (passes 2 (second .bio)) → P (readFrom3 src (second .bio)) → P (readPasses src b)
+  unfolding readPasses readFrom3
+  passes-each src b p1 p2 p3 =
+      let first = getBit src b in
+      let second = getBit src (first .bio) in
+      either (eqb (first .value) 0) (passes 1 (first .bio)) _ p1 (either (eqb (second .value) 0) (passes 2 (second .bio)) (readFrom3 src (second .bio)) p2 p3)
+
+module _ (src : List ℕ) (b : Bio) where
+  from3-ct : b .ct ≤ 8 → readFrom3 src b .bio .ct ≤ 8
+  from3-ct h =
+      let h2 = readBits-ct src 2 b h in
+      let h5 = readBits-ct src 5 _ h2 in
+      from3-each (λ d. d .bio .ct ≤ 8) src b h2 h5 (readBits-ct src 7 _ h5)
+
+  from3-place : b .bp ≤ length src + 1 → readFrom3 src b .bio .bp ≤ length src + 1
+  from3-place h =
+      let h2 = readBits-place src 2 b h in
+      let h5 = readBits-place src 5 _ h2 in
+      from3-each (λ d. d .bio .bp ≤ length src + 1) src b h2 h5 (readBits-place src 7 _ h5)
+
+  from3-between : (1 ≤ readFrom3 src b .value) × (readFrom3 src b .value ≤ 164)
+  from3-between =
+      let two = readBits src 2 b in
+      let five = readBits src 5 (two .bio) in
+      let l2 = readBits-below src 2 b in
+      let l5 = readBits-below src 5 (two .bio) in
+      let l7 = readBits-below src 7 (five .bio) in
+      from3-each (λ d. (1 ≤ d .value) × (d .value ≤ 164)) src b (omega arith) (omega arith) (omega arith)
 
 module _ (src : List ℕ) (b : Bio) where
   pub passes-ct : b .ct ≤ 8 → readPasses src b .bio .ct ≤ 8
   passes-ct h =
       let h1 = getBit-ct src b h in
-      let h2 = getBit-ct src (bit1 src b .bio) h1 in
-      let h4 = readBits-ct src 2 (bit2 src b .bio) h2 in
-      let h9 = readBits-ct src 5 (bits4 src b .bio) h4 in
-      passes-each (λ d. d .bio .ct ≤ 8) src b h1 h2 h4 h9 (readBits-ct src 7 (bits9 src b .bio) h9)
+      let h2 = getBit-ct src _ h1 in
+      passes-each (λ d. d .bio .ct ≤ 8) src b h1 h2 (from3-ct src _ h2)
 
   pub passes-place : b .bp ≤ length src + 1 → readPasses src b .bio .bp ≤ length src + 1
   passes-place h =
       let h1 = getBit-place src b h in
-      let h2 = getBit-place src (bit1 src b .bio) h1 in
-      let h4 = readBits-place src 2 (bit2 src b .bio) h2 in
-      let h9 = readBits-place src 5 (bits4 src b .bio) h4 in
-      passes-each (λ d. d .bio .bp ≤ length src + 1) src b h1 h2 h4 h9 (readBits-place src 7 (bits9 src b .bio) h9)
+      let h2 = getBit-place src _ h1 in
+      passes-each (λ d. d .bio .bp ≤ length src + 1) src b h1 h2 (from3-place src _ h2)
 
   pub passes-between : (1 ≤ readPasses src b .value) × (readPasses src b .value ≤ 164)
-  passes-between =
-      let b4 = readBits-below src 2 (bit2 src b .bio) in
-      let b9 = readBits-below src 5 (bits4 src b .bio) in
-      let b16 = readBits-below src 7 (bits9 src b .bio) in
-      passes-each (λ d. (1 ≤ d .value) × (d .value ≤ 164)) src b (omega arith) (omega arith) (omega arith) (omega arith) (omega arith)
+  passes-between = passes-each (λ d. (1 ≤ d .value) × (d .value ≤ 164)) src b (omega arith) (omega arith) (from3-between src _)
