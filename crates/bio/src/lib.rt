@@ -7,7 +7,7 @@ ghost use lib.ListN.{length, set};
 ghost use Rattle.t800.specs.Bits.{bitsOf, bioAt, byteIn, getBit, readBits};
 ghost use Rattle.bio.specs.Writing.{output, emptyAt, placeAfter, byteOut, makeRoom, putBit, putBits, flush, FreeBitsClear};
 ghost use Rattle.bio.specs.Chunks.{holdBits, refill, heldBits};
-ghost use Rattle.bio.specs.Alignment.{decoded, alignedAt};
+ghost use Rattle.bio.specs.Reading.{decoded, alignedAt};
 use t800::Bio;
 
 // A number that was read, and where reading goes on.
@@ -32,11 +32,11 @@ pub fn opj_bio_init_enc(start: usize) -> Bio
     }
 }
 
-pub fn opj_bio_init_dec(start: usize) -> Bio
-    ensures { λ r. ⌜ r ≡ bioAt start ⌝ }
+pub fn opj_bio_init_dec(at: usize) -> Bio
+    ensures { λ r. ⌜ r ≡ bioAt at ⌝ }
 {
     Bio {
-        bp: start,
+        bp: at,
         buf: 0,
         ct: 0,
     }

@@ -6,7 +6,7 @@ ghost use lib.ListN.{length};
 ghost use Rattle.t800.specs.PassCount.{passBits, readPasses};
 ghost use Rattle.t800.specs.Segments.{commaBits};
 ghost use Rattle.bio.specs.Writing.{output, putBits, FreeBitsClear};
-ghost use Rattle.bio.specs.Alignment.{decoded};
+ghost use Rattle.bio.specs.Reading.{decoded};
 ghost use Rattle.t2codes.specs.PassTable.{isPassTable, IsCodewordOf};
 ghost use Rattle.t2codes.specs.PassCount.{counted, readFrom3};
 ghost use Rattle.t2codes.specs.CommaCode.{onesLimit, readCommaLimited};
@@ -18,9 +18,9 @@ use pass_codes::PASS_CODES;
 use t800::Bio;
 
 // The low `len` bits of `value`.
-pub struct Codeword {
-    pub value: u32,
-    pub len: u32,
+struct Codeword {
+    value: u32,
+    len: u32,
 }
 
 fn codeword_of(codes: &[u32; 328], n: u32) -> Codeword

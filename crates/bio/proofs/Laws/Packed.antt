@@ -31,9 +31,10 @@ byte-takes (suc (suc (suc (suc (suc (suc (suc (suc c)))))))) u x l e h = absurd 
 
 -- ---- bytes stored from p on
 
--- an output e is o with the bytes from p on, and its place is behind them
-abbrev pub Stores : Output → List ℕ → ℕ → List ℕ → Type 0
-Stores e o p bytes = (e .bytes ≡ sets o p bytes) × (e .bio .bp ≡ min (p + length bytes) lastPlace)
+-- the output e is o with the bytes from p on, where it has room for them, and its place is behind them
+pub record Stores (e : Output) (o : List ℕ) (p : ℕ) (bytes : List ℕ) : Type 0 where
+  pub stored : e .bytes ≡ sets o p bytes
+  pub place : e .bio .bp ≡ min (p + length bytes) lastPlace
 
 sets-out : (vs l : List ℕ) (i : ℕ) → length l ≤ i → sets l i vs ≡ l
 sets-out [] l i h = refl
@@ -58,8 +59,8 @@ stores-cons : (e : Output) (o : List ℕ) (p v : ℕ) (vs : List ℕ) → length
 unfolding placeAfter
 stores-cons e o p v vs l s =
     let n = length-set o p v in
-    let b = s .1 in
-    (s .0 ∙ sets-after vs (set o p v) p (ltb p lastPlace) refl (omega arith), omega arith)
+    let b = s .place in
+    record { stored = s .stored ∙ sets-after vs (set o p v) p (ltb p lastPlace) refl (omega arith); place = omega arith }
 
 -- ---- the last byte
 
@@ -76,10 +77,10 @@ unfolding flush byteOut placeAfter
 flush-by o p u c true e l =
     let m = moved-ff u true e in
     let z : u * 256 % 65536 % 256 ≡ 0 = omega arith in
-    stores-cons (flush (output o (bioOf p u c))) o p (u % 256) (0 ∷ []) l (simp (m, z), simp m (omega arith))
+    stores-cons (flush (output o (bioOf p u c))) o p (u % 256) (0 ∷ []) l (record { stored = simp (m, z); place = simp m (omega arith) })
 flush-by o p u c false e l =
     let m = moved-ff u false e in
-    stores-cons (flush (output o (bioOf p u c))) o p (u % 256) [] l (simp m, simp m (omega arith))
+    stores-cons (flush (output o (bioOf p u c))) o p (u % 256) [] l (record { stored = simp m; place = simp m (omega arith) })
 
 flush-stores : (o : List ℕ) (p u c : ℕ) → length o ≤ lastPlace → Stores (flush (output o (bioOf p u c))) o p (lastBytes (u % 256))
 unfolding lastBytes
@@ -131,8 +132,8 @@ flushed-is-packed bytes p bits are l = stores-packed bits bytes p 0 8 (emptyAt-c
 -- A place that there is, is behind them; and where the output has room for all, it is as it was before and behind them.
 module _ (bytes : List ℕ) (p : ℕ) (bits : List ℕ) (are : AreBits bits) (l : length bytes ≤ lastPlace) where
   pub packed-place : p + length (pack bits) ≤ lastPlace → flush (putBits (output bytes (emptyAt p)) bits) .bio .bp ≡ p + length (pack bits)
-  packed-place h = omega (arith, flushed-is-packed bytes p bits are l .1)
+  packed-place h = omega (arith, flushed-is-packed bytes p bits are l .place)
 
   pub packed-whole : p + length (pack bits) ≤ length bytes
       → flush (putBits (output bytes (emptyAt p)) bits) .bytes ≡ take p bytes ++ pack bits ++ drop (p + length (pack bits)) bytes
-  packed-whole h = flushed-is-packed bytes p bits are l .0 ∙ sets-eq (pack bits) bytes p h
+  packed-whole h = flushed-is-packed bytes p bits are l .stored ∙ sets-eq (pack bits) bytes p h

@@ -60,14 +60,14 @@ holdBit-is b bit h = let e : bit % 2 ≡ bit = omega arith in rw e
 
 -- ---- room is made once
 
-makeRoom-twice : (o : Output) → FreeBitsClear (o .bio) → makeRoom (makeRoom o) ≡ makeRoom o
+pub makeRoom-twice : (o : Output) → FreeBitsClear (o .bio) → makeRoom (makeRoom o) ≡ makeRoom o
 unfolding makeRoom
 makeRoom-twice o h =
     let r = makeRoom-clear o h in
     let z : makeRoom o .bio .ct ≡ 0 → ⊥ = omega arith in
     simp (ne-eqb _ _ z)
 
-put-from-room : (o : Output) (x : ℕ) (xs : List ℕ) → FreeBitsClear (o .bio) → putBits (makeRoom o) (x ∷ xs) ≡ putBits o (x ∷ xs)
+pub put-from-room : (o : Output) (x : ℕ) (xs : List ℕ) → FreeBitsClear (o .bio) → putBits (makeRoom o) (x ∷ xs) ≡ putBits o (x ∷ xs)
 unfolding putBits putBit
 put-from-room o x xs h = ap (λ (s : Output). putBits (output (s .bytes) (holdBit (s .bio) x)) xs) (makeRoom-twice o h)
 

@@ -1,6 +1,7 @@
 -- `bio::opj_bio_getbit` meets its contract.
 -- Assumes nothing.
 use mathlib.Core.Path.{ap, _∙_}
+use native.Mathlib.Omega.{arith}
 use borrow.Author.Needs.{needs}
 use Rattle.t800.specs.declared.Bio.{Bio}
 use Rattle.bio.specs.Chunks.{refill, heldBits}
@@ -15,8 +16,8 @@ held-bits-requires : tie.Need-held-bits-requires
 held-bits-requires c κs =
     let s = c .before .before in
     let r = refill-ct (s .args .src .now) (s .args .b) (s .pre) in
-    let e = c .refill .ensures in
-    (rw e (r .0), rw e (r .1))
+    let ct = ap (λ (b : Bio). b .ct) (c .refill .ensures) in
+    omega arith
 
 returns : tie.Need-returns
 returns c =

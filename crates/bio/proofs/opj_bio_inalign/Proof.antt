@@ -8,7 +8,7 @@ use lib.Bits.{and-mask}
 use borrow.Author.Needs.{needs}
 use borrow.Author.Tests.{eq-eqb, ne-eqb}
 use Rattle.t800.specs.Bits.{inFF, endsInFF, bytesTaken, bioAt}
-use Rattle.bio.specs.Alignment.{alignedAt}
+use Rattle.bio.specs.Reading.{alignedAt}
 use Rattle.bio.proofs.opj_bio_inalign.Statement.{statement}
 use Rattle.bio.proofs.opj_bio_inalign.Tie as tie
 

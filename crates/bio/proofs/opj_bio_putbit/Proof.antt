@@ -1,7 +1,9 @@
 -- `bio::opj_bio_putbit` meets its contract.
 -- Assumes nothing.
 use mathlib.Core.Path.{ap, _∙_}
+use native.Mathlib.Omega.{arith}
 use borrow.Author.Needs.{needs}
+use Rattle.t800.specs.declared.Bio.{Bio}
 use Rattle.bio.specs.Writing.{Output, output, holdBit, putBit}
 use Rattle.bio.proofs.Laws.FreeBits.{makeRoom-clear}
 use Rattle.bio.proofs.Laws.WriteChunks.{holdBit-is}
@@ -16,7 +18,8 @@ hold-bits-requires c κs =
     let s = c .before .before .before .before .before in
     let r = makeRoom-clear (output (s .args .out .now) (s .args .b)) (s .pre .0) in
     let e = ap (λ (o : Output). o .bio) (c .before .before .make-room .ensures) in
-    (rw e (r .0), rw e (r .1))
+    let ct = ap (λ (b : Bio). b .ct) e in
+    (rw e (r .0), omega (arith, r .1))
 
 same-length : tie.Need-same-length
 same-length c = search needs

@@ -1,4 +1,4 @@
--- What the code's structs say in t800's terms, and the header's end as they give it.
+-- Bits of a packet header as they are read: t800's own steps, in the code's structs; and the header's end.
 use mathlib.Core.Bool.{not}
 use mathlib.Core.List.{List}
 use Prim.Native.Nat.{ℕ}
