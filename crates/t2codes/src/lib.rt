@@ -1,8 +1,7 @@
 // The codes of a packet header: pass counts, and the run of ones that adds to the length bits (t2.rs).
 ghost use mathlib.Core.Path.{_≡_};
-ghost use Prim.Native.Nat.{_+_, _*_, _≤_, min};
+ghost use Prim.Native.Nat.{_+_, _≤_};
 ghost use lib.Dec.{T};
-ghost use lib.ListN.{length};
 ghost use Rattle.t800.specs.PassCount.{passBits, readPasses};
 ghost use Rattle.t800.specs.Segments.{commaBits};
 ghost use Rattle.bio.specs.Writing.{output, putBits, FreeBitsClear};
@@ -11,7 +10,7 @@ ghost use Rattle.t2codes.specs.PassTable.{isPassTable, IsCodewordOf};
 ghost use Rattle.t2codes.specs.PassCount.{counted, readFrom3};
 ghost use Rattle.t2codes.specs.CommaCode.{onesLimit, readCommaLimited};
 
-mod pass_codes;
+pub mod pass_codes;
 
 use bio::Decoded;
 use pass_codes::PASS_CODES;
@@ -35,13 +34,21 @@ fn codeword_of(codes: &[u32; 328], n: u32) -> Codeword
     }
 }
 
+// With the table lent: a caller that puts many makes it once, since a constant array is made anew wherever it is named.
+pub fn put_pass_codeword(codes: &[u32; 328], out: &mut [u8], b: Bio, n: u32) -> Bio
+    requires { ⌜ (T (isPassTable (now codes))) × (FreeBitsClear b) × (1 ≤ n) × (n ≤ 164) ⌝ }
+    ensures { λ r. ⌜ output (now (out .exit)) r ≡ putBits (output (now (out .entry)) b) (passBits n) ⌝ }
+{
+    let c = codeword_of(codes, n);
+    bio::opj_bio_write(out, b, c.value, c.len)
+}
+
 pub fn opj_t2_putnumpasses(out: &mut [u8], b: Bio, n: u32) -> Bio
     requires { ⌜ (FreeBitsClear b) × (1 ≤ n) × (n ≤ 164) ⌝ }
     ensures { λ r. ⌜ output (now (out .exit)) r ≡ putBits (output (now (out .entry)) b) (passBits n) ⌝ }
 {
     let codes = PASS_CODES;
-    let c = codeword_of(&codes, n);
-    bio::opj_bio_write(out, b, c.value, c.len)
+    put_pass_codeword(&codes, out, b, n)
 }
 
 fn plus(k: u32, r: Decoded) -> Decoded
@@ -88,7 +95,7 @@ pub fn opj_t2_getnumpasses(src: &[u8], b: Bio) -> Decoded
     passes_from_3(src, second.bio)
 }
 
-// As many ones as a 32-bit write takes at a time.
+// Thirty ones at a time, and the rest with the zero as one number.
 pub fn opj_t2_putcommacode(out: &mut [u8], b: Bio, n: u32) -> Bio
     requires { ⌜ FreeBitsClear b ⌝ }
     ensures { λ r. ⌜ output (now (out .exit)) r ≡ putBits (output (now (out .entry)) b) (commaBits n) ⌝ }
@@ -102,16 +109,19 @@ pub fn opj_t2_putcommacode(out: &mut [u8], b: Bio, n: u32) -> Bio
     bio::opj_bio_write(out, bio, (2 << left) - 2, left + 1)
 }
 
+// A length field is at most 32 bits wide, so that a run of 30 ones or more is refused whatever follows, and isn't read to its end.
+const MOST_ONES: u32 = 64;
+
+// For inputs of fewer than 56 bits, the definition's own bound on the ones.
 fn ones_limit(src: &[u8]) -> u32
     ensures { λ r. ⌜ r ≡ onesLimit (now (src .entry)) ⌝ }
 {
     if src.len() < 7 {
         return src.len() as u32 * 8 + 8;
     }
-    64
+    MOST_ONES
 }
 
-// A longer run of ones than the limit is refused whatever follows, so that it isn't read to its end.
 pub fn opj_t2_getcommacode(src: &[u8], b: Bio) -> Decoded
     requires { ⌜ b .ct ≤ 8 ⌝ }
     ensures { λ r. ⌜ decoded r ≡ readCommaLimited (now (src .entry)) b ⌝ }

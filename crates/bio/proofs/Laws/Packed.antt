@@ -106,20 +106,23 @@ stores-packed [] o p u c h are l = flush-stores o p u c l
 stores-packed (x ∷ xs) o p u zero h are l =
     let t = eqb (u % 256) 255 in
     let k = cond t 7 8 - 1 in
+    let o′ = set o p (u % 256) in
+    let p′ = placeAfter p in
+    let u′ = u * 256 % 65536 + x * 2 ^ k in
     let q = out-then-held o p u x t refl in
     let n = length-set o p (u % 256) in
     let clear = subst (λ (e : Output). FreeBitsClear (e .bio)) q (putBit-clear (output o (bioOf p u 0)) x h) in
-    let rest = stores-packed xs (set o p (u % 256)) (placeAfter p) (u * 256 % 65536 + x * 2 ^ k) k clear (are .1) (omega arith) in
-    stores-cons (flush (putBits (output o (bioOf p u 0)) (x ∷ xs))) o p (u % 256) (packFrom (x * 2 ^ k) k xs) l
-    (subst (λ (e : Output). Stores (flush (putBits e xs)) (set o p (u % 256)) (placeAfter p) (packFrom (x * 2 ^ k) k xs)) (sym q)
-    (subst (λ (v : ℕ). Stores (flush (putBits (output (set o p (u % 256)) (bioOf (placeAfter p) (u * 256 % 65536 + x * 2 ^ k) k)) xs)) (set o p (u % 256)) (placeAfter p) (packFrom v k xs)) (first-bit t u x (are .0)) rest))
+    let rest = stores-packed xs o′ p′ u′ k clear (are .1) (omega arith) in
+    let packed = subst (λ (v : ℕ). Stores (flush (putBits (output o′ (bioOf p′ u′ k)) xs)) o′ p′ (packFrom v k xs)) (first-bit t u x (are .0)) rest in
+    stores-cons (flush (putBits (output o (bioOf p u 0)) (x ∷ xs))) o p (u % 256) (packFrom (x * 2 ^ k) k xs) l (rw q packed)
 stores-packed (x ∷ xs) o p u (suc c) h are l =
+    let u′ = u + x * 2 ^ c in
     let q = put-held o p u c x in
     let few = h .atMostEight in
     let clear = subst (λ (e : Output). FreeBitsClear (e .bio)) q (putBit-clear (output o (bioOf p u (suc c))) x h) in
-    let rest = stores-packed xs o p (u + x * 2 ^ c) c clear (are .1) l in
-    subst (λ (e : Output). Stores (flush (putBits e xs)) o p (packFrom (u % 256 + x * 2 ^ c) c xs)) (sym q)
-    (subst (λ (v : ℕ). Stores (flush (putBits (output o (bioOf p (u + x * 2 ^ c) c)) xs)) o p (packFrom v c xs)) (byte-takes c u x (omega arith) (h .clear) (are .0)) rest)
+    let rest = stores-packed xs o p u′ c clear (are .1) l in
+    let packed = subst (λ (v : ℕ). Stores (flush (putBits (output o (bioOf p u′ c)) xs)) o p (packFrom v c xs)) (byte-takes c u x (omega arith) (h .clear) (are .0)) rest in
+    rw q packed
 
 -- ---- from the start
 
