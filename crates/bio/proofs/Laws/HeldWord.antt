@@ -1,0 +1,49 @@
+-- Shifts and masks of the held word as plain arithmetic.
+use mathlib.Core.Path.{_≡_, refl, _∙_, ap, subst}
+use Prim.Native.Nat.{ℕ, zero, suc, _+_, _-_, _*_, _/_, _%_, _^_, _<_, _≤_}
+use native.Mathlib.Nat.{mul-le-mul-right}
+use native.Mathlib.Omega.{arith}
+use lib.Bits.{bitAnd, bitOr, and-mask, or-shifted}
+use lib.Pow.{shl-exact, shl-lt, split, pow-add}
+use Rattle.t800.specs.declared.Bio.{Bio}
+
+pub bio≡ : (x y : Bio) → x .bp ≡ y .bp → x .buf ≡ y .buf → x .ct ≡ y .ct → x ≡ y
+bio≡ x y p q r = λ i. record { bp = p i; buf = q i; ct = r i }
+
+-- (u << 8) & 0xffff
+pub moved-is : (u : ℕ) → bitAnd (u * 256 % 4294967296) 65535 ≡ u * 256 % 65536
+moved-is u = and-mask (u * 256 % 4294967296) 16 ∙ omega arith
+
+-- a byte in the low eight bits of a word that was moved up
+pub or-byte : (u x : ℕ) → x < 256 → bitOr (u * 256 % 65536) x ≡ u * 256 % 65536 + x
+or-byte u x l =
+    let e : u * 256 % 65536 ≡ u % 256 * 256 = omega arith in
+    rw e (or-shifted (u % 256) 8 x l)
+
+-- 0xff >> (8 - k)
+pub ones-below : (k : ℕ) → k ≤ 8 → 255 / 2 ^ (8 - k) ≡ 2 ^ k - 1
+ones-below zero h = refl
+ones-below (suc zero) h = refl
+ones-below (suc (suc zero)) h = refl
+ones-below (suc (suc (suc zero))) h = refl
+ones-below (suc (suc (suc (suc zero)))) h = refl
+ones-below (suc (suc (suc (suc (suc zero))))) h = refl
+ones-below (suc (suc (suc (suc (suc (suc zero)))))) h = refl
+ones-below (suc (suc (suc (suc (suc (suc (suc zero))))))) h = refl
+ones-below (suc (suc (suc (suc (suc (suc (suc (suc zero)))))))) h = refl
+ones-below (suc (suc (suc (suc (suc (suc (suc (suc (suc k))))))))) h = absurd (omega arith)
+
+-- u | (y << r), where y has k bits and u's low k + r bits are 0
+pub or-above : (u y k r : ℕ) → u % 2 ^ (k + r) ≡ 0 → y < 2 ^ k → k + r ≤ 32 → bitOr u (y * 2 ^ r % 4294967296) ≡ u + y * 2 ^ r
+or-above u y k r e h l =
+    let w : u / 2 ^ (k + r) * 2 ^ (k + r) ≡ u = omega (arith, split u (k + r)) in
+    ap (bitOr u) (shl-exact k r 32 h l)
+    ∙ subst (λ (x : ℕ). bitOr x (y * 2 ^ r) ≡ x + y * 2 ^ r) w (or-shifted (u / 2 ^ (k + r)) (k + r) (y * 2 ^ r) (shl-lt k r h))
+
+-- (v << k) | x, where v has j bits and x has k
+module _ (v x j k : ℕ) (fits : v < 2 ^ j) (low : x < 2 ^ k) (room : j + k ≤ 32) where
+  pub or-behind : bitOr (v * 2 ^ k % 4294967296) x ≡ v * 2 ^ k + x
+  or-behind = ap (λ (z : ℕ). bitOr z x) (shl-exact j k 32 fits room) ∙ or-shifted v k x low
+
+  pub behind-fits : v * 2 ^ k + x < 2 ^ (j + k)
+  behind-fits = omega (arith, mul-le-mul-right (2 ^ k) fits, pow-add 2 j k)

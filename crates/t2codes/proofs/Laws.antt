@@ -1,0 +1,4 @@
+pub mod PassTable
+pub mod PassCount
+pub mod CommaCode
+pub mod AreBits
