@@ -2,7 +2,7 @@
 -- of them could be given, and the slips. One table, and one statement that covers its rows.
 use mathlib.Core.Path.{_≡_, refl}
 use Prim.Native.Nat.{ℕ, _+_, _-_, _*_, _^_}
-use mathlib.Core.Bool.{Bool, true, false, cond}
+use mathlib.Core.Bool.{true, false, cond}
 use mathlib.Core.List.{List, [], _∷_, _++_}
 use lib.ListN.{length, replicate}
 use Rattle.t800.specs.declared.Band.{Band}
@@ -10,7 +10,7 @@ use Rattle.t800.specs.declared.Markers.{Markers}
 use Rattle.t800.specs.WriteHeader.{Contribution}
 use Rattle.t800.specs.Base.{sum}
 use Rattle.t800.specs.Segments.{termAll, bypass}
-use Rattle.t800.proofs.Table.{Starting, Writing, Reading, Step, starts, loads-writer, loads-reader, holds-writer, holds-reader, writes, heads, reads, Row, rowHolds, failing}
+use Rattle.t800.proofs.Table.{Step, starts, loads-writer, loads-reader, holds-writer, holds-reader, writes, heads, reads, Row, rowHolds, failing}
 
 -- ---- short forms
 

@@ -1,9 +1,9 @@
 -- Start (document 01, "The calls an archive makes"): a lent state is filled for a writer or a reader. It stands for the reset of the
 -- trees at layer 0.
 use Prim.Native.Nat.{ℕ, zero, suc, _-_}
-use mathlib.Core.Bool.{Bool, cond, _||_, not}
+use mathlib.Core.Bool.{cond, _||_, not}
 use mathlib.Core.List.{List, [], _∷_, _++_}
-use lib.ListN.{length, take, replicate}
+use lib.ListN.{length, take}
 use lib.Dec.{eqb}
 use Rattle.t800.specs.declared.Band.{Band}
 use Rattle.t800.specs.TagTree.{setValue}
