@@ -1,0 +1,4 @@
+pub mod Path
+pub mod Coding
+pub mod Seeking
+pub mod Reading
