@@ -1,7 +1,7 @@
 -- The nodes over a leaf, each from its level and place: `Laws.Path` says that they are t800's path from the leaf to the root.
 use Prim.Native.Nat.{ℕ, _+_, _-_, _*_, _/_, _^_, _≤_, _<_}
 use mathlib.Core.List.{List, [], _∷_, _++_}
-use lib.ListN.{getD, take, replicate}
+use lib.ListN.{length, getD, take, replicate}
 use Rattle.t800.specs.declared.Level.{Level}
 
 -- on each level the first node of the row that lies over row y of the first, whose nodes are numbered from n on
@@ -30,6 +30,7 @@ leafWord base row x = base + 3 * (getD row 0 0 + x)
 pub record PathIn (size base : ℕ) (row : List ℕ) (depth x : ℕ) : Type 0 where
   pub some : 0 < depth
   pub atMostSeven : depth ≤ 7
+  pub long : depth ≤ length row
   pub inside : (i : ℕ) → i < depth → base + 3 * (getD row i 0 + x / 2 ^ i) + 2 < size
 
 abbrev pub noLevel : Level

@@ -54,8 +54,11 @@ leafOf base row depth x = record { inclTree = 0; zeroTree = base; leaf = getD ro
 
 -- ---- a node
 
+abbrev pub seen : ℕ → ℕ → Bio → t800.NodeRead
+seen v l b = record { value = v; low = l; bio = b }
+
 abbrev pub nodeRead : NodeRead → t800.NodeRead
-nodeRead r = record { value = r .value; low = r .low; bio = r .bio }
+nodeRead r = seen (r .value) (r .low) (r .bio)
 
 -- and the low from which the next node goes on
 pub record NodeAfter : Type 0 where

@@ -142,5 +142,6 @@ module _ (w h : ℕ) (ls : List Level) (depth : ℕ) (t : TreeLevels w h ls dept
         record {
           some = first-node (rowOver ls depth y) depth x (y * w + x) (climb .above) (omega (arith, row-long y, few)) path-climbs .0;
           atMostSeven = few;
+          long = omega (arith, row-long y, few);
           inside = λ i l. omega (arith, fits, all-at (λ j. j < nodes w h) (rowOver ls depth y) depth x i l (omega (arith, row-long y, few)) (subst (AllBelow (nodes w h)) (sym path-climbs) (climb .below)));
         }

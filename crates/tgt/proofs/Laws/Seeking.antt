@@ -1,6 +1,6 @@
 -- Reading a node over zeros of the held word at once.
 use mathlib.Core.Path.{_≡_, refl, sym, ap, _∙_, subst}
-use mathlib.Core.Bool.{Bool, true, false, cond, _&&_}
+use mathlib.Core.Bool.{Bool, true, false, cond, _&&_, true≢false}
 use mathlib.Core.List.{List}
 use Prim.Native.Nat.{ℕ, zero, suc, _+_, _-_, _*_, _/_, _%_, _^_, _≤_, _<_, min}
 use native.Mathlib.Nat.{suc-add, zero-add, add-comm, mod-lt, div-eq-of-lt, div-eq-of-lt-le, mod-eq-of-lt, zero-div, zero-mod}
@@ -8,16 +8,13 @@ use native.Mathlib.Omega.{arith}
 use lib.Count.{leadingZeros, leading-length}
 use lib.Dec.{eqb, ltb}
 use lib.Pow.{pow-add, shr-shr, field, mod-mod-pow, pow-lt, pow-pos}
-use borrow.Author.Tests.{eq-eqb, ne-eqb, lt-ltb}
+use borrow.Author.Tests.{eq-eqb, ne-eqb, lt-ltb, ltb-true, eqb-true}
 use Rattle.t800.specs.declared.Bio.{Bio}
 use Rattle.t800.specs.Bits.{Decoded, byteIn, heldBit, getBit}
 use Rattle.t800.specs.TagTree.{NodeRead, readNode}
 use Rattle.t800.proofs.Laws.Tests.{if-lt, if-ge, if-eq, if-ne, on-lt, on-eq}
 use Rattle.bio.proofs.Laws.FreeBits.{seven-or-eight}
-use Rattle.tgt.specs.Reading.{bioOf, LeadingZeros}
-
-abbrev seen : ℕ → ℕ → Bio → NodeRead
-seen v l b = record { value = v; low = l; bio = b }
+use Rattle.tgt.specs.Reading.{bioOf, seen, LeadingZeros}
 
 -- ---- the value bounds the bits as the threshold does
 
@@ -117,11 +114,31 @@ module _ (src : List ℕ) (b : Bio) (d v l z : ℕ) (f : l + d ≤ v) (s : Leadi
       ∙ held-one src (d - z - 1) v (l + z) (b .bp) (b .buf) (b .ct - z - 1) (omega arith) (s .one g)
       ∙ ap (λ (n : ℕ). seen (l + z) (l + z) (bioOf (b .bp) (b .buf) n)) e
 
+-- ---- whether the search goes on behind the held word
+
+pub runs-on-is : (b : Bio) (d : ℕ) → ltb (b .ct) d && eqb (b .buf % 2 ^ (b .ct)) 0 ≡ true → (b .ct < d) × (b .buf % 2 ^ (b .ct) ≡ 0)
+runs-on-is b d e = by (ltb (b .ct) d) (eqb (b .buf % 2 ^ (b .ct)) 0) refl refl e
+  where
+    by : (p q : Bool) → ltb (b .ct) d ≡ p → eqb (b .buf % 2 ^ (b .ct)) 0 ≡ q → p && q ≡ true → (b .ct < d) × (b .buf % 2 ^ (b .ct) ≡ 0)
+    by true true e f r = (ltb-true _ _ e, eqb-true _ _ f)
+    by true false e f r = absurd (true≢false (sym r))
+    by false q e f r = absurd (true≢false (sym r))
+
+-- where it doesn't, and its leading zeros are too few, they end with a 1
+pub not-on : (b : Bio) (d z : ℕ) → ltb (b .ct) d && eqb (b .buf % 2 ^ (b .ct)) 0 ≡ false → LeadingZeros b z → z < d → z < b .ct
+not-on b d z e s h = on-lt z (b .ct) (λ l. l) (λ l. absurd (true≢false (sym (cc (lt-ltb (b .ct) d (omega (arith, s .atMost)), eq-eqb (b .buf % 2 ^ (b .ct)) 0 (all (omega (arith, s .atMost))))) ∙ e)))
+  where
+    all : z ≡ b .ct → b .buf % 2 ^ (b .ct) ≡ 0
+    all q =
+        let n : b .ct - z ≡ 0 = omega arith in
+        let one : b .buf / 2 ^ 0 ≡ b .buf = omega arith in
+        sym (ap (λ (k : ℕ). k % 2 ^ z) one ∙ ap (λ (k : ℕ). b .buf % 2 ^ k) q) ∙ sym (ap (λ (k : ℕ). b .buf / 2 ^ k % 2 ^ z) n) ∙ s .zeros
+
 -- ---- a turn of the loop: the held word has only zeros
 
-bits-in : (src : List ℕ) (b : Bio) → byteIn src b .ct ≡ 0 → ⊥
+pub byteIn-ct : (src : List ℕ) (b : Bio) → (7 ≤ byteIn src b .ct) × (byteIn src b .ct ≤ 8)
 unfolding byteIn
-bits-in src b e = let r = seven-or-eight (eqb (b .buf * 256 % 65536) 0xff00) in omega arith
+byteIn-ct src b = seven-or-eight (eqb (b .buf * 256 % 65536) 0xff00)
 
 same-byte : (src : List ℕ) (b : Bio) → byteIn src (bioOf (b .bp) (b .buf) 0) ≡ byteIn src b
 unfolding byteIn
@@ -133,7 +150,8 @@ unfolding readNode getBit
 byte-first src b zero v l h g = absurd (omega arith)
 byte-first src b (suc d) v l h g =
     let m = byteIn src b in
-    let z : m .ct ≡ 0 → ⊥ = bits-in src b in
+    let r = byteIn-ct src b in
+    let z : m .ct ≡ 0 → ⊥ = omega arith in
     if-lt l v _ _ g
     ∙ ap (λ (c : Bio). cond (eqb (heldBit c .value) 0) (readNode src d v (l + 1) (heldBit c .bio)) (seen l l (heldBit c .bio))) (same-byte src b ∙ sym (if-ne (m .ct) 0 (byteIn src m) m z))
     ∙ sym (if-lt l v _ _ g)

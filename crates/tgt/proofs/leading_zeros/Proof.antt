@@ -1,25 +1,26 @@
+-- `tgt::leading_zeros` meets its contract.
+-- Assumes nothing.
+use mathlib.Core.Path.{_≡_, sym, subst}
+use Prim.Native.Nat.{ℕ, _-_, _≤_}
+use native.Mathlib.Omega.{arith}
+use lib.Count.{leadingZeros}
+use Rattle.tgt.specs.Reading.{LeadingZeros}
+use Rattle.tgt.proofs.Laws.Seeking.{leading-held}
 use borrow.Author.Needs.{needs}
 use Rattle.tgt.proofs.leading_zeros.Statement.{statement}
 use Rattle.tgt.proofs.leading_zeros.Tie as tie
-use Rattle.tgt.proofs.leading_zeros.Reads as reads
-use Rattle.tgt.proofs.leading_zeros.Lts as lts
-use Rattle.tgt.proofs.held.Reads as held-reads
 
--- src/lib.rt:253:17
 sub-above : tie.Need-sub-above
 sub-above c = search needs
 
--- src/lib.rt:254:24
 held-requires : tie.Need-held-requires
 held-requires c κs = search needs
 
--- src/lib.rt:254:5
 sub-result : tie.Need-sub-result
-sub-result c = ?
+sub-result c = let s = c .before .before in subst (λ (n : ℕ). 32 - s .args .b .ct ≤ leadingZeros 32 n) (sym (c .held .ensures)) (leading-held (s .args .b) (s .pre) .0)
 
--- src/lib.rt:249:1
 returns : tie.Need-returns
-returns c = ?
+returns c = let s = c .before .before in subst (λ (n : ℕ). LeadingZeros (s .args .b) (leadingZeros 32 n - (32 - s .args .b .ct))) (sym (c .held .ensures)) (leading-held (s .args .b) (s .pre) .1)
 
 pub leading-zeros-spec : {M : Type 1} → statement M
 leading-zeros-spec = tie.close (tie.spec sub-above held-requires sub-result returns)

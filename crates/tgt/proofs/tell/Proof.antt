@@ -1,49 +1,48 @@
+-- `tgt::tell` meets its contract.
+-- Assumes nothing.
+use mathlib.Core.Path.{_≡_, ap, _∙_}
+use mathlib.Core.List.{List}
+use Prim.Native.Nat.{ℕ}
+use lib.ListN.{set}
+use borrow.Author.Tests.{eq-eqb, ne-eqb}
+use Rattle.bio.specs.Writing.{Output, putBits}
+use Rattle.tgt.specs.Coding.{LeafCoded, told}
 use borrow.Author.Needs.{needs}
 use Rattle.tgt.proofs.tell.Statement.{statement}
 use Rattle.tgt.proofs.tell.Tie as tie
-use Rattle.tgt.proofs.tell.Reads as reads
-use Rattle.tgt.proofs.tell.Lts as lts
-use Rattle.bio.proofs.opj_bio_putbit.Reads as opj-bio-putbit-reads
 
--- src/lib.rt:162:17
 mul-known : tie.Need-mul-known
 mul-known c = search needs
 
--- src/lib.rt:162:17
 slice-read-known : tie.Need-slice-read-known
 slice-read-known c = search needs
 
--- src/lib.rt:163:5
 mul-words : tie.Need-mul-words
 mul-words c = search needs
 
--- src/lib.rt:163:5
 slice-write-words : tie.Need-slice-write-words
 slice-write-words c = search needs
 
--- src/lib.rt:165:9
 opj-bio-putbit-requires : tie.Need-opj-bio-putbit-requires
 opj-bio-putbit-requires c κs = search needs
 
--- src/lib.rt:165:9
 same-length : tie.Need-same-length
 same-length c = search needs
 
--- src/lib.rt:165:9
 same-length-2 : tie.Need-same-length-2
 same-length-2 c = search needs
 
--- src/lib.rt:165:9
 returns : tie.Need-returns
-returns c = ?
+unfolding told putBits
+returns c = let s = c .before .before .before .before .before .before .before .before in
+    (λ i. record { words = set (s .args .words .now) (s .args .at) 1; output = c .before .before .opj-bio-putbit .ensures i }) ∙ simp (eq-eqb _ _ (c .before .before .before .before .if1 .taken))
 
--- src/lib.rt:158:1
 same-length-3 : tie.Need-same-length-3
 same-length-3 c = search needs
 
--- src/lib.rt:158:1
 returns-2 : tie.Need-returns-2
-returns-2 c = ?
+unfolding told putBits
+returns-2 c = simp (ne-eqb _ _ (c .if1 .left))
 
 pub tell-spec : {M : Type 1} → statement M
 tell-spec =
