@@ -14,7 +14,8 @@ use Rattle.t800.specs.State.{Block}
 use Rattle.t800.specs.ReadHeader.{readZeroPlanesFrom}
 use Rattle.t800.proofs.Laws.Tests.{either, if-true, if-false}
 use Rattle.bio.proofs.Laws.ReadChunks.{getBit-ct}
-use Rattle.tgt.specs.Reading.{NodeAfter, readAt, leafOf}
+use Rattle.tgt.specs.Reading.{pathRead, LeafAfter, leafAfter, belowIn, leafOf, NodeAfter, readAt}
+use Rattle.tgt.specs.declared.LeafRead.{LeafRead}
 use Rattle.tgt.specs.Path.{pathOver, leafWord}
 use Rattle.tgt.proofs.Laws.Seeking.{cut-short}
 
@@ -66,6 +67,10 @@ pub read-turn : (src : List ℕ) (base t n : ℕ) (ns : List ℕ) (l : ℕ) (ws 
 unfolding readPath readAt
 read-turn src base t n ns l ws b k e = ap (λ (j : NodeAfter). readPath src base t ns (j .low) (j .words) (j .bio)) e
 
+-- ---- a leaf: what an answer says of the path that was read
+pub leaf-says : (t at : ℕ) (ws : List ℕ) (r : LeafRead) (p : PathRead) → leafAfter ws r ≡ belowIn t at p → (pathRead ws (r .bio) ≡ p) × (ltb (value ws at) t ≡ r .below)
+leaf-says t at ws r p e = (ap (λ (a : LeafAfter). pathRead (a .words) (a .bio)) e, ap (λ (a : LeafAfter). ltb (value (a .words) at) t) e ∙ sym (ap (λ (a : LeafAfter). a .below) e))
+
 -- ---- raising the threshold
 
 module _ (src : List ℕ) (k : Block) (t : ℕ) (ws : List ℕ) (b : Bio) (r : PathRead) (is : r ≡ readPath src (k .zeroTree) t (reverse (k .path)) 0 ws b) (less : t < 1001) where
@@ -83,6 +88,10 @@ module _ (src : List ℕ) (k : Block) (t : ℕ) (ws : List ℕ) (b : Bio) (r : P
 
   pub raise-on : ltb (value (r .words) (k .zeroTree + 3 * k .leaf)) t ≡ false → readZeroPlanesFrom src k (1001 - (t + 1)) (t + 1) (r .words) (r .bio) ≡ readZeroPlanesFrom src k (1001 - t) t ws b
   raise-on h = sym (raise-by ∙ if-false _ _ _ h)
+
+pub raise-end : (src : List ℕ) (k : Block) (t : ℕ) (ws : List ℕ) (b : Bio) → 1001 ≤ t → readZeroPlanesFrom src k (1001 - t) t ws b ≡ pathRead ws b
+unfolding readZeroPlanesFrom
+raise-end src k t ws b h = let e : 1001 - t ≡ 0 = omega arith in ap (λ (f : ℕ). readZeroPlanesFrom src k f t ws b) e
 
 -- only a block's zero-plane tree, leaf and path count
 only-leaf : (src : List ℕ) (k : Block) (f t : ℕ) (ws : List ℕ) (b : Bio)

@@ -46,7 +46,7 @@ same-length : tie.Need-same-length
 same-length c = search needs
 
 returns : tie.Need-returns
-returns c =     let s = c .before .before .before .before .before .before .before in
+returns c = let s = c .before .before .before .before .before .before .before in
     let f = c .before .before .opj-uint-max in
     read-nothing (s .args .src .now) (s .args .threshold) (s .args .at) (s .args .low) (s .args .words .now) (s .args .b) (f .result) (f .ensures) (subst (λ (m : ℕ). m ≤ f .result) (c .before .opj-uint-min .ensures) (c .if1 .taken))
 
@@ -75,7 +75,7 @@ same-length-2 : tie.Need-same-length-2
 same-length-2 c = search needs
 
 returns-2 : tie.Need-returns-2
-returns-2 c =     let s = c .before .before .before .before .before .before .before .before .before in
+returns-2 c = let s = c .before .before .before .before .before .before .before .before .before in
     let f = c .before .before .before .before .opj-uint-max in
     let v = value (s .args .words .now) (s .args .at) in
     read-sought (s .args .src .now) (s .args .threshold) (s .args .at) (s .args .low) (s .args .words .now) (s .args .b) (f .result) (nodeRead (c .before .seek .result)) (f .ensures)

@@ -15,7 +15,7 @@ use Rattle.tgt.proofs.decode_path.Statement.{statement}
 use Rattle.tgt.proofs.decode_path.Tie as tie
 
 abbrev Inv-loop : tie.InvT-loop
-Inv-loop words₀ src base row depth x threshold bio₀ low₀ i₀ words bio low i =     (bio .ct ≤ 8)
+Inv-loop words₀ src base row depth x threshold bio₀ low₀ i₀ words bio low i = (bio .ct ≤ 8)
     × (length words ≡ length words₀)
     × (i ≤ depth)
     × (readPath src base threshold (reverse (nodesOver (take i row) x)) low words bio ≡ readPath src base threshold (reverse (nodesOver (take depth row) x)) 0 words₀ bio₀)
@@ -36,13 +36,13 @@ element-copy-out-first-word : tie.Need-element-copy-out-first-word Inv-loop μ-l
 element-copy-out-first-word c = omega (arith, c .before .before .before .before .pre .1 .atMostSeven)
 
 first-word-requires : tie.Need-first-word-requires Inv-loop μ-loop
-first-word-requires c κs =     let s = c .before .before .before .before .before in
+first-word-requires c κs = let s = c .before .before .before .before .before in
     let l = c .before .before .loop in
     let n : length (s .args .words .now) < 0x1_0000_0000_0000_0000 = search needs in
     (omega (arith, s .pre .1 .atMostSeven), omega (arith, s .pre .1 .inside (l .i - 1) (omega arith)))
 
 decode-node-requires : tie.Need-decode-node-requires Inv-loop μ-loop
-decode-node-requires c κs =     let s = c .before .before .before .before .before .before .before in
+decode-node-requires c κs = let s = c .before .before .before .before .before .before .before in
     let l = c .before .before .before .before .loop in
     (l .inv .0, omega (arith, c .before .first-word .ensures, l .inv .1, s .pre .1 .inside (l .i - 1) (omega arith)))
 
@@ -50,7 +50,7 @@ loop-less : tie.Need-loop-less Inv-loop μ-loop
 loop-less c = omega arith
 
 loop-again : tie.Need-loop-again Inv-loop μ-loop
-loop-again c =     let s = c .before .before .before .before .before .before .before .before .before .before .before in
+loop-again c = let s = c .before .before .before .before .before .before .before .before .before .before .before in
     let l = c .before .before .before .before .before .before .before .before .loop in
     let r = c .before .before .before .decode-node in
     let src = s .args .src .now in

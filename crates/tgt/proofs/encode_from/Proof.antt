@@ -3,7 +3,7 @@
 use mathlib.Core.Path.{_≡_, sym, ap, _∙_, subst}
 use Prim.Native.Nat.{ℕ, _+_, _-_, _<_, max, min}
 use native.Mathlib.Omega.{arith}
-use lib.ListN.{length, set, replicate}
+use lib.ListN.{length, set, replicate, length-set}
 use lib.Seq.{lt-length-set}
 use Rattle.t800.specs.TagTree.{value, lowAfter}
 use Rattle.bio.specs.Writing.{Output, output, FreeBitsClear}
@@ -52,7 +52,7 @@ same-length-2 : tie.Need-same-length-2
 same-length-2 c = search needs
 
 returns : tie.Need-returns
-returns c =     let s = c .before .before .before .before .before .before .before .before .before .before in
+returns c = let s = c .before .before .before .before .before .before .before .before .before .before in
     let ws = s .args .words .now in
     let o = output (s .args .out .now) (s .args .b) in
     let to = c .before .before .before .before .before .opj-uint-max .result in
@@ -64,20 +64,20 @@ add-tell : tie.Need-add-tell
 add-tell c = search needs
 
 tell-requires : tie.Need-tell-requires
-tell-requires c κs =     let s = c .before .before .before .before .before .before .before .before .before .before .before .before in
+tell-requires c κs = let s = c .before .before .before .before .before .before .before .before .before .before .before .before in
     let o = output (s .args .out .now) (s .args .b) in (
       subst FreeBitsClear (sym (ap (λ (p : Output). p .bio) (c .before .before .before .before .before .zeros .ensures))) (putBits-clear o (replicate (c .before .before .before .before .before .before .before .opj-uint-max .result - s .args .from) 0) (s .pre .0)),
       lt-length-set (s .args .words .now) (s .args .at + 1) (c .before .before .before .before .before .before .before .opj-uint-max .result) {i = s .args .at + 2} (s .pre .1),
     )
 
 same-length-3 : tie.Need-same-length-3
-same-length-3 c = search needs
+same-length-3 c = let s = c .before .before .before .before .before .before .before .before .before .before .before .before .before .before .before .before .before in c .before .before .before .before .tell .kept .0 ∙ length-set (s .args .words .now) (s .args .at + 1) (c .before .before .before .before .before .before .before .before .before .before .before .before .opj-uint-max .result)
 
 same-length-4 : tie.Need-same-length-4
 same-length-4 c = search needs
 
 returns-2 : tie.Need-returns-2
-returns-2 c =     let s = c .before .before .before .before .before .before .before .before .before .before .before .before .before .before .before .before .before in
+returns-2 c = let s = c .before .before .before .before .before .before .before .before .before .before .before .before .before .before .before .before .before in
     let ws = s .args .words .now in
     let at = s .args .at in
     let o = output (s .args .out .now) (s .args .b) in

@@ -54,7 +54,7 @@ same-length : tie.Need-same-length
 same-length c = search needs
 
 returns : tie.Need-returns
-returns c =     let s = c .before .before .before .before .before .before .before .before in
+returns c = let s = c .before .before .before .before .before .before .before .before in
     let ws = s .args .words .now in
     let o = output (s .args .out .now) (s .args .b) in
     sym (code-nothing (s .args .threshold) (s .args .at) (c .before .before .before .before .opj-uint-max .result) ws o (sym (c .before .nothing-to-tell .ensures) ∙ c .if1 .taken))
@@ -70,7 +70,7 @@ same-length-3 : tie.Need-same-length-3
 same-length-3 c = search needs
 
 returns-2 : tie.Need-returns-2
-returns-2 c =     let s = c .before .before .before .before .before .before .before .before .before .before .before .before .before .before .before in
+returns-2 c = let s = c .before .before .before .before .before .before .before .before .before .before .before .before .before .before .before in
     c .before .before .before .before .encode-from .ensures
     ∙ ap (λ (f : ℕ). codeFrom (s .args .threshold) (s .args .at) f (s .args .words .now) (output (s .args .out .now) (s .args .b))) (c .before .before .before .before .before .before .before .before .before .before .before .opj-uint-max .ensures)
 

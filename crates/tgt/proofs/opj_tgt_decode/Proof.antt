@@ -1,26 +1,29 @@
+-- `tgt::opj_tgt_decode` meets its contract.
+-- Assumes nothing.
+use mathlib.Core.Path.{_≡_, sym, ap, _∙_, subst}
+use Prim.Native.Nat.{ℕ}
+use lib.Dec.{ltb}
+use Rattle.tgt.specs.Path.{leafWord, PathIn}
+use Rattle.tgt.specs.Reading.{LeafAfter, belowIn}
 use borrow.Author.Needs.{needs}
 use Rattle.tgt.proofs.opj_tgt_decode.Statement.{statement}
 use Rattle.tgt.proofs.opj_tgt_decode.Tie as tie
-use Rattle.tgt.proofs.opj_tgt_decode.Reads as reads
-use Rattle.tgt.proofs.opj_tgt_decode.Lts as lts
-use Rattle.tgt.proofs.decode_path.Reads as decode-path-reads
-use Rattle.tgt.proofs.leaf_value.Reads as leaf-value-reads
 
--- src/lib.rt:365:9
 decode-path-requires : tie.Need-decode-path-requires
 decode-path-requires c κs = search needs
 
--- src/lib.rt:366:9
 leaf-value-requires : tie.Need-leaf-value-requires
-leaf-value-requires c κs = ?
+leaf-value-requires c κs = let s = c .before .before .before .before .before .before .before in subst (λ (n : ℕ). PathIn n (s .args .base) (s .args .row .now) (s .args .depth) (s .args .x)) (sym (c .before .before .before .decode-path .kept .0)) (s .pre .1)
 
--- src/lib.rt:352:1
 same-length : tie.Need-same-length
 same-length c = search needs
 
--- src/lib.rt:352:1
 returns : tie.Need-returns
-returns c = ?
+returns c = let s = c .before .before .before .before .before .before .before .before in
+    let p = c .before .before .before .before .decode-path in
+    let t = s .args .threshold in
+    ap (λ (v : ℕ). record { words = p .last .0; bio = p .result; below = ltb v t }) (c .leaf-value .ensures)
+    ∙ ap (belowIn t (leafWord (s .args .base) (s .args .row .now) (s .args .x))) (p .ensures)
 
 pub opj-tgt-decode-spec : {M : Type 1} → statement M
 opj-tgt-decode-spec =

@@ -16,7 +16,7 @@ use Rattle.tgt.proofs.opj_tgt_encode.Statement.{statement}
 use Rattle.tgt.proofs.opj_tgt_encode.Tie as tie
 
 abbrev Inv-loop : tie.InvT-loop
-Inv-loop words₀ out₀ base row depth x threshold bio₀ low₀ i₀ words out bio low i =     (FreeBitsClear bio)
+Inv-loop words₀ out₀ base row depth x threshold bio₀ low₀ i₀ words out bio low i = (FreeBitsClear bio)
     × (length words ≡ length words₀)
     × (length out ≡ length out₀)
     × (i ≤ depth)
@@ -38,13 +38,13 @@ element-copy-out-first-word : tie.Need-element-copy-out-first-word Inv-loop μ-l
 element-copy-out-first-word c = omega (arith, c .before .before .before .before .pre .1 .atMostSeven)
 
 first-word-requires : tie.Need-first-word-requires Inv-loop μ-loop
-first-word-requires c κs =     let s = c .before .before .before .before .before in
+first-word-requires c κs = let s = c .before .before .before .before .before in
     let l = c .before .before .loop in
     let n : length (s .args .words .now) < 0x1_0000_0000_0000_0000 = search needs in
     (omega (arith, s .pre .1 .atMostSeven), omega (arith, s .pre .1 .inside (l .i - 1) (omega arith)))
 
 encode-node-requires : tie.Need-encode-node-requires Inv-loop μ-loop
-encode-node-requires c κs =     let s = c .before .before .before .before .before .before .before .before in
+encode-node-requires c κs = let s = c .before .before .before .before .before .before .before .before in
     let l = c .before .before .before .before .before .loop in
     (l .inv .0, omega (arith, c .before .before .first-word .ensures, l .inv .1, s .pre .1 .inside (l .i - 1) (omega arith)))
 
@@ -52,7 +52,7 @@ loop-less : tie.Need-loop-less Inv-loop μ-loop
 loop-less c = omega arith
 
 loop-again : tie.Need-loop-again Inv-loop μ-loop
-loop-again c =     let s = c .before .before .before .before .before .before .before .before .before .before .before .before .before .before in
+loop-again c = let s = c .before .before .before .before .before .before .before .before .before .before .before .before .before .before in
     let l = c .before .before .before .before .before .before .before .before .before .before .before .loop in
     let r = c .before .before .before .before .before .encode-node in
     let row = s .args .row .now in
@@ -68,7 +68,7 @@ loop-again c =     let s = c .before .before .before .before .before .before .be
       r .kept .1 .0 ∙ l .inv .2,
       omega arith,
       code-turn base t n (reverse (nodesOver (take (l .i - 1) row) x)) (l .low) (l .words) o k e
-          ∙ ap (λ (ns : List ℕ). putCoded o (codePath base t ns (l .low) (l .words))) (sym (node-down row (l .i) x (omega arith) (omega (arith, s .pre .1 .long))))
+          ∙ ap (λ (ns : List ℕ). putCoded o (codePath base t ns (l .low) (l .words))) (sym (node-down row (l .i) x (c .before .before .before .before .before .before .before .before .before .before .loop-test .taken) (omega (arith, l .inv .3, s .pre .1 .long))))
           ∙ l .inv .4,
     )
 

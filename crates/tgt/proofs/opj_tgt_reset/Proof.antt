@@ -54,7 +54,7 @@ loop-less : tie.Need-loop-less Inv-loop μ-loop
 loop-less c = omega arith
 
 loop-again : tie.Need-loop-again Inv-loop μ-loop
-loop-again c =     let l = c .before .loop in
+loop-again c = let l = c .before .loop in
     let v = c .before .before .args .value in
     (simp length-set (l .inv .0), omega arith, fresh-turn (l .words) (l .at) v (l .left) (c .loop-test .taken) ∙ l .inv .2)
 

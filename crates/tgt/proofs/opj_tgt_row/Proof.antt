@@ -30,7 +30,7 @@ rest-turn row i v h e =
     drop-set-lt (i + 1) row i v (omega arith) ∙ sym (drop-drop 1 i row) ∙ ap (drop 1) e ∙ ap (λ (n : ℕ). drop 1 (replicate {A = ℕ} n 0)) q
 
 abbrev Inv-loop : tie.InvT-loop
-Inv-loop depth y levels row₀ below₀ place₀ i₀ row below place i =     (length row ≡ 7)
+Inv-loop depth y levels row₀ below₀ place₀ i₀ row below place i = (length row ≡ 7)
     × (i ≤ depth)
     × (below ≤ 4096 * i)
     × (place ≤ 64)
@@ -56,12 +56,12 @@ cast-h : tie.Need-cast-h Inv-loop μ-loop
 cast-h c = search needs
 
 mul-before : tie.Need-mul-before Inv-loop μ-loop
-mul-before c =     let l = c .before .before .before .before .loop in
+mul-before c = let l = c .before .before .before .before .loop in
     let s = c .before .before .before .before .before in
     omega (arith, sides-small _ _ (l .inv .3) (s .pre .0 .across (l .i) (c .before .before .before .loop-test .taken)))
 
 add-row : tie.Need-add-row Inv-loop μ-loop
-add-row c =     let l = c .before .before .before .before .loop in
+add-row c = let l = c .before .before .before .before .loop in
     let s = c .before .before .before .before .before in
     omega (arith, s .pre .0 .atMostSeven, sides-small _ _ (l .inv .3) (s .pre .0 .across (l .i) (c .before .before .before .loop-test .taken)))
 
@@ -72,12 +72,12 @@ array-write-row : tie.Need-array-write-row Inv-loop μ-loop
 array-write-row c = omega (arith, c .before .before .before .before .before .pre .0 .atMostSeven)
 
 mul-size : tie.Need-mul-size Inv-loop μ-loop
-mul-size c =     let l = c .before .before .before .before .loop in
+mul-size c = let l = c .before .before .before .before .loop in
     let s = c .before .before .before .before .before in
     omega (arith, sides-small _ _ (s .pre .0 .across (l .i) (c .before .before .before .loop-test .taken)) (s .pre .0 .down (l .i) (c .before .before .before .loop-test .taken)))
 
 add-below : tie.Need-add-below Inv-loop μ-loop
-add-below c =     let l = c .before .before .before .before .loop in
+add-below c = let l = c .before .before .before .before .loop in
     let s = c .before .before .before .before .before in
     omega (arith, s .pre .0 .atMostSeven, sides-small _ _ (s .pre .0 .across (l .i) (c .before .before .before .loop-test .taken)) (s .pre .0 .down (l .i) (c .before .before .before .loop-test .taken)))
 
@@ -88,7 +88,7 @@ loop-less : tie.Need-loop-less Inv-loop μ-loop
 loop-less c = omega arith
 
 loop-again : tie.Need-loop-again Inv-loop μ-loop
-loop-again c =     let l = c .before .before .before .before .loop in
+loop-again c = let l = c .before .before .before .before .loop in
     let s = c .before .before .before .before .before in
     let here = c .before .before .before .loop-test .taken in
     let few = s .pre .0 .atMostSeven in

@@ -15,7 +15,7 @@ use Rattle.tgt.proofs.opj_tgt_setvalue.Statement.{statement}
 use Rattle.tgt.proofs.opj_tgt_setvalue.Tie as tie
 
 abbrev Inv-loop : tie.InvT-loop
-Inv-loop words₀ base row depth x value i₀ words i =     (length words ≡ length words₀)
+Inv-loop words₀ base row depth x value i₀ words i = (length words ≡ length words₀)
     × (i ≤ depth)
     × (setValue base (nodesOver (drop i (take depth row)) (x / 2 ^ i)) value words ≡ setValue base (nodesOver (take depth row) x) value words₀)
 
@@ -32,12 +32,12 @@ element-copy-out-first-word : tie.Need-element-copy-out-first-word Inv-loop μ-l
 element-copy-out-first-word c = omega (arith, c .before .before .before .pre .atMostSeven)
 
 first-word-requires : tie.Need-first-word-requires Inv-loop μ-loop
-first-word-requires c κs =     let s = c .before .before .before .before in
+first-word-requires c κs = let s = c .before .before .before .before in
     let n : length (s .args .words .now) < 0x1_0000_0000_0000_0000 = search needs in
     (omega (arith, s .pre .atMostSeven), omega (arith, s .pre .inside (c .before .before .loop .i) (c .before .loop-test .taken)))
 
 mul-if1 : tie.Need-mul-if1 Inv-loop μ-loop
-mul-if1 c =     let s = c .before .before .before .before .before in
+mul-if1 c = let s = c .before .before .before .before .before in
     let n : length (s .args .words .now) * 4 < 0x1_0000_0000_0000_0000 = search needs in
     omega (arith, c .first-word .ensures, s .pre .inside (c .before .before .before .loop .i) (c .before .before .loop-test .taken))
 
@@ -48,7 +48,7 @@ same-length : tie.Need-same-length Inv-loop μ-loop
 same-length c = c .before .before .before .before .before .loop .inv .0
 
 returns : tie.Need-returns Inv-loop μ-loop
-returns c =     let s = c .before .before .before .before .before .before .before in
+returns c = let s = c .before .before .before .before .before .before .before in
     let l = c .before .before .before .before .before .loop in
     let row = s .args .row .now in
     let up = node-up row (s .args .depth) (s .args .x) (l .i) (s .pre .long) (c .before .before .before .before .loop-test .taken) in
@@ -57,7 +57,7 @@ returns c =     let s = c .before .before .before .before .before .before .befor
     ∙ l .inv .2
 
 mul-words : tie.Need-mul-words Inv-loop μ-loop
-mul-words c =     let s = c .before .before .before .before .before .before .before in
+mul-words c = let s = c .before .before .before .before .before .before .before in
     let n : length (s .args .words .now) * 4 < 0x1_0000_0000_0000_0000 = search needs in
     omega (arith, c .before .before .first-word .ensures, s .pre .inside (c .before .before .before .before .before .loop .i) (c .before .before .before .before .loop-test .taken))
 
@@ -71,7 +71,7 @@ loop-less : tie.Need-loop-less Inv-loop μ-loop
 loop-less c = omega arith
 
 loop-again : tie.Need-loop-again Inv-loop μ-loop
-loop-again c =     let s = c .before .before .before .before .before .before .before in
+loop-again c = let s = c .before .before .before .before .before .before .before in
     let l = c .before .before .before .before .before .loop in
     let row = s .args .row .now in
     let at = c .before .before .first-word .ensures in

@@ -28,12 +28,12 @@ runs-on-requires : tie.Need-runs-on-requires Inv-loop μ-loop
 runs-on-requires c κs = c .loop .inv .0
 
 add-from : tie.Need-add-from Inv-loop μ-loop
-add-from c =     let l = c .before .before .before .loop in
+add-from c = let l = c .before .before .before .loop in
     let on = runs-on-is (l .bio) (l .more) (sym (c .before .before .runs-on .ensures) ∙ c .before .if1 .taken) in
     omega (arith, on .0, l .inv .1)
 
 sub-more : tie.Need-sub-more Inv-loop μ-loop
-sub-more c =     let l = c .before .before .before .before .loop in
+sub-more c = let l = c .before .before .before .before .loop in
     let on = runs-on-is (l .bio) (l .more) (sym (c .before .before .before .runs-on .ensures) ∙ c .before .before .if1 .taken) in
     omega (arith, on .0)
 
@@ -41,13 +41,13 @@ opj-bio-bytein-requires : tie.Need-opj-bio-bytein-requires Inv-loop μ-loop
 opj-bio-bytein-requires c κs = search needs
 
 loop-less : tie.Need-loop-less Inv-loop μ-loop
-loop-less c =     let l = c .before .before .before .before .before .loop in
+loop-less c = let l = c .before .before .before .before .before .loop in
     let on = runs-on-is (l .bio) (l .more) (sym (c .before .before .before .before .runs-on .ensures) ∙ c .before .before .before .if1 .taken) in
     let r = byteIn-ct (c .before .before .before .before .before .before .before .args .src .now) (l .bio) in
     omega (arith, on .0, l .inv .0, r .0, ap (λ (b : Bio). b .ct) (c .opj-bio-bytein .ensures))
 
 loop-again : tie.Need-loop-again Inv-loop μ-loop
-loop-again c =     let s = c .before .before .before .before .before .before .before in
+loop-again c = let s = c .before .before .before .before .before .before .before in
     let src = s .args .src .now in
     let l = c .before .before .before .before .before .loop in
     let on = runs-on-is (l .bio) (l .more) (sym (c .before .before .before .before .runs-on .ensures) ∙ c .before .before .before .if1 .taken) in
@@ -68,7 +68,7 @@ add-t15 : tie.Need-add-t15 Inv-loop μ-loop
 add-t15 c = omega (arith, c .before .before .before .before .before .loop .inv .1)
 
 returns : tie.Need-returns Inv-loop μ-loop
-returns c =     let s = c .before .before .before .before .before .before .before in
+returns c = let s = c .before .before .before .before .before .before .before in
     let l = c .before .before .before .before .before .loop in
     ap (seen (s .args .value) (l .from + l .more)) (c .behind-bits .ensures)
     ∙ sym (seek-end (s .args .src .now) (l .bio) (l .more) (s .args .value) (l .from) (c .before .before .leading-zeros .result) (l .inv .1) (c .before .before .leading-zeros .ensures) (c .before .if2 .taken))
@@ -81,12 +81,12 @@ add-behind-bits : tie.Need-add-behind-bits Inv-loop μ-loop
 add-behind-bits c = omega (arith, c .before .leading-zeros .ensures .atMost, c .before .before .before .before .loop .inv .0)
 
 behind-bits-requires-2 : tie.Need-behind-bits-requires-2 Inv-loop μ-loop
-behind-bits-requires-2 c κs =     let l = c .before .before .before .before .loop in
+behind-bits-requires-2 c κs = let l = c .before .before .before .before .loop in
     let z = c .before .leading-zeros in
     omega (arith, not-on (l .bio) (l .more) (z .result) (sym (c .before .before .before .runs-on .ensures) ∙ c .before .before .if1 .left) (z .ensures) (c .if2 .left))
 
 returns-2 : tie.Need-returns-2 Inv-loop μ-loop
-returns-2 c =     let s = c .before .before .before .before .before .before .before in
+returns-2 c = let s = c .before .before .before .before .before .before .before in
     let l = c .before .before .before .before .before .loop in
     let z = c .before .before .leading-zeros in
     let g = not-on (l .bio) (l .more) (z .result) (sym (c .before .before .before .before .runs-on .ensures) ∙ c .before .before .before .if1 .left) (z .ensures) (c .before .if2 .left) in

@@ -27,14 +27,14 @@ opj-bio-byteout-requires : tie.Need-opj-bio-byteout-requires Inv-loop μ-loop
 opj-bio-byteout-requires c κs = search needs
 
 loop-less : tie.Need-loop-less Inv-loop μ-loop
-loop-less c =     let t = c .before .before .before .before .before .if1 .taken in
+loop-less c = let t = c .before .before .before .before .before .if1 .taken in
     let l = c .before .before .before .before .before .before .before .loop in
     let r = byteOut-ct (output (l .out) (l .bio)) in
     let e = ap (λ (o : Output). o .bio .ct) (c .before .before .opj-bio-byteout .ensures) in
     omega (arith, l .inv .0 .atMostEight)
 
 loop-again : tie.Need-loop-again Inv-loop μ-loop
-loop-again c =     let l = c .before .before .before .before .before .before .before .loop in
+loop-again c = let l = c .before .before .before .before .before .before .before .loop in
     let r = c .before .before .opj-bio-byteout in
     let o = output (l .out) (l .bio) in (
       subst FreeBitsClear (sym (ap (λ (x : Output). x .bio) (r .ensures))) (byteOut-clear o),
