@@ -76,14 +76,14 @@ fn first_word(base: usize, start: usize, x: usize, level: usize) -> usize
 // ---- setting
 
 // So many nodes from the word `from` on: a value that says "not yet", low 0, known 0.
-pub fn opj_tgt_reset(words: &mut [u32], from: usize, nodes: usize, value: u32)
+pub fn opj_tgt_reset(words: &mut [u32], from: usize, nodes: usize, fresh: u32)
     requires { ⌜ from + 3 * nodes ≤ length (now words) ⌝ }
-    ensures { λ _. ⌜ now (words .exit) ≡ sets (now (words .entry)) from (freshNodes value nodes) ⌝ }
+    ensures { λ _. ⌜ now (words .exit) ≡ sets (now (words .entry)) from (freshNodes fresh nodes) ⌝ }
 {
     let mut at = from;
     let mut left = nodes;
     while 0 < left {
-        words[at] = value;
+        words[at] = fresh;
         words[at + 1] = 0;
         words[at + 2] = 0;
         at += 3;

@@ -9,7 +9,7 @@ use native.Mathlib.Omega.{arith}
 use lib.Arith.{digits-lt, digits-div, digits-mod}
 use lib.ListN.{length, getD, take, drop, replicate, length-append, length-replicate}
 use lib.Pow.{shr-shr}
-use lib.Seq.{length-take-le, drop-cons, getD-take, take-at}
+use lib.Seq.{length-take-le, drop-cons, getD-take, take-at, take-append-seam}
 use Rattle.t800.specs.declared.Level.{Level}
 use Rattle.t800.specs.TagTree.{levels, nodes, pathFrom, pathToRoot}
 use Rattle.t800.proofs.Laws.Levels.{at-most-seven-levels}
@@ -62,6 +62,10 @@ nodes-are (l ∷ ls) n x y = ap (λ (js : List ℕ). (n + y * l .w + x) ∷ js) 
 pub record TreeLevels (w h : ℕ) (ls : List Level) (depth : ℕ) : Type 0 where
   pub are : take depth ls ≡ levels w h
   pub many : length (levels w h) ≡ depth
+
+-- whatever stands behind them
+pub tree-levels : (w h : ℕ) (rest : List Level) → TreeLevels w h (levels w h ++ rest) (length (levels w h))
+tree-levels w h rest = record { are = take-append-seam (levels w h) rest; many = refl }
 
 -- what holds of all of them holds of each
 all-at : (P : ℕ → Type 0) (row : List ℕ) (depth x i : ℕ) → i < depth → depth ≤ length row → All P (nodesOver (take depth row) x) → P (getD row i 0 + x / 2 ^ i)

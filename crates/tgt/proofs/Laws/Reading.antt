@@ -5,7 +5,7 @@ use mathlib.Core.List.{List, [], _∷_, reverse}
 use Prim.Native.Nat.{ℕ, zero, suc, _+_, _-_, _*_, _≤_, _<_, max, min}
 use native.Mathlib.Omega.{arith}
 use lib.Dec.{eqb, ltb}
-use lib.ListN.{getD, set}
+use lib.ListN.{length, getD, set}
 use lib.Seq.{set-getD}
 use Rattle.t800.specs.declared.Bio.{Bio}
 use Rattle.t800.specs.Bits.{getBit}
@@ -13,29 +13,51 @@ use Rattle.t800.specs.TagTree.{NodeRead, PathRead, value, low, readNode, readPa
 use Rattle.t800.specs.State.{Block}
 use Rattle.t800.specs.ReadHeader.{readZeroPlanesFrom}
 use Rattle.t800.proofs.Laws.Tests.{either, if-true, if-false}
-use Rattle.bio.proofs.Laws.ReadChunks.{getBit-ct}
+use Rattle.bio.proofs.Laws.ReadChunks.{getBit-ct, getBit-place}
 use Rattle.tgt.specs.Reading.{pathRead, LeafAfter, leafAfter, belowIn, leafOf, NodeAfter, readAt}
 use Rattle.tgt.specs.declared.LeafRead.{LeafRead}
 use Rattle.tgt.specs.Path.{pathOver, leafWord}
 use Rattle.tgt.proofs.Laws.Seeking.{cut-short}
 
--- ---- at most eight bits are held
+-- ---- what a bit keeps, reading keeps: that at most eight bits are held, and that the place is at most one behind the input's end
 
-readNode-ct : (src : List ℕ) (d v l : ℕ) (b : Bio) → b .ct ≤ 8 → readNode src d v l b .bio .ct ≤ 8
-unfolding readNode
-readNode-ct src zero v l b h = h
-readNode-ct src (suc d) v l b h =
-    let g = getBit-ct src b h in
-    either (λ (r : NodeRead). r .bio .ct ≤ 8) (ltb l v) _ _ (either (λ (r : NodeRead). r .bio .ct ≤ 8) (eqb (getBit src b .value) 0) _ _ (readNode-ct src d v (l + 1) (getBit src b .bio) g) g) h
+module _ (src : List ℕ) (Kept : Bio → Type 0) (bit : (b : Bio) → Kept b → Kept (getBit src b .bio)) where
+  node-keeps : (d v l : ℕ) (b : Bio) → Kept b → Kept (readNode src d v l b .bio)
+  unfolding readNode
+  node-keeps zero v l b h = h
+  node-keeps (suc d) v l b h =
+      either (λ (r : NodeRead). Kept (r .bio)) (ltb l v) _ _ (either (λ (r : NodeRead). Kept (r .bio)) (eqb (getBit src b .value) 0) _ _ (node-keeps d v (l + 1) (getBit src b .bio) (bit b h)) (bit b h)) h
+
+  pub path-keeps : (base t : ℕ) (ns : List ℕ) (l : ℕ) (ws : List ℕ) (b : Bio) → Kept b → Kept (readPath src base t ns l ws b .bio)
+  unfolding readPath
+  path-keeps base t [] l ws b h = h
+  path-keeps base t (n ∷ ns) l ws b h = path-keeps base t ns _ _ _ (node-keeps _ _ _ b h)
+
+  pub raising-keeps : (k : Block) (f t : ℕ) (ws : List ℕ) (b : Bio) → Kept b → Kept (readZeroPlanesFrom src k f t ws b .bio)
+  unfolding readZeroPlanesFrom
+  raising-keeps k zero t ws b h = h
+  raising-keeps k (suc f) t ws b h =
+      let r = readPath src (k .zeroTree) t (reverse (k .path)) 0 ws b in
+      let g = path-keeps (k .zeroTree) t (reverse (k .path)) 0 ws b h in
+      either (λ (p : PathRead). Kept (p .bio)) (ltb (value (r .words) (k .zeroTree + 3 * k .leaf)) t) _ _ g (raising-keeps k f (t + 1) (r .words) (r .bio) g)
 
 pub readAt-ct : (src : List ℕ) (t at l : ℕ) (ws : List ℕ) (b : Bio) → b .ct ≤ 8 → readAt src t at l ws b .bio .ct ≤ 8
 unfolding readAt
-readAt-ct src t at l ws b h = readNode-ct src (t - max l (low ws at)) (value ws at) (max l (low ws at)) b h
+readAt-ct src t at l ws b h = node-keeps src (λ c. c .ct ≤ 8) (getBit-ct src) (t - max l (low ws at)) (value ws at) (max l (low ws at)) b h
 
-pub readPath-ct : (src : List ℕ) (base t : ℕ) (ns : List ℕ) (l : ℕ) (ws : List ℕ) (b : Bio) → b .ct ≤ 8 → readPath src base t ns l ws b .bio .ct ≤ 8
-unfolding readPath
-readPath-ct src base t [] l ws b h = h
-readPath-ct src base t (n ∷ ns) l ws b h = readPath-ct src base t ns _ _ _ (readNode-ct src _ _ _ b h)
+module _ (src : List ℕ) (base t : ℕ) (ns : List ℕ) (l : ℕ) (ws : List ℕ) (b : Bio) where
+  pub readPath-ct : b .ct ≤ 8 → readPath src base t ns l ws b .bio .ct ≤ 8
+  readPath-ct h = path-keeps src (λ c. c .ct ≤ 8) (getBit-ct src) base t ns l ws b h
+
+  pub readPath-place : b .bp ≤ length src + 1 → readPath src base t ns l ws b .bio .bp ≤ length src + 1
+  readPath-place h = path-keeps src (λ c. c .bp ≤ length src + 1) (getBit-place src) base t ns l ws b h
+
+module _ (src : List ℕ) (k : Block) (f t : ℕ) (ws : List ℕ) (b : Bio) where
+  pub raising-ct : b .ct ≤ 8 → readZeroPlanesFrom src k f t ws b .bio .ct ≤ 8
+  raising-ct h = raising-keeps src (λ c. c .ct ≤ 8) (getBit-ct src) k f t ws b h
+
+  pub raising-place : b .bp ≤ length src + 1 → readZeroPlanesFrom src k f t ws b .bio .bp ≤ length src + 1
+  raising-place h = raising-keeps src (λ c. c .bp ≤ length src + 1) (getBit-place src) k f t ws b h
 
 -- ---- a node
 

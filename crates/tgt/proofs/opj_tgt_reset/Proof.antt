@@ -12,10 +12,10 @@ use Rattle.tgt.proofs.opj_tgt_reset.Statement.{statement}
 use Rattle.tgt.proofs.opj_tgt_reset.Tie as tie
 
 abbrev Inv-loop : tie.InvT-loop
-Inv-loop words₀ from nodes value at₀ left₀ words at left = (length words ≡ length words₀) × (at + 3 * left ≤ length words₀) × (sets words at (freshNodes value left) ≡ sets words₀ from (freshNodes value nodes))
+Inv-loop words₀ from nodes fresh at₀ left₀ words at left = (length words ≡ length words₀) × (at + 3 * left ≤ length words₀) × (sets words at (freshNodes fresh left) ≡ sets words₀ from (freshNodes fresh nodes))
 
 abbrev μ-loop : tie.MeasureT-loop
-μ-loop words₀ from nodes value at₀ left₀ words at left = left
+μ-loop words₀ from nodes fresh at₀ left₀ words at left = left
 
 loop-holds : tie.Need-loop-holds Inv-loop μ-loop
 loop-holds c = (refl, c .pre, refl)
@@ -33,7 +33,7 @@ mul-words-2 : tie.Need-mul-words-2 Inv-loop μ-loop
 mul-words-2 c = omega arith
 
 slice-write-words-2 : tie.Need-slice-write-words-2 Inv-loop μ-loop
-slice-write-words-2 c = let l = c .before .loop in lt-length-set (l .words) (l .at) (c .before .before .args .value) {i = l .at + 1} (omega arith)
+slice-write-words-2 c = let l = c .before .loop in lt-length-set (l .words) (l .at) (c .before .before .args .fresh) {i = l .at + 1} (omega arith)
 
 add-words-2 : tie.Need-add-words-2 Inv-loop μ-loop
 add-words-2 c = omega arith
@@ -42,7 +42,7 @@ mul-words-3 : tie.Need-mul-words-3 Inv-loop μ-loop
 mul-words-3 c = omega arith
 
 slice-write-words-3 : tie.Need-slice-write-words-3 Inv-loop μ-loop
-slice-write-words-3 c = let l = c .before .loop in lt-length-set (set (l .words) (l .at) (c .before .before .args .value)) (l .at + 1) 0 {i = l .at + 2} (lt-length-set (l .words) (l .at) (c .before .before .args .value) {i = l .at + 2} (omega arith))
+slice-write-words-3 c = let l = c .before .loop in lt-length-set (set (l .words) (l .at) (c .before .before .args .fresh)) (l .at + 1) 0 {i = l .at + 2} (lt-length-set (l .words) (l .at) (c .before .before .args .fresh) {i = l .at + 2} (omega arith))
 
 add-at : tie.Need-add-at Inv-loop μ-loop
 add-at c = omega arith
@@ -55,7 +55,7 @@ loop-less c = omega arith
 
 loop-again : tie.Need-loop-again Inv-loop μ-loop
 loop-again c = let l = c .before .loop in
-    let v = c .before .before .args .value in
+    let v = c .before .before .args .fresh in
     (simp length-set (l .inv .0), omega arith, fresh-turn (l .words) (l .at) v (l .left) (c .loop-test .taken) ∙ l .inv .2)
 
 same-length : tie.Need-same-length Inv-loop μ-loop
