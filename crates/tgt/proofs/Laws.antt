@@ -1,0 +1,5 @@
+pub mod Path
+pub mod Setting
+pub mod Coding
+pub mod Seeking
+pub mod Reading

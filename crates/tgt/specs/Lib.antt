@@ -1,0 +1,3 @@
+pub mod Path
+pub mod Coding
+pub mod Reading
