@@ -1,7 +1,12 @@
+pub mod Computed
+pub mod Pack
+pub mod Levels
+pub mod PassCodes
 pub mod Tests
 pub mod Paths
 pub mod Layout
 pub mod FirstWords
 pub mod FreshState
 pub mod SetLeaf
-pub mod Pack
+pub mod Accepted
+pub mod LeastZeroPlanes

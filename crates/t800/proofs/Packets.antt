@@ -2,14 +2,15 @@
 -- of them could be given, and the slips. One table, and one statement that covers its rows.
 use mathlib.Core.Path.{_≡_, refl}
 use Prim.Native.Nat.{ℕ, _+_, _-_, _*_, _^_}
-use mathlib.Core.Bool.{Bool, true, false}
-use mathlib.Core.List.{List, [], _∷_, _++_, map}
+use mathlib.Core.Bool.{true, false, cond}
+use mathlib.Core.List.{List, [], _∷_, _++_}
 use lib.ListN.{length, replicate}
 use Rattle.t800.specs.declared.Band.{Band}
 use Rattle.t800.specs.declared.Markers.{Markers}
 use Rattle.t800.specs.WriteHeader.{Contribution}
 use Rattle.t800.specs.Base.{sum}
-use Rattle.t800.proofs.Table.{Starting, Writing, Reading, Step, starts, loads-writer, loads-reader, holds-writer, holds-reader, writes, heads, reads, Row, rowHolds, failing}
+use Rattle.t800.specs.Segments.{termAll, bypass}
+use Rattle.t800.proofs.Table.{Step, starts, loads-writer, loads-reader, holds-writer, holds-reader, writes, heads, reads, Row, rowHolds, failing}
 
 -- ---- short forms
 
@@ -158,11 +159,250 @@ start-rows =
     ∷ [])
     ∷ []
 
-pub rows : List Row
-rows = a-to-l ++ start-rows
+-- ---- states of the one block, by role, style, layer and the words of inclusion node, zero-plane node and block
 
--- ---- THE STATEMENT: no row fails
+abbrev words : ℕ → ℕ → ℕ → List ℕ → List ℕ → List ℕ → List ℕ
+words role style layer incl zero block = role ∷ 1 ∷ style ∷ layer ∷ 1 ∷ 1 ∷ 5 ∷ copies 6 0 ++ incl ++ zero ++ block
+
+-- three words, four words
+abbrev node : ℕ → ℕ → ℕ → List ℕ
+node v l k = v ∷ l ∷ k ∷ []
+
+abbrev block : ℕ → ℕ → ℕ → ℕ → List ℕ
+block passes bits limit used = passes ∷ bits ∷ limit ∷ used ∷ []
+
+-- a writer and a reader that have one pass of the block so far, with so many length bits
+abbrev wrote : ℕ → ℕ → List ℕ
+wrote layer bits = words 1 0 layer (node 0 1 1) (node 0 1 1) (block 1 bits 0 0)
+
+abbrev read-one : ℕ → ℕ → ℕ → List ℕ
+read-one style layer bits = words 2 style layer (node 0 1 0) (node 0 1 0) (block 1 bits (cond (termAll style) 1 (cond (bypass style) 10 109)) 1)
+
+-- ---- the refusals of writing and measuring, each where every later one could be given too
+
+abbrev writing : ℕ → ℕ → List ℕ → List ℕ → List ℕ → ℕ → ℕ → List ℕ → Step
+writing n body cs ls ms room why bytes = writes (record { contribution = contribution cs ls ms; markers = plain; number = 0; scratch = n; body = body; output = room }) why bytes
+
+-- a list too short, 165 passes, 2^31 bytes, a field of 39 bits, no body, no output
+abbrev all-wrong : ℕ → ℕ → Step
+all-wrong n why = writing n 0 (165 ∷ []) (2 ^ 31 ∷ []) [] 0 why []
+
+pub write-rows : List Row
+write-rows =
+    one
+    ( -- 5: a reader's state, a node out of range at layer 999, a scratch too short or too long
+    loads-writer (words 2 0 0 (node 999 0 0) (node 999 0 0) (block 0 0 0 0)) ∷ all-wrong 23 5
+    ∷ loads-writer (words 1 0 999 (node 0 1 2) (node 0 1 1) (block 1 32 0 0)) ∷ all-wrong 23 5
+    ∷ loads-writer (wrote 999 32) ∷ all-wrong 22 5 ∷ all-wrong 24 5
+    -- 6
+    ∷ all-wrong 23 6
+    -- 3: lengths, marks, counts
+    ∷ loads-writer (wrote 998 32) ∷ all-wrong 23 3
+    ∷ writing 23 0 (165 ∷ []) (2 ^ 31 ∷ copies 164 0) (copies 164 0) 0 3 []
+    ∷ writing 23 0 (165 ∷ []) (2 ^ 31 ∷ copies 165 0) (copies 165 0) 0 3 []
+    ∷ writing 23 0 (165 ∷ 0 ∷ []) (2 ^ 31 ∷ copies 164 0) (copies 165 0) 0 3 []
+    ∷ writing 23 0 [] [] [] 0 3 []
+    -- 7
+    ∷ writing 23 0 (165 ∷ []) (2 ^ 31 ∷ copies 164 0) (copies 165 0) 0 7 []
+    -- 8: in one pass, and in two that make one segment; apart they are shorter
+    ∷ writing 23 0 (164 ∷ []) (2 ^ 31 ∷ copies 163 0) (copies 164 0) 0 8 []
+    ∷ writing 23 0 (2 ∷ []) (2 ^ 30 ∷ 2 ^ 30 ∷ []) (0 ∷ 0 ∷ []) 0 8 []
+    ∷ writing 23 0 (2 ∷ []) (2 ^ 30 ∷ 2 ^ 30 ∷ []) (1 ∷ 0 ∷ []) 0 10 []
+    -- 9
+    ∷ writing 23 0 (2 ∷ []) (1 ∷ 1 ∷ []) (0 ∷ 0 ∷ []) 0 9 []
+    -- 10: too short, too long
+    ∷ writing 23 0 (1 ∷ []) (1 ∷ []) (0 ∷ []) 0 10 []
+    ∷ writing 23 2 (1 ∷ []) (1 ∷ []) (0 ∷ []) 0 10 []
+    -- 11, and the packet
+    ∷ writing 23 1 (1 ∷ []) (1 ∷ []) (0 ∷ []) 5 11 []
+    ∷ writing 23 1 (1 ∷ []) (1 ∷ []) (0 ∷ []) 6 0 (0xc0 ∷ 0x00 ∷ 0x00 ∷ 0x00 ∷ 0x10 ∷ [])
+    -- at layer 998 it was the last
+    ∷ all-wrong 23 6
+    ∷ [])
+    -- 8 in any block comes before 9 in any: 32 length bits and two passes in the first, 2^31 bytes in the second
+    ∷ precinct 2 0 (5 ∷ 5 ∷ [])
+    (loads-writer (1 ∷ 1 ∷ 0 ∷ 1 ∷ 2 ∷ 1 ∷ 5 ∷ copies 6 0 ++ node 0 1 1 ++ node 0 1 1 ++ node 0 1 1 ++ node 0 1 1 ++ node 0 1 1 ++ node 0 1 1 ++ block 1 32 0 0 ++ block 1 3 0 0)
+    ∷ writing 39 0 (2 ∷ 1 ∷ []) (1 ∷ 1 ∷ 2 ^ 31 ∷ []) (0 ∷ 0 ∷ 0 ∷ []) 0 8 []
+    ∷ writing 39 0 (2 ∷ 1 ∷ []) (1 ∷ 1 ∷ (2 ^ 31 - 1) ∷ []) (0 ∷ 0 ∷ 0 ∷ []) 0 9 []
+    ∷ [])
+    -- a header too long to be built with its body: 2^31 - 1 bytes take 31 bits
+    ∷ one
+    (heads (record { contribution = contribution (1 ∷ []) ((2 ^ 31 - 1) ∷ []) (0 ∷ []); markers = plain; number = 0; scratch = 23; body = 0; output = 0 }) 0
+    (0xef ∷ 0xff ∷ 0x7f ∷ 0xff ∷ 0x5f ∷ 0xff ∷ 0x7f ∷ 0xff ∷ 0x70 ∷ [])
+    ∷ holds-writer (words 1 0 1 (node 0 0 1) (node 0 0 1) (block 1 31 0 0))
+    ∷ [])
+    ∷ []
+
+-- ---- the refusals of reading
+
+abbrev reading : ℕ → ℕ → ℕ → List ℕ → ℕ → Step
+reading n reports records src why = reads (record { markers = plain; input = src; scratch = n; reports = reports; records = records }) (no why) [] []
+
+-- one pass with an increment of 30, which gives 9
+abbrev too-wide : List ℕ
+too-wide = 0xef ∷ 0xff ∷ 0x7f ∷ 0xff ∷ 0x70 ∷ 0x00 ∷ []
+
+-- three passes, a first field of 32 bits, and an end in FF
+abbrev ends-in-ff : List ℕ
+ends-in-ff = 0xf0 ∷ 0x00 ∷ 0xff ∷ 0x00 ∷ 0xff ∷ []
+
+pub read-rows : List Row
+read-rows =
+    one
+    ( -- 5: a writer's state, a block out of range at layer 999, a scratch too short or too long
+    loads-reader (words 1 0 0 (node 999 0 0) (node 999 0 0) (block 0 0 0 0)) ∷ reading 23 3 0 too-wide 5
+    ∷ loads-reader (read-one 1 999 33) ∷ reading 23 3 0 too-wide 5
+    ∷ loads-reader (read-one 1 999 32) ∷ reading 22 3 0 too-wide 5 ∷ reading 24 3 0 too-wide 5
+    -- 6
+    ∷ reading 23 3 0 too-wide 6
+    -- 3
+    ∷ loads-reader (words 2 0 0 (node 999 0 0) (node 999 0 0) (block 0 0 0 0)) ∷ reading 23 3 0 too-wide 3 ∷ reading 23 5 0 too-wide 3
+    -- 9 before 13 at a segment
+    ∷ reading 23 4 0 too-wide 9
+    ∷ reading 23 4 0 (0xe5 ∷ []) 13
+    ∷ reading 23 4 3 (0xe5 ∷ []) 13
+    -- 9 before 12: with 10, 2, 1 the second segment has two of three passes
+    ∷ loads-reader (words 2 1 1 (node 0 1 0) (node 0 1 0) (block 9 32 10 9)) ∷ reading 23 4 20 ends-in-ff 9
+    -- 13 before 12: with one pass each there are three segments
+    ∷ loads-reader (words 2 4 1 (node 0 1 0) (node 0 1 0) (block 9 32 1 1)) ∷ reading 23 4 4 ends-in-ff 13
+    -- 12, and with a byte more the packet: three passes in one segment with 31 length bits
+    ∷ loads-reader (words 2 0 1 (node 0 1 0) (node 0 1 0) (block 9 31 109 9)) ∷ reading 23 4 4 ends-in-ff 12
+    ∷ reads (record { markers = plain; input = ends-in-ff ++ 0x7f ∷ []; scratch = 23; reports = 4; records = 4 }) (told 1 6 1) (2 ∷ 0 ∷ 0 ∷ 3 ∷ []) (0 ∷ 0 ∷ 3 ∷ 0x7f80ff ∷ [])
+    ∷ holds-reader (words 2 0 2 (node 0 1 0) (node 0 1 0) (block 12 31 109 12))
+    ∷ [])
+    -- 13 at a segment before 9 at a later one: the first block is A's, the second has an increment of 30
+    ∷ precinct 2 0 (5 ∷ 5 ∷ [])
+    (reading 39 8 0 (0xfc ∷ 0xae ∷ 0xff ∷ 0x7f ∷ 0xff ∷ 0x7f ∷ 0xff ∷ 0x00 ∷ []) 13
+    ∷ reading 39 8 4 (0xfc ∷ 0xae ∷ 0xff ∷ 0x7f ∷ 0xff ∷ 0x7f ∷ 0xff ∷ 0x00 ∷ []) 9
+    ∷ [])
+    ∷ []
+
+-- ---- the ranges of refusal 5: each state is looked at by a call that has nothing else wrong
+
+-- a header of a present packet in which the block isn't included
+abbrev looks-reader : ℕ → List ℕ → List Step
+looks-reader why ws = loads-reader ws ∷ reading (length ws) 4 0 (0x80 ∷ []) why ∷ []
+
+abbrev looks-writer : ℕ → List ℕ → List Step
+looks-writer why ws = loads-writer ws ∷ writing (length ws) 0 (0 ∷ []) [] [] 20 why [] ∷ []
+
+abbrev steps-of : (List ℕ → List Step) → List (List ℕ) → List Step
+steps-of f [] = []
+steps-of f (ws ∷ l) = f ws ++ steps-of f l
+
+-- header words of a reader of one block, in the order of the state
+abbrev head : ℕ → ℕ → ℕ → ℕ → ℕ → ℕ → ℕ → List ℕ
+head role count style layer across down planes = role ∷ count ∷ style ∷ layer ∷ across ∷ down ∷ planes ∷ []
+
+abbrev fresh : List ℕ → List ℕ → List ℕ
+fresh h unused = h ++ unused ++ node 999 0 0 ++ node 999 0 0 ++ block 0 0 0 0
+
+pub range-rows : List Row
+range-rows =
+    one
+    (steps-of (looks-reader 5)
+    ( -- header words
+    fresh (head 0 1 0 0 1 1 5) (copies 6 0) ∷ fresh (head 3 1 0 0 1 1 5) (copies 6 0)
+    ∷ fresh (head 2 0 0 0 1 1 5) (copies 6 0) ∷ fresh (head 2 4 0 0 1 1 5) (copies 6 0)
+    ∷ fresh (head 2 1 64 0 1 1 5) (copies 6 0) ∷ fresh (head 2 1 256 0 1 1 5) (copies 6 0)
+    ∷ fresh (head 2 1 0 1000 1 1 5) (copies 6 0)
+    ∷ fresh (head 2 1 0 0 65 1 5) (copies 6 0) ∷ fresh (head 2 1 0 0 1 65 5) (copies 6 0) ∷ fresh (head 2 1 0 0 1 1 999) (copies 6 0)
+    ∷ fresh (head 2 1 0 0 1 1 5) (1 ∷ copies 5 0) ∷ fresh (head 2 1 0 0 1 1 5) (copies 5 0 ++ 1 ∷ [])
+    -- lengths: none, a header cut short, a word too few, a word too many, another geometry
+    ∷ [] ∷ (2 ∷ 1 ∷ []) ∷ (head 2 1 0 0 1 1 5 ++ copies 15 0) ∷ (fresh (head 2 1 0 0 1 1 5) (copies 6 0) ++ 0 ∷ []) ∷ fresh (head 2 1 0 0 2 1 5) (copies 6 0)
+    -- nodes
+    ∷ words 2 0 1 (node 1000 0 0) (node 999 0 0) (block 0 0 0 0) ∷ words 2 0 1 (node 999 1000 0) (node 999 0 0) (block 0 0 0 0) ∷ words 2 0 1 (node 999 0 2) (node 999 0 0) (block 0 0 0 0)
+    ∷ words 2 0 1 (node 999 0 0) (node 1000 0 0) (block 0 0 0 0) ∷ words 2 0 1 (node 999 0 0) (node 999 1000 0) (block 0 0 0 0) ∷ words 2 0 1 (node 999 0 0) (node 999 0 2) (block 0 0 0 0)
+    -- blocks: passes above 164 × layer; length bits
+    ∷ words 2 0 0 (node 0 1 0) (node 0 1 0) (block 1 3 109 1) ∷ words 2 0 1 (node 0 1 0) (node 0 1 0) (block 165 3 109 1)
+    ∷ words 2 0 1 (node 0 1 0) (node 0 1 0) (block 0 3 0 0) ∷ words 2 0 1 (node 0 1 0) (node 0 1 0) (block 1 0 109 1) ∷ words 2 0 1 (node 0 1 0) (node 0 1 0) (block 1 2 109 1) ∷ words 2 0 1 (node 0 1 0) (node 0 1 0) (block 1 33 109 1)
+    -- limit and passes of the segment: none with passes, some without; a limit that the style doesn't give; none or too many passes
+    ∷ words 2 0 1 (node 0 1 0) (node 0 1 0) (block 1 3 0 0) ∷ words 2 0 1 (node 0 1 0) (node 0 1 0) (block 0 0 109 1)
+    ∷ words 2 0 1 (node 0 1 0) (node 0 1 0) (block 1 3 10 1) ∷ words 2 1 1 (node 0 1 0) (node 0 1 0) (block 1 3 109 1) ∷ words 2 1 1 (node 0 1 0) (node 0 1 0) (block 1 3 3 1) ∷ words 2 5 1 (node 0 1 0) (node 0 1 0) (block 1 3 2 1)
+    ∷ words 2 0 1 (node 0 1 0) (node 0 1 0) (block 1 3 109 0) ∷ words 2 0 1 (node 0 1 0) (node 0 1 0) (block 1 3 109 110) ∷ words 2 4 1 (node 0 1 0) (node 0 1 0) (block 1 3 1 2)
+    ∷ []))
+    ∷ one
+    (steps-of (looks-writer 5)
+    (words 1 0 1 (node 0 1 1) (node 0 1 1) (block 1 3 109 1)
+    ∷ words 1 0 1 (node 0 1 1) (node 0 1 1) (block 1 3 0 1)
+    ∷ words 1 0 1 (node 0 1 1) (node 0 1 1) (block 1 3 109 0)
+    ∷ []))
+    -- the largest words that are in range; what follows is the packet 80, in which the block isn't included
+    ∷ one
+    (loads-reader (words 2 63 998 (node 999 999 1) (node 999 999 1) (block 0 0 0 0)) ∷ get 23 1 (0x80 ∷ []) (told 1 1 0) (copies 4 0) []
+    ∷ loads-reader (words 2 0 2 (node 0 1 1) (node 0 1 1) (block 328 32 109 109)) ∷ get 23 1 (0x80 ∷ []) (told 1 1 0) (copies 4 0) []
+    ∷ loads-reader (words 2 1 2 (node 0 1 1) (node 0 1 1) (block 328 32 2 2)) ∷ get 23 1 (0x80 ∷ []) (told 1 1 0) (copies 4 0) []
+    ∷ loads-writer (words 1 63 998 (node 999 999 1) (node 999 999 1) (block 0 0 0 0)) ∷ puts 23 (0 ∷ []) [] [] (0x80 ∷ [])
+    ∷ loads-writer (words 1 0 2 (node 0 1 1) (node 0 1 1) (block 328 32 0 0)) ∷ puts 23 (0 ∷ []) [] [] (0x80 ∷ [])
+    ∷ [])
+    ∷ []
+
+-- ---- the slips that lie near, and other corners
+
+pub slip-rows : List Row
+slip-rows =
+    -- zero planes counted from the threshold, one too many: 3 zero planes are three 0 and a 1
+    record {
+      given = band 1 1 5 ∷ [];
+      planes = 2 ∷ [];
+      style = 0;
+      steps = puts 23 (1 ∷ []) (5 ∷ []) (0 ∷ []) (0xc4 ∷ 0xa0 ∷ []) ∷ get 23 1 (0xc4 ∷ 0xa0 ∷ []) (told 1 2 1) (1 ∷ 3 ∷ 2 ∷ 1 ∷ []) (0 ∷ 1 ∷ 1 ∷ 5 ∷ []) ∷ [];
+    }
+    -- widths from all passes of the block: C twice, the second field as wide as the first
+    ∷ one
+    (puts 23 (2 ∷ []) (lengths 2 15) (0 ∷ 0 ∷ []) (0xf3 ∷ 0xc0 ∷ [])
+    ∷ puts 23 (2 ∷ []) (lengths 2 15) (0 ∷ 0 ∷ []) (0xe7 ∷ 0x80 ∷ [])
+    ∷ get 23 1 (0xf3 ∷ 0xc0 ∷ []) (told 1 2 1) (1 ∷ 0 ∷ 5 ∷ 2 ∷ []) (0 ∷ 1 ∷ 2 ∷ 15 ∷ [])
+    ∷ get 23 1 (0xe7 ∷ 0x80 ∷ []) (told 1 2 1) (2 ∷ 0 ∷ 0 ∷ 2 ∷ []) (0 ∷ 0 ∷ 2 ∷ 15 ∷ [])
+    ∷ [])
+    -- length bits set back to 3 each layer: B, then 5 bytes in the 4 bits that B left
+    ∷ one
+    (puts 23 (1 ∷ []) (8 ∷ []) (0 ∷ []) (0xea ∷ 0x00 ∷ [])
+    ∷ puts 23 (1 ∷ []) (5 ∷ []) (0 ∷ []) (0xc5 ∷ [])
+    ∷ get 23 1 (0xea ∷ 0x00 ∷ []) (told 1 2 1) (1 ∷ 0 ∷ 5 ∷ 1 ∷ []) (0 ∷ 1 ∷ 1 ∷ 8 ∷ [])
+    ∷ get 23 1 (0xc5 ∷ []) (told 1 1 1) (2 ∷ 0 ∷ 0 ∷ 1 ∷ []) (0 ∷ 0 ∷ 1 ∷ 5 ∷ [])
+    ∷ [])
+    -- no 00 behind a last FF: E, again, with EPH behind it
+    ∷ one
+    (writes (record { contribution = contribution (16 ∷ []) (lengths 16 511) (copies 16 0); markers = record { sop = false; eph = true }; number = 0; scratch = 23; body = 511; output = 517 }) 0
+    (0xfe ∷ 0xad ∷ 0xff ∷ 0x00 ∷ 0xff ∷ 0x92 ∷ [])
+    ∷ [])
+    -- a missing marker treated as a refusal: A without markers where both are used, alone and with bytes behind it; a half marker
+    ∷ one
+    (reads (record { markers = marked; input = 0xe5 ∷ []; scratch = 23; reports = 4; records = 4 }) (0 ∷ 1 ∷ 1 ∷ 1 ∷ 1 ∷ 1 ∷ []) (1 ∷ 0 ∷ 5 ∷ 1 ∷ []) (0 ∷ 1 ∷ 1 ∷ 5 ∷ []) ∷ [])
+    ∷ one
+    (reads (record { markers = marked; input = 0xe5 ∷ copies 5 7; scratch = 23; reports = 4; records = 4 }) (0 ∷ 1 ∷ 1 ∷ 1 ∷ 2 ∷ 2 ∷ []) (1 ∷ 0 ∷ 5 ∷ 1 ∷ []) (0 ∷ 1 ∷ 1 ∷ 5 ∷ []) ∷ [])
+    ∷ one
+    (reads (record { markers = record { sop = false; eph = true }; input = 0xe5 ∷ 0xff ∷ []; scratch = 23; reports = 4; records = 4 }) (0 ∷ 1 ∷ 1 ∷ 1 ∷ 0 ∷ 1 ∷ []) (1 ∷ 0 ∷ 5 ∷ 1 ∷ []) (0 ∷ 1 ∷ 1 ∷ 5 ∷ []) ∷ [])
+    -- an absent packet between its markers
+    ∷ one
+    (reads (record { markers = marked; input = 0xff ∷ 0x91 ∷ 0x00 ∷ 0x04 ∷ 0x00 ∷ 0x00 ∷ 0x00 ∷ 0xff ∷ 0x92 ∷ []; scratch = 23; reports = 4; records = 4 }) (told 0 9 0) (copies 4 0) [] ∷ [])
+    -- a length of 0 takes one bit, and so no increment
+    ∷ one (both 1 0 (0xe0 ∷ []))
+    -- six zero planes read in a band of five: the block's planes wrap
+    ∷ one (get 23 1 (0xc0 ∷ 0x85 ∷ []) (told 1 2 1) (1 ∷ 6 ∷ (2 ^ 32 - 1) ∷ 1 ∷ []) (0 ∷ 1 ∷ 1 ∷ 1 ∷ []) ∷ [])
+    -- a header that goes on past the end reads zeros there: the first pass of A's block with 0 bytes
+    ∷ one (get 23 1 (0xe0 ∷ []) (told 1 1 1) (1 ∷ 0 ∷ 5 ∷ 1 ∷ []) (0 ∷ 1 ∷ 1 ∷ 0 ∷ []) ∷ [])
+    ∷ one (get 23 1 (0xea ∷ []) (told 1 1 1) (1 ∷ 0 ∷ 5 ∷ 1 ∷ []) (0 ∷ 1 ∷ 1 ∷ 8 ∷ []) ∷ [])
+    -- three bands, the second without blocks: blocks are numbered through
+    ∷ record {
+      given = band 1 1 5 ∷ band 0 3 7 ∷ band 1 1 6 ∷ [];
+      planes = 5 ∷ 6 ∷ [];
+      style = 4;
+      steps =
+          puts 33 (1 ∷ 2 ∷ []) (5 ∷ 1 ∷ 2 ∷ []) (0 ∷ 1 ∷ 0 ∷ []) (0xe5 ∷ 0xe1 ∷ 0x40 ∷ [])
+          ∷ get 33 2 (0xe5 ∷ 0xe1 ∷ 0x40 ∷ []) (told 1 3 3) (1 ∷ 0 ∷ 5 ∷ 1 ∷ 1 ∷ 0 ∷ 6 ∷ 2 ∷ []) (0 ∷ 1 ∷ 1 ∷ 5 ∷ 1 ∷ 1 ∷ 1 ∷ 1 ∷ 1 ∷ 1 ∷ 1 ∷ 2 ∷ [])
+          ∷ [];
+    }
+    -- a precinct without blocks
+    ∷ record { given = band 0 0 5 ∷ []; planes = []; style = 0; steps = puts 13 [] [] [] (0x80 ∷ []) ∷ get 13 0 (0x80 ∷ []) (told 1 1 0) [] [] ∷ [] }
+    ∷ []
+
+pub rows : List Row
+rows = a-to-l ++ start-rows ++ write-rows ++ read-rows ++ range-rows ++ slip-rows
+
+-- ---- the statement: no row fails
 
 pub all-rows-hold : failing 0 rows ≡ []
-unfolding rows a-to-l start-rows failing rowHolds
+unfolding rows a-to-l start-rows write-rows read-rows range-rows slip-rows failing rowHolds
 all-rows-hold = refl

@@ -2,7 +2,7 @@
 -- function from the arguments and what the lent lists hold at entry to the answer and what they hold at exit.
 use Prim.Native.Nat.{ℕ, _+_, _*_, _/_}
 use mathlib.Core.Bool.{Bool, cond, _||_, not}
-use mathlib.Core.List.{List, [], _∷_, _++_}
+use mathlib.Core.List.{List, _++_}
 use lib.ListN.{length, set}
 use lib.Dec.{ltb, eqb}
 use Rattle.t800.specs.declared.Bio.{Bio}

@@ -6,7 +6,7 @@ use mathlib.Core.List.{List, [], _∷_, _++_, reverse}
 use lib.ListN.{length, set}
 use lib.Dec.{ltb, leb, eqb}
 use Rattle.t800.specs.declared.Bio.{Bio}
-use Rattle.t800.specs.Bits.{Decoded, bioAt, getBit, readBits, endsInFF}
+use Rattle.t800.specs.Bits.{bioAt, getBit, readBits, endsInFF}
 use Rattle.t800.specs.TagTree.{PathRead, value, readPath}
 use Rattle.t800.specs.PassCount.{readPasses}
 use Rattle.t800.specs.Segments.{width, firstLimit, nextLimit, readComma}

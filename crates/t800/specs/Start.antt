@@ -1,10 +1,10 @@
 -- Start (document 01, "The calls an archive makes"): a lent state is filled for a writer or a reader. It stands for the reset of the
 -- trees at layer 0.
 use Prim.Native.Nat.{ℕ, zero, suc, _-_}
-use mathlib.Core.Bool.{Bool, cond, _||_, not}
+use mathlib.Core.Bool.{cond, _||_, not}
 use mathlib.Core.List.{List, [], _∷_, _++_}
-use lib.ListN.{length, take, replicate}
-use lib.Dec.{eqb}
+use lib.ListN.{length, take}
+use lib.Dec.{ltb, eqb}
 use Rattle.t800.specs.declared.Band.{Band}
 use Rattle.t800.specs.TagTree.{setValue}
 use Rattle.t800.specs.State.{Block, notYetIncluded, notYetPlanes, writer, blocksIn, bandNodes, blocks, stateLength}
@@ -47,14 +47,14 @@ pub record StartResult : Type 0 where
   pub answer : ℕ
   pub state : List ℕ
 
--- Role, band count, bands, style byte, block planes (none for a reader), lent state. In the code the bands are an array of three, so
--- that there are at least as many as a count that isn't refused; those beyond the count are ignored.
+-- Role, band count, bands, style byte, block planes (none for a reader), lent state. Bands beyond the count are ignored. Fewer than the
+-- count cannot be given in the code, where they are an array of three.
 unfoldable pub startRefusal : ℕ → ℕ → List Band → ℕ → List ℕ → List ℕ → ℕ
 unfolding writer
 startRefusal r n given s planes lent =
     let bs = take n given in
     let ks = blocks bs in
-    cond (badShape n bs) 1
+    cond (badShape n bs || ltb (length given) n) 1
     (cond (badStyle s) 2
     (cond (not (eqb (length lent) (stateLength bs)) || not (eqb (length planes) (cond (eqb r writer) (length ks) 0))) 3
     (cond (bandTooDeep bs || blockTooDeep ks planes) 4 0)))

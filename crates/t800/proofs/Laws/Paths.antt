@@ -42,15 +42,15 @@ Ancestors parent a (b ∷ bs) = (b ≡ parent a) × Ancestors parent b bs
 
 -- ---- levels
 
-abbrev size : Level → ℕ
+abbrev pub size : Level → ℕ
 size l = l .w * l .h
 
 -- each level halves both sides, rounded up
-abbrev Halves : ℕ → ℕ → List Level → Type 0
+abbrev pub Halves : ℕ → ℕ → List Level → Type 0
 Halves w h [] = Unit {0}
 Halves w h (l ∷ ls) = (l .w ≡ w) × (l .h ≡ h) × Halves ((w + 1) / 2) ((h + 1) / 2) ls
 
-levels-halve : (f w h : ℕ) → Halves w h (levelsFrom f w h)
+pub levels-halve : (f w h : ℕ) → Halves w h (levelsFrom f w h)
 unfolding levelsFrom
 levels-halve zero w h = tt
 levels-halve (suc f) w h = (refl, refl, either (Halves ((w + 1) / 2) ((h + 1) / 2)) (leb (w * h) 1) _ _ tt (levels-halve f ((w + 1) / 2) ((h + 1) / 2)))
@@ -127,10 +127,10 @@ width-pos : (j w h : ℕ) → j < w * h → 0 < w
 width-pos j zero h l = absurd (omega (arith, zero-mul h))
 width-pos j (suc w) h l = omega arith
 
-row-below : (j w h : ℕ) → j < w * h → j / w < h
+pub row-below : (j w h : ℕ) → j < w * h → j / w < h
 row-below j w h l = div-lt-iff-lt-mul (width-pos j w h l) .1 (omega (arith, mul-comm w h))
 
-column-below : (j w h : ℕ) → j < w * h → j % w < w
+pub column-below : (j w h : ℕ) → j < w * h → j % w < w
 column-below j w h l = mod-lt j (width-pos j w h l)
 
 parent-below : (ls : List Level) (w h n j : ℕ) → Halves w h ls → n ≤ j → j < n + nodesIn ls → parentFrom ls n j < n + nodesIn ls

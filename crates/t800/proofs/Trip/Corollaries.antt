@@ -10,7 +10,7 @@ use lib.ListN.{length, take, drop, replicate, length-replicate, length-append}
 use lib.Seq.{take-append-seam, take-length}
 use lib.Dec.{T, eqb}
 use lib.Ieee.Fits.{and-l, and-r}
-use borrow.Author.Tests.{eq-eqb}
+use borrow.Author.Tests.{le-ltb, eq-eqb}
 use Rattle.t800.specs.declared.Band.{Band}
 use Rattle.t800.specs.Base.{sum, overwrite}
 use Rattle.t800.specs.Reports.{BlockReport, SegmentRecord, reportWords, recordWords}
@@ -22,7 +22,7 @@ use Rattle.t800.specs.RoundTrip.{WriteCall, WriterCall, measuring, writi
 use Rattle.t800.proofs.Laws.Tests.{either, if-eq, if-ne, if-true, if-false, on-eq}
 use Rattle.t800.proofs.Trip.Booked.{entries-length}
 use Rattle.t800.proofs.Trip.Calls.{refused-keeps, terminated-accepted, terminated-refused, FirstOwed, first-owed, refused-read-keeps}
-use Rattle.t800.proofs.Trip.Start.{start-accepted}
+use Rattle.t800.proofs.Laws.Accepted.{start-accepted}
 use Rattle.t800.proofs.Trip.WriterInRange.{acceptable}
 use Rattle.t800.proofs.Trip.Invariant.{Invariant, after-start, reports-are, packet-gives, after-packet, read-harmless}
 
@@ -41,7 +41,6 @@ pub record Reached (style : ℕ) (ws : List ℕ) (book : List BlockEntry) : Type
   pub planes : List ℕ
   pub lent : List ℕ
   pub calls : List WriterCall
-  pub enough : count ≤ length given
   pub starts : start writer count given style planes lent .answer ≡ 0
   pub terminated : T (allTerminatedAsStyle style (start writer count given style planes lent .state) (newBook (take count given) planes) calls)
   pub state-is : stateAfter (start writer count given style planes lent .state) calls ≡ ws
@@ -137,7 +136,7 @@ reader-starts : (n : ℕ) (given : List Band) (s : ℕ) (planes lent : List ℕ)
 unfolding start startRefusal writer reader
 reader-starts n given s planes lent e =
     let w = start-accepted writer n given s planes lent e in
-    rw (w .shape, w .style-in, eq-eqb _ _ (w .lent-length), w .bands-in, none-too-deep (blocks (take n given)))
+    rw (w .shape, le-ltb (length given) n (w .enough), w .style-in, eq-eqb _ _ (w .lent-length), w .bands-in, none-too-deep (blocks (take n given)))
 
 in-step : (s : ℕ) (ws : List ℕ) (es : List BlockEntry) → Reached s ws es → (bs : List Band) × (t : ℕ) × (rs : List ℕ) × Invariant bs s t ws rs es
 in-step s ws es r =
@@ -145,7 +144,7 @@ in-step s ws es r =
     let ws₀ : List ℕ = start writer (r .count) (r .given) s (r .planes) (r .lent) .state in
     let rs₀ : List ℕ = start reader (r .count) (r .given) s [] (r .lent) .state in
     let es₀ : List BlockEntry = newBook bs (r .planes) in
-    let y = after-start (r .count) (r .given) s (r .planes) (r .lent) (r .lent) (r .enough) (r .starts) (reader-starts (r .count) (r .given) s (r .planes) (r .lent) (r .starts)) in
+    let y = after-start (r .count) (r .given) s (r .planes) (r .lent) (r .lent) (r .starts) (reader-starts (r .count) (r .given) s (r .planes) (r .lent) (r .starts)) in
     let q = reader-after bs s 0 ws₀ rs₀ es₀ (r .calls) y (r .terminated) in
     (bs, q .0, q .1, subst (λ (v : List ℕ). Invariant bs s (q .0) v (q .1) es) (r .state-is) (subst (Invariant bs s (q .0) (stateAfter ws₀ (r .calls)) (q .1)) (r .book-is) (q .2)))
 
@@ -334,13 +333,12 @@ never-broken bs s t ws rs es (packetRead c ∷ reads) writes y h = go (first-owe
 
 -- Reading a packet that the writer made never gives 9 or 12, and 13 only when fewer records are lent than the book's entry has.
 pub packets-never-broken : (n : ℕ) (given : List Band) (style : ℕ) (planes lent lent′ : List ℕ)
-    → n ≤ length given
     → start writer n given style planes lent .answer ≡ 0
     → start reader n given style [] lent′ .answer ≡ 0
     → (ws : List WriterCall)
     → T (allTerminatedAsStyle style (start writer n given style planes lent .state) (newBook (take n given) planes) ws)
     → (rs : List ReaderCall)
     → NextNeverBroken (start reader n given style [] lent′ .state) (owed style (start writer n given style planes lent .state) (newBook (take n given) planes) ws) rs
-packets-never-broken n given style planes lent lent′ enough ew er ws h rs =
+packets-never-broken n given style planes lent lent′ ew er ws h rs =
     never-broken (take n given) style 0 (start writer n given style planes lent .state) (start reader n given style [] lent′ .state) (newBook (take n given) planes) rs ws
-    (after-start n given style planes lent lent′ enough ew er) h
+    (after-start n given style planes lent lent′ ew er) h

@@ -4,7 +4,6 @@ use mathlib.Core.Path.{_≡_, refl}
 use mathlib.Core.Bool.{true, false}
 use mathlib.Core.List.{List, [], _∷_}
 use Prim.Native.Nat.{ℕ}
-use native.Mathlib.Omega.{arith}
 use lib.ListN.{length, replicate}
 use lib.Dec.{T}
 use Rattle.t800.specs.declared.Band.{Band}
@@ -12,7 +11,7 @@ use Rattle.t800.specs.declared.Markers.{Markers}
 use Rattle.t800.specs.State.{writer, reader}
 use Rattle.t800.specs.Start.{start}
 use Rattle.t800.specs.Book.{BlockEntry, newBook, terminatedAt, terminatedAsStyle}
-use Rattle.t800.specs.RoundTrip.{WriteCall, WriterCall, measuring, writing, writeOf, owedFor, owed, allTerminatedAsStyle, ReaderCall, ReadsAsOwed}
+use Rattle.t800.specs.RoundTrip.{RoundTrip, WriteCall, WriterCall, measuring, writing, writeOf, owedFor, owed, allTerminatedAsStyle, ReaderCall, ReadsAsOwed}
 use Rattle.t800.proofs.Table.{rowHolds}
 use Rattle.t800.proofs.Trip.RoundTrip.{round-trip}
 
@@ -89,4 +88,5 @@ seven-owed = refl
 
 -- so the round trip applies
 applies : (rs : List ReaderCall) → ReadsAsOwed (start reader 2 given 1 [] lent .state) (owed 1 state book calls) rs
-applies rs = round-trip 2 given 1 planes lent lent (omega arith) (starts .0) (starts .1) calls terminates rs
+unfolding RoundTrip
+applies rs = round-trip 2 given 1 planes lent lent (starts .0) (starts .1) calls terminates rs

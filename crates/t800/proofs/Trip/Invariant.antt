@@ -3,7 +3,7 @@ use mathlib.Core.Path.{_≡_, refl, sym, ap, _∙_, subst}
 use mathlib.Core.Logic.{_≢_, _⊎_, inl, inr}
 use mathlib.Core.Bool.{true, not}
 use mathlib.Core.List.{List, [], _∷_}
-use Prim.Native.Nat.{ℕ, suc, _+_, _-_, _*_, _/_, _≤_, _<_}
+use Prim.Native.Nat.{ℕ, suc, _+_, _*_, _/_, _≤_, _<_}
 use native.Mathlib.Nat.{le-trans, le-of-eq}
 use native.Mathlib.Omega.{arith}
 use lib.ListN.{length, set, take, drop, length-take}
@@ -37,7 +37,8 @@ use Rattle.t800.proofs.Trip.Packet.{PacketRead, packet-read, header-ref
 use Rattle.t800.proofs.Trip.Bits.{nextBit, bioAfter}
 use Rattle.t800.proofs.Laws.Tests.{either}
 use Rattle.t800.proofs.Trip.Calls.{is-accepted}
-use Rattle.t800.proofs.Trip.Start.{started-in-step, started-booked, start-accepted, few-bands}
+use Rattle.t800.proofs.Laws.Accepted.{start-accepted, few-bands}
+use Rattle.t800.proofs.Trip.Start.{started-in-step, started-booked}
 use Rattle.t800.proofs.Trip.WriterInRange.{WriterInvariant, writer-after-start, header-coded, blocks-are, layer-left, acceptable, state-is, writer-after}
 
 -- with bands bs, style s and next layer t: writer's words, reader's words, and the book
@@ -58,10 +59,10 @@ unfolding setZeroPlanes
 no-planes [] ws = refl
 no-planes (k ∷ ks) ws = refl
 
-pub after-start : (n : ℕ) (given : List Band) (s : ℕ) (planes lent lent′ : List ℕ) → n ≤ length given → start writer n given s planes lent .answer ≡ 0 → start reader n given s [] lent′ .answer ≡ 0
+pub after-start : (n : ℕ) (given : List Band) (s : ℕ) (planes lent lent′ : List ℕ) → start writer n given s planes lent .answer ≡ 0 → start reader n given s [] lent′ .answer ≡ 0
     → Invariant (take n given) s 0 (start writer n given s planes lent .state) (start reader n given s [] lent′ .state) (newBook (take n given) planes)
 unfolding writer reader
-after-start n given s planes lent lent′ enough ew er =
+after-start n given s planes lent lent′ ew er =
     let bs : List Band = take n given in
     let ks : List Block = blocks bs in
     let w = start-accepted writer n given s planes lent ew in
@@ -69,7 +70,7 @@ after-start n given s planes lent lent′ enough ew er =
     let vs : List ℕ = start writer n given s planes lent .state in
     subst (λ (v : List ℕ). Invariant bs s 0 vs v (newBook bs planes)) (sym (r .state ∙ no-planes ks (freshState 2 s bs)))
     (record {
-      writer-side = writer-after-start n given s planes lent enough ew;
+      writer-side = writer-after-start n given s planes lent ew;
       in-step = subst (λ (v : List ℕ). InStep (layoutOf bs) s v (freshState 2 s bs)) (sym (w .state)) (started-in-step bs s planes);
       booked = subst (λ (v : List ℕ). AllBooked v ks (newBook bs planes)) (sym (w .state)) (started-booked bs s planes (w .planes-length) (w .bands-in) (w .blocks-in));
       reader-first = fresh-first-words 2 s bs (few-bands n given (w .shape));

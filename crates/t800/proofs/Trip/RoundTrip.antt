@@ -3,14 +3,14 @@
 use mathlib.Core.Path.{_≡_, refl, sym, subst}
 use mathlib.Core.Logic.{_⊎_, inl, inr}
 use mathlib.Core.List.{List, [], _∷_}
-use Prim.Native.Nat.{ℕ, _+_, _≤_}
+use Prim.Native.Nat.{ℕ, _+_}
 use lib.ListN.{length, take}
 use lib.Dec.{T}
 use Rattle.t800.specs.declared.Band.{Band}
 use Rattle.t800.specs.State.{writer, reader}
 use Rattle.t800.specs.Start.{start}
 use Rattle.t800.specs.Book.{BlockEntry, newBook, addCounts}
-use Rattle.t800.specs.RoundTrip.{WriterCall, writeOf, Owed, owed, allTerminatedAsStyle, ReaderCall, refusedRead, packetRead, readOf, ReadsAsOwed}
+use Rattle.t800.specs.RoundTrip.{WriterCall, writeOf, Owed, owed, allTerminatedAsStyle, ReaderCall, refusedRead, packetRead, readOf, ReadsAsOwed, RoundTrip}
 use Rattle.t800.proofs.Trip.Calls.{FirstOwed, first-owed, refused-read-keeps}
 use Rattle.t800.proofs.Trip.Invariant.{Invariant, reader-in-range, after-start, packet-gives, more-gives, after-packet}
 
@@ -35,15 +35,9 @@ all-read bs s t ws rs es (packetRead c ∷ reads) writes y h =
           k (writeOf ws (f .call) .state) (readOf rs c .state) (addCounts es (f .call .contribution .counts)) (f .rest) (after-packet bs s t ws rs es (f .call) y (f .accepts) (f .terminated) c ask) (f .rest-terminated),
         ))
 
--- DEMAND 3, where the bands that are given are at least as many as the count
-pub round-trip : (n : ℕ) (given : List Band) (style : ℕ) (planes lent lent′ : List ℕ)
-    → n ≤ length given
-    → start writer n given style planes lent .answer ≡ 0
-    → start reader n given style [] lent′ .answer ≡ 0
-    → (ws : List WriterCall)
-    → T (allTerminatedAsStyle style (start writer n given style planes lent .state) (newBook (take n given) planes) ws)
-    → (rs : List ReaderCall)
-    → ReadsAsOwed (start reader n given style [] lent′ .state) (owed style (start writer n given style planes lent .state) (newBook (take n given) planes) ws) rs
-round-trip n given style planes lent lent′ enough ew er ws h rs =
+-- DEMAND 3
+pub round-trip : RoundTrip
+unfolding RoundTrip
+round-trip n given style planes lent lent′ ew er ws h rs =
     all-read (take n given) style 0 (start writer n given style planes lent .state) (start reader n given style [] lent′ .state) (newBook (take n given) planes) rs ws
-    (after-start n given style planes lent lent′ enough ew er) h
+    (after-start n given style planes lent lent′ ew er) h

@@ -11,10 +11,9 @@ use lib.ListN.{length, set, take}
 use Rattle.t800.specs.declared.Band.{Band}
 use Rattle.t800.specs.TagTree.{Coded}
 use Rattle.t800.specs.State.{Block, notYetIncluded, blocks, bands, layer, stateLength, endOf, writer}
-use Rattle.t800.specs.Ranges.{validState}
 use Rattle.t800.specs.Start.{start}
 use Rattle.t800.specs.WriteHeader.{Contribution, setNewBlocks, codeHeader}
-use Rattle.t800.specs.RoundTrip.{WriteCall, WriterCall, measuring, writing, writeOf, accepted, stateAfter}
+use Rattle.t800.specs.RoundTrip.{WriterInRange, WriteCall, WriterCall, measuring, writing, writeOf, accepted, stateAfter}
 use Rattle.t800.proofs.Laws.Layout.{inclusion, Layout, layoutOf, blocks-placed, end-after}
 use Rattle.t800.proofs.Laws.FirstWords.{FirstWords, next-layer}
 use Rattle.t800.proofs.Trip.Changes.{nodes-only, first-stays, blocks-coded}
@@ -22,7 +21,8 @@ use Rattle.t800.proofs.Trip.SetLeaves.{new-blocks-set}
 use Rattle.t800.proofs.Trip.WriterState.{WriterState, Acceptable, headerBlocks, layer-in-range, layer-word}
 use Rattle.t800.proofs.Trip.ValidStates.{Startable, writer-valid}
 use Rattle.t800.proofs.Trip.Calls.{Accepted, is-accepted, refused-keeps}
-use Rattle.t800.proofs.Trip.Start.{started-writer, started-first-words, start-accepted, few-bands, startable}
+use Rattle.t800.proofs.Laws.Accepted.{start-accepted, few-bands}
+use Rattle.t800.proofs.Trip.Start.{started-writer, started-first-words, startable}
 
 -- with bands bs, style s and next layer t
 pub record WriterInvariant (bs : List Band) (s t : ℕ) (ws : List ℕ) : Type 0 where
@@ -31,14 +31,14 @@ pub record WriterInvariant (bs : List Band) (s t : ℕ) (ws : List ℕ) : Type 0
   pub first-words : FirstWords 1 bs s t ws
   pub layers : t ≤ notYetIncluded
 
-pub writer-after-start : (n : ℕ) (given : List Band) (s : ℕ) (planes lent : List ℕ) → n ≤ length given → start writer n given s planes lent .answer ≡ 0
+pub writer-after-start : (n : ℕ) (given : List Band) (s : ℕ) (planes lent : List ℕ) → start writer n given s planes lent .answer ≡ 0
     → WriterInvariant (take n given) s 0 (start writer n given s planes lent .state)
 unfolding writer
-writer-after-start n given s planes lent enough e =
+writer-after-start n given s planes lent e =
     let bs : List Band = take n given in
     let w = start-accepted writer n given s planes lent e in
     subst (WriterInvariant bs s 0) (sym (w .state))
-    (record { startable = startable writer n given s planes lent enough w; state = started-writer bs s planes; first-words = started-first-words bs s planes (few-bands n given (w .shape)); layers = omega arith })
+    (record { startable = startable writer n given s planes lent w; state = started-writer bs s planes; first-words = started-first-words bs s planes (few-bands n given (w .shape)); layers = omega arith })
 
 -- ---- an accepted call
 
@@ -111,14 +111,10 @@ length-is : (bs : List Band) → stateLength bs ≡ endOf 13 bs
 unfolding stateLength
 length-is bs = refl
 
--- where the bands that are given are at least as many as the count
-pub writer-in-range : (n : ℕ) (given : List Band) (style : ℕ) (planes lent : List ℕ)
-    → n ≤ length given
-    → start writer n given style planes lent .answer ≡ 0
-    → (ws : List WriterCall)
-    → validState writer (stateAfter (start writer n given style planes lent .state) ws) (length lent) ≡ true
-writer-in-range n given style planes lent enough e ws =
+pub writer-in-range : WriterInRange
+unfolding WriterInRange
+writer-in-range n given style planes lent e ws =
     let bs : List Band = take n given in
-    let y = after-calls bs style 0 (start writer n given style planes lent .state) ws (writer-after-start n given style planes lent enough e) in
+    let y = after-calls bs style 0 (start writer n given style planes lent .state) ws (writer-after-start n given style planes lent e) in
     let l : length lent ≡ endOf 13 bs = start-accepted writer n given style planes lent e .lent-length ∙ length-is bs in
     writer-valid bs style (y .0) _ (length lent) (y .1 .first-words) (y .1 .startable) (y .1 .layers) (y .1 .state) (l ∙ sym (y .1 .state .long))
