@@ -1,5 +1,5 @@
 -- What the first thirteen words of a state say: role, bands, style and next layer. No change behind them changes that.
-use mathlib.Core.Path.{_≡_, _∙_}
+use mathlib.Core.Path.{_≡_, refl, _∙_}
 use mathlib.Core.Logic.{_≢_}
 use mathlib.Core.Bool.{true}
 use mathlib.Core.List.{List}
@@ -25,9 +25,9 @@ pub record FirstWords (r : ℕ) (bs : List Band) (s t : ℕ) (ws : List ℕ) : T
 abbrev SameBut3 : List ℕ → List ℕ → Type 0
 SameBut3 ws vs = (j : ℕ) → j < 13 → j ≢ 3 → getD vs j 0 ≡ getD ws j 0
 
-bands-same : (ws vs : List ℕ) → SameBut3 ws vs → bands vs ≡ bands ws
-unfolding bands bandAt
-bands-same ws vs e =
+same-bands : (ws vs : List ℕ) → SameBut3 ws vs → (bands vs ≡ bands ws) × (unusedBandsZero vs ≡ unusedBandsZero ws)
+unfolding bands bandAt unusedBandsZero every
+same-bands ws vs e =
     rw (
       e 1 (omega arith) (omega arith),
       e 4 (omega arith) (omega arith),
@@ -40,32 +40,17 @@ bands-same ws vs e =
       e 11 (omega arith) (omega arith),
       e 12 (omega arith) (omega arith),
     )
-
-unused-same : (ws vs : List ℕ) → SameBut3 ws vs → unusedBandsZero vs ≡ unusedBandsZero ws
-unfolding unusedBandsZero every
-unused-same ws vs e =
-    rw (
-      e 1 (omega arith) (omega arith),
-      e 4 (omega arith) (omega arith),
-      e 5 (omega arith) (omega arith),
-      e 6 (omega arith) (omega arith),
-      e 7 (omega arith) (omega arith),
-      e 8 (omega arith) (omega arith),
-      e 9 (omega arith) (omega arith),
-      e 10 (omega arith) (omega arith),
-      e 11 (omega arith) (omega arith),
-      e 12 (omega arith) (omega arith),
-    )
+    (refl, refl)
 
 with-layer : (r : ℕ) (bs : List Band) (s t u : ℕ) (ws vs : List ℕ) → SameBut3 ws vs → layer vs ≡ u → FirstWords r bs s t ws → FirstWords r bs s u vs
 with-layer r bs s t u ws vs e l h =
     record {
       role-is = e 0 (omega arith) (omega arith) ∙ h .role-is;
-      bands-are = bands-same ws vs e ∙ h .bands-are;
+      bands-are = same-bands ws vs e .0 ∙ h .bands-are;
       count-is = e 1 (omega arith) (omega arith) ∙ h .count-is;
       style-is = e 2 (omega arith) (omega arith) ∙ h .style-is;
       layer-is = l;
-      unused = unused-same ws vs e ∙ h .unused;
+      unused = same-bands ws vs e .1 ∙ h .unused;
     }
 
 -- the next layer is set

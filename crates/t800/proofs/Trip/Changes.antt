@@ -9,9 +9,9 @@ use native.Mathlib.Omega.{arith}
 use lib.ListN.{length, getD, set, take, drop, length-set}
 use lib.Seq.{getD-set-same, getD-set-other}
 use Rattle.t800.specs.TagTree.{Coded, value, low, known, setValue}
-use Rattle.t800.specs.Segments.{Segment, segmentsOf, increment}
+use Rattle.t800.specs.Segments.{Segment, segmentsOf}
 use Rattle.t800.specs.State.{Block, notYetPlanes, passesSoFar}
-use Rattle.t800.specs.WriteHeader.{isNew, lengthBitsBefore, codeInclusion, codeZeroPlanes, codePasses, codeBlock, codeBlocks}
+use Rattle.t800.specs.WriteHeader.{isNew, codeInclusion, codeZeroPlanes, codePasses, codeBlock, codeBlocks}
 use Rattle.t800.proofs.Laws.Tests.{either, on-eq, if-eq, if-ne}
 use Rattle.t800.proofs.Laws.Paths.{All, NotIn}
 use Rattle.t800.proofs.Laws.Layout.{Tree, inclusion, zeroPlanes, treeOf, Layout, Placed, SeparateFromAll, AllPlaced, leafToRoot, path-nodes, second-no-node, third-no-node}
@@ -190,10 +190,9 @@ module _ (L : Layout) (k : Block) (P : Placed L k) (c : ℕ) where
   block-coded t segments ws l =
       let us : List ℕ = pathsCoded L k P t c ws in
       let o = paths-keep L k P t c ws l in
-      let b : ℕ = lengthBitsBefore us k in
       on-eq c 0
       (λ z. rw (if-eq c 0 (codeInclusion t k c ws) _ z) (absent-coded L ws (codeInclusion t k c ws .words) k c (P .block) z (inclusion-keeps L k P t c ws l)))
-      (λ z. rw (if-ne c 0 (codeInclusion t k c ws) _ z) (passes-coded (b + increment b segments) ws us (o .long ∙ l) o))
+      (λ z. rw (if-ne c 0 (codeInclusion t k c ws) _ z) (passes-coded _ ws us (o .long ∙ l) o))
 
 -- ---- coded blocks
 

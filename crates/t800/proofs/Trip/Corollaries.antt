@@ -76,9 +76,9 @@ owed-markers s ws es c = refl
 abbrev callFor : List ℕ → WriteCall → List ℕ → ℕ → ℕ → ReadCall
 callFor rs c input n m = record { scratch = replicate (length rs) 0; markers = c .markers; input = input; reports = replicate (4 * n) 0; records = replicate (4 * m) 0 }
 
-asks : (s : ℕ) (ws rs : List ℕ) (es : List BlockEntry) (c d : WriteCall) (input : List ℕ) (n m : ℕ) → c .markers ≡ d .markers → take (length (frontOf ws c)) input ≡ frontOf ws c
+reads-packet : (s : ℕ) (ws rs : List ℕ) (es : List BlockEntry) (c d : WriteCall) (input : List ℕ) (n m : ℕ) → c .markers ≡ d .markers → take (length (frontOf ws c)) input ≡ frontOf ws c
     → length (owedFor s ws es c .entry .reports) ≡ n → length (owedFor s ws es c .entry .records) ≤ m → ReadsPacket rs (owedFor s ws es c) (callFor rs d input n m)
-asks s ws rs es c d input n m marked begins reps recs =
+reads-packet s ws rs es c d input n m marked begins reps recs =
     record {
       same-markers = sym marked ∙ sym (owed-markers s ws es c);
       begins = rw (owed-front s ws es c) begins;
@@ -89,12 +89,12 @@ asks s ws rs es c d input n m marked begins reps recs =
 
 module _ (bs : List Band) (s : ℕ) where
   -- one accepted call, and a read of its packet
-  next : (t : ℕ) (ws rs : List ℕ) (es : List BlockEntry) (c : WriteCall) → Invariant bs s t ws rs es → accepted ws c ≡ true → T (terminatedAsStyle s es (c .contribution .counts) (c .contribution .marks))
+  reader-follows : (t : ℕ) (ws rs : List ℕ) (es : List BlockEntry) (c : WriteCall) → Invariant bs s t ws rs es → accepted ws c ≡ true → T (terminatedAsStyle s es (c .contribution .counts) (c .contribution .marks))
       → (us : List ℕ) × Invariant bs s (t + 1) (writeOf ws c .state) us (addCounts es (c .contribution .counts))
-  next t ws rs es c y a term =
+  reader-follows t ws rs es c y a term =
       let o : Owed = owedFor s ws es c in
       let r : ReadCall = callFor rs c (frontOf ws c) (length (o .entry .reports)) (length (o .entry .records)) in
-      (readOf rs r .state, after-packet bs s t ws rs es c y a term r (asks s ws rs es c c (frontOf ws c) (length (o .entry .reports)) (length (o .entry .records)) refl (take-length (frontOf ws c)) refl (omega arith)))
+      (readOf rs r .state, after-packet bs s t ws rs es c y a term r (reads-packet s ws rs es c c (frontOf ws c) (length (o .entry .reports)) (length (o .entry .records)) refl (take-length (frontOf ws c)) refl (omega arith)))
 
   reader-after : (t : ℕ) (ws rs : List ℕ) (es : List BlockEntry) (calls : List WriterCall) → Invariant bs s t ws rs es → T (allTerminatedAsStyle s ws es calls)
       → (u : ℕ) × (us : List ℕ) × Invariant bs s u (stateAfter ws calls) us (bookAfter ws es calls)
@@ -113,7 +113,7 @@ module _ (bs : List Band) (s : ℕ) where
           let here : Bool = terminatedAsStyle s es (c .contribution .counts) (c .contribution .marks) in
           let rest : Bool = allTerminatedAsStyle s (writeOf ws c .state) (addCounts es (c .contribution .counts)) cs in
           let h₁ : T (here && rest) = subst T (terminated-accepted s ws es c cs a) h in
-          let n = next t ws rs es c y a (and-l here rest h₁) in
+          let n = reader-follows t ws rs es c y a (and-l here rest h₁) in
           let e : addCounts es (c .contribution .counts) ≡ book (accepted ws c) = sym (if-true (accepted ws c) _ _ a) in
           (t + 1, n .0, subst (Invariant bs s (t + 1) (writeOf ws c .state) (n .0)) e (n .1), subst (λ (z : List BlockEntry). T (allTerminatedAsStyle s (writeOf ws c .state) z cs)) e (and-r here rest h₁))
       one false a =
@@ -138,8 +138,8 @@ reader-starts n given s planes lent e =
     let w = start-accepted writer n given s planes lent e in
     rw (w .shape, le-ltb (length given) n (w .enough), w .style-in, eq-eqb _ _ (w .lent-length), w .bands-in, none-too-deep (blocks (take n given)))
 
-in-step : (s : ℕ) (ws : List ℕ) (es : List BlockEntry) → Reached s ws es → (bs : List Band) × (t : ℕ) × (rs : List ℕ) × Invariant bs s t ws rs es
-in-step s ws es r =
+reader-in-step : (s : ℕ) (ws : List ℕ) (es : List BlockEntry) → Reached s ws es → (bs : List Band) × (t : ℕ) × (rs : List ℕ) × Invariant bs s t ws rs es
+reader-in-step s ws es r =
     let bs : List Band = take (r .count) (r .given) in
     let ws₀ : List ℕ = start writer (r .count) (r .given) s (r .planes) (r .lent) .state in
     let rs₀ : List ℕ = start reader (r .count) (r .given) s [] (r .lent) .state in
@@ -194,16 +194,16 @@ over-same lent xs ys l e =
 module _ (s : ℕ) (ws : List ℕ) (es : List BlockEntry) (R : Reached s ws es) (a b : WriteCall) (A : Writes s ws es a) (B : Writes s ws es b) (marked : a .markers ≡ b .markers)
     (begins : take (length (frontOf ws a)) (frontOf ws b) ≡ frontOf ws a) where
   abbrev itsBands : List Band
-  itsBands = in-step s ws es R .0
+  itsBands = reader-in-step s ws es R .0
 
   abbrev itsLayer : ℕ
-  itsLayer = in-step s ws es R .1
+  itsLayer = reader-in-step s ws es R .1
 
   abbrev readerWords : List ℕ
-  readerWords = in-step s ws es R .2
+  readerWords = reader-in-step s ws es R .2
 
   between : Invariant itsBands s itsLayer ws readerWords es
-  between = in-step s ws es R .3
+  between = reader-in-step s ws es R .3
 
   abbrev recordsOwed : WriteCall → ℕ
   recordsOwed c = length (owedFor s ws es c .entry .records)
@@ -213,11 +213,11 @@ module _ (s : ℕ) (ws : List ℕ) (es : List BlockEntry) (R : Reached s ws es) 
 
   gives-a : GivesEntry (owedFor s ws es a) call (readOf readerWords call)
   gives-a = packet-gives itsBands s itsLayer ws readerWords es a between (A .accepts) (A .terminated) call
-      (asks s ws readerWords es a b (frontOf ws b) (length (blocks itsBands)) (recordsOwed a + recordsOwed b) marked begins (reports-are itsBands s itsLayer ws readerWords es a between (A .accepts) (A .terminated)) (omega arith))
+      (reads-packet s ws readerWords es a b (frontOf ws b) (length (blocks itsBands)) (recordsOwed a + recordsOwed b) marked begins (reports-are itsBands s itsLayer ws readerWords es a between (A .accepts) (A .terminated)) (omega arith))
 
   gives-b : GivesEntry (owedFor s ws es b) call (readOf readerWords call)
   gives-b = packet-gives itsBands s itsLayer ws readerWords es b between (B .accepts) (B .terminated) call
-      (asks s ws readerWords es b b (frontOf ws b) (length (blocks itsBands)) (recordsOwed a + recordsOwed b) refl (take-length (frontOf ws b)) (reports-are itsBands s itsLayer ws readerWords es b between (B .accepts) (B .terminated)) (omega arith))
+      (reads-packet s ws readerWords es b b (frontOf ws b) (length (blocks itsBands)) (recordsOwed a + recordsOwed b) refl (take-length (frontOf ws b)) (reports-are itsBands s itsLayer ws readerWords es b between (B .accepts) (B .terminated)) (omega arith))
 
   same-length : length (frontOf ws a) ≡ length (frontOf ws b)
   same-length = ap length (sym (owed-front s ws es a)) ∙ sym (gives-a .taken) ∙ gives-b .taken ∙ ap length (owed-front s ws es b)
@@ -282,7 +282,7 @@ different-counts-differ s ws book R a b A B marked differ =
   where
     as-many : (c : WriteCall) → Writes s ws book c → length (c .contribution .counts) ≡ length book
     as-many c C =
-        let q = in-step s ws book R in
+        let q = reader-in-step s ws book R in
         acceptable (q .0) s (q .1) ws c (q .3 .writer-side) (C .accepts) .counts ∙ sym (entries-length ws (blocks (q .0)) book (q .3 .booked))
 
 -- ---- refusals of reads

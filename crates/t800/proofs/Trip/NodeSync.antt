@@ -14,36 +14,36 @@ use Rattle.t800.proofs.Laws.Tests.{if-eq, if-ne, if-lt, if-ge, on-lt}
 use Rattle.t800.proofs.Trip.Bits.{nextBit, bioAfter, Reads, reads-split}
 use Rattle.t800.proofs.Trip.Nodes.{Node, node, lowOut, putsOne, bitsOfNode, nodeAfter, bitsOfPath, nodesAfter, nodeRead, readOne, readInto, NodesRead, readAll, Sync, not-known, is-known, AllSync, nil, cons, Increasing}
 
-step-zero : (s : List ℕ) (d v l : ℕ) (b : Bio) → l < v → nextBit s b ≡ 0 → readNode s (suc d) v l b ≡ readNode s d v (l + 1) (bioAfter s b)
+zero-read : (s : List ℕ) (d v l : ℕ) (b : Bio) → l < v → nextBit s b ≡ 0 → readNode s (suc d) v l b ≡ readNode s d v (l + 1) (bioAfter s b)
 unfolding readNode
-step-zero s d v l b h e = if-lt l v _ _ h ∙ if-eq (nextBit s b) 0 _ _ e
+zero-read s d v l b h e = if-lt l v _ _ h ∙ if-eq (nextBit s b) 0 _ _ e
 
-step-one : (s : List ℕ) (d v l : ℕ) (b : Bio) → l < v → nextBit s b ≡ 1 → readNode s (suc d) v l b ≡ nodeRead l l (bioAfter s b)
+one-read : (s : List ℕ) (d v l : ℕ) (b : Bio) → l < v → nextBit s b ≡ 1 → readNode s (suc d) v l b ≡ nodeRead l l (bioAfter s b)
 unfolding readNode
-step-one s d v l b h e = if-lt l v _ _ h ∙ if-ne (nextBit s b) 0 _ _ (omega (arith, e))
+one-read s d v l b h e = if-lt l v _ _ h ∙ if-ne (nextBit s b) 0 _ _ (omega (arith, e))
 
 -- low is at the value already
-step-none : (s : List ℕ) (d v l : ℕ) (b : Bio) → v ≤ l → readNode s d v l b ≡ nodeRead v l b
+nothing-read : (s : List ℕ) (d v l : ℕ) (b : Bio) → v ≤ l → readNode s d v l b ≡ nodeRead v l b
 unfolding readNode
-step-none s zero v l b h = refl
-step-none s (suc d) v l b h = if-ge l v _ _ h
+nothing-read s zero v l b h = refl
+nothing-read s (suc d) v l b h = if-ge l v _ _ h
 
 -- a run of zeros raises low
-zeros : (s : List ℕ) (n d : ℕ) (b e : Bio) (l v : ℕ) (rest : List ℕ) → l + n ≤ v → Reads s b (replicate n 0 ++ rest) e
+zeros-raise-low : (s : List ℕ) (n d : ℕ) (b e : Bio) (l v : ℕ) (rest : List ℕ) → l + n ≤ v → Reads s b (replicate n 0 ++ rest) e
     → (c : Bio) × (readNode s (n + d) v l b ≡ readNode s d v (l + n) c) × Reads s c rest e
-zeros s zero d b e l v rest w h = (b, rw (zero-add, add-zero), h)
-zeros s (suc n) d b e l v rest w h =
-    let i = zeros s n d (bioAfter s b) e (l + 1) v rest (omega arith) (h .2) in
-    let step : readNode s (suc n + d) v l b ≡ readNode s (n + d) v (l + 1) (bioAfter s b) = rw suc-add (step-zero s (n + d) v l b (omega arith) (h .1)) in
+zeros-raise-low s zero d b e l v rest w h = (b, rw (zero-add, add-zero), h)
+zeros-raise-low s (suc n) d b e l v rest w h =
+    let i = zeros-raise-low s n d (bioAfter s b) e (l + 1) v rest (omega arith) (h .2) in
+    let step : readNode s (suc n + d) v l b ≡ readNode s (n + d) v (l + 1) (bioAfter s b) = rw suc-add (zero-read s (n + d) v l b (omega arith) (h .1)) in
     (i .0, step ∙ i .1 ∙ ap (λ (z : ℕ). readNode s d v z (i .0)) (omega arith), i .2)
 
 -- a one ends it
-one : (s : List ℕ) (d : ℕ) (b e : Bio) (l v : ℕ) → l < v → Reads s b (1 ∷ []) e → readNode s (suc d) v l b ≡ nodeRead l l e
-one s d b e l v w h = step-one s d v l b w (h .1) ∙ ap (λ (z : Bio). nodeRead l l z) (h .2 .1)
+one-ends : (s : List ℕ) (d : ℕ) (b e : Bio) (l v : ℕ) → l < v → Reads s b (1 ∷ []) e → readNode s (suc d) v l b ≡ nodeRead l l e
+one-ends s d b e l v w h = one-read s d v l b w (h .1) ∙ ap (λ (z : Bio). nodeRead l l z) (h .2 .1)
 
-none-left : (s : List ℕ) (v l : ℕ) (b : Bio) → readNode s 0 v l b ≡ nodeRead v l b
+at-threshold : (s : List ℕ) (v l : ℕ) (b : Bio) → readNode s 0 v l b ≡ nodeRead v l b
 unfolding readNode
-none-left s v l b = refl
+at-threshold s v l b = refl
 
 -- what the writer's closed forms come to
 module _ (t l : ℕ) (n : Node) where
@@ -93,7 +93,7 @@ node-sync mark s t l b e n m ht hl (is-known k mv ml nl nv mk) r =
     let z : lowOut t l n - max l (n .low) ≡ 0 = omega arith in
     let y : putsOne t l n ≡ false = known-puts-none t l n k in
     let r₁ : Reads s b [] e = rw (z, y) at r in
-    step-by mark s t l b e n m L (m .value) (step-none s (t - L) (m .value) L b (le-of-eq (mv ∙ sym lv)) ∙ ap (λ (c : Bio). nodeRead (m .value) L c) (r₁ .1)) (lv ∙ sym w)
+    step-by mark s t l b e n m L (m .value) (nothing-read s (t - L) (m .value) L b (le-of-eq (mv ∙ sym lv)) ∙ ap (λ (c : Bio). nodeRead (m .value) L c) (r₁ .1)) (lv ∙ sym w)
     (is-known (one-or (ltb (lowOut t l n) t) (n .known) k) mv lv w nv mk)
 node-sync mark s t l b e n m ht hl (not-known k mv ml nl nv mk) r =
     let L : ℕ = max l (m .low) in
@@ -108,9 +108,9 @@ node-sync mark s t l b e n m ht hl (not-known k mv ml nl nv mk) r =
     let yy : ltb (lowOut t l n) t ≡ true = lt-ltb (lowOut t l n) t (omega arith) in
     let r₁ : Reads s b (replicate Z 0 ++ (1 ∷ [])) e = rw y at r in
     let g : L + Z ≡ n .value = cc (lt-sum (n .value) A a≤) in
-    let i = zeros s Z (suc (t - n .value - 1)) b e L (m .value) (1 ∷ []) (le-trans (le-of-eq g) (le-trans nv (le-of-eq (sym mv)))) r₁ in
+    let i = zeros-raise-low s Z (suc (t - n .value - 1)) b e L (m .value) (1 ∷ []) (le-trans (le-of-eq g) (le-trans nv (le-of-eq (sym mv)))) r₁ in
     step-by mark s t l b e n m (L + Z) (L + Z)
-    (ap (λ (z : ℕ). readNode s z (m .value) L b) d ∙ i .1 ∙ one s (t - n .value - 1) (i .0) e (L + Z) (m .value) (rw (g, mv) (le-trans h ht)) (i .2)) (g ∙ sym w)
+    (ap (λ (z : ℕ). readNode s z (m .value) L b) d ∙ i .1 ∙ one-ends s (t - n .value - 1) (i .0) e (L + Z) (m .value) (rw (g, mv) (le-trans h ht)) (i .2)) (g ∙ sym w)
     (is-known (rw yy refl) g g w nv mk))
     (λ h. let w : lowOut t l n ≡ max A t = ap (max A) (min-eq-right h) in
     let d : t - L ≡ Z + 0 = cc (ge-gap t A) in
@@ -118,9 +118,9 @@ node-sync mark s t l b e n m ht hl (not-known k mv ml nl nv mk) r =
     let y : putsOne t l n ≡ false = puts-none t l n (le-trans (le-max-right A t) (le-of-eq (sym w))) in
     let r₁ : Reads s b (replicate Z 0 ++ []) e = rw y at r in
     let g : L + Z ≡ lowOut t l n = cc (ge-sum t A) in
-    let i = zeros s Z 0 b e L (m .value) [] (rw (g, w, mv) (max-le (le-trans a≤ nv) ht)) r₁ in
+    let i = zeros-raise-low s Z 0 b e L (m .value) [] (rw (g, w, mv) (max-le (le-trans a≤ nv) ht)) r₁ in
     step-by mark s t l b e n m (L + Z) (m .value)
-    (ap (λ (z : ℕ). readNode s z (m .value) L b) d ∙ i .1 ∙ none-left s (m .value) (L + Z) (i .0) ∙ ap (λ (c : Bio). nodeRead (m .value) (L + Z) c) (i .2 .1)) g
+    (ap (λ (z : ℕ). readNode s z (m .value) L b) d ∙ i .1 ∙ at-threshold s (m .value) (L + Z) (i .0) ∙ ap (λ (c : Bio). nodeRead (m .value) (L + Z) c) (i .2 .1)) g
     (not-known (rw yy k) mv g (max-le a≤ (min-le-left (n .value) t)) nv mk))
 
 -- ---- a path

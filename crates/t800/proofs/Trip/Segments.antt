@@ -199,7 +199,7 @@ unfolding recordsOf
 no-records s i p [] h = refl
 no-records s i p (l ∷ ls) h = absurd (omega arith)
 
-module _ (src : List ℕ) (room i : ℕ) (k : Block) (s lb : ℕ) (e : Bio) (reps : List BlockReport) (up : 13 ≤ k .at) where
+module _ (src : List ℕ) (room i : ℕ) (k : Block) (s lb : ℕ) (e : Bio) (reps : List BlockReport) (behind : 13 ≤ k .at) where
   opens-is : (q : ℕ) → opensAt s q ≡ opensIn (termAll s) (bypass s) q
   unfolding opensAt
   opens-is q = refl
