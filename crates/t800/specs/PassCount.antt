@@ -16,7 +16,8 @@ passBits n =
     (cond (leb n 36) (replicate 4 1 ++ bitsOf 5 (n - 6))
     (replicate 9 1 ++ bitsOf 7 (n - 37)))))
 
-abbrev plus : ℕ → Decoded → Decoded
+-- a number behind those that shorter codewords name
+abbrev pub plus : ℕ → Decoded → Decoded
 plus k r = record { value = k + r .value; bio = r .bio }
 
 -- a bit 0 is 1; 10 is 2; then two bits unless both are 1, five bits unless all are 1, seven bits

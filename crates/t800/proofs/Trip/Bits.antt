@@ -14,6 +14,7 @@ use borrow.Author.Tests.{eq-eqb, ne-eqb}
 use Rattle.t800.specs.declared.Bio.{Bio}
 use Rattle.t800.specs.Bits as B
 use Rattle.t800.specs.Bits.{Decoded, bioAt, byteIn, heldBit, getBit, bitsAfter, lastBytes, pack, inFF, endsInFF, bytesTaken}
+use Rattle.t800.proofs.Laws.Pack.{AreBits}
 use Rattle.t800.proofs.Laws.Tests.{if-eq, if-ne, on-eq, on-lt, drop-head}
 
 abbrev bioWith : ℕ → ℕ → ℕ → Bio
@@ -38,10 +39,6 @@ reads-held s b e (x ∷ xs) r = r .0
 pub reads-split : (s : List ℕ) (b e : Bio) (xs ys : List ℕ) → Reads s b (xs ++ ys) e → (c : Bio) × Reads s b xs c × Reads s c ys e
 reads-split s b e [] ys p = (b, (reads-held s b e ys p, refl), p)
 reads-split s b e (x ∷ xs) ys p = let r = reads-split s (bioAfter s b) e xs ys (p .2) in (r .0, (p .0, p .1, r .1), r .2)
-
-abbrev pub AllBits : List ℕ → Type 0
-AllBits [] = Unit {0}
-AllBits (x ∷ xs) = (x < 2) × AllBits xs
 
 -- ---- packing, with the bits of the open byte as a number
 
@@ -79,7 +76,7 @@ record FirstByte (a k : ℕ) (l : List ℕ) : Type 0 where
   small : low < 2 ^ k
   is : l ≡ (a * 2 ^ k + low) ∷ rest
 
-first-byte : (a k : ℕ) (bs : List ℕ) → AllBits bs → FirstByte a k (packFrom a k bs)
+first-byte : (a k : ℕ) (bs : List ℕ) → AreBits bs → FirstByte a k (packFrom a k bs)
 unfolding packFrom lastBytes
 first-byte a k [] h = record { low = 0; rest = drop 1 (lastBytes (a * 2 ^ k)); small = pow-pos k; is = rw add-zero }
 first-byte a zero (x ∷ xs) h = record { low = 0; rest = packFrom x (span a - 1) xs; small = pow-pos 0; is = ap (λ (z : ℕ). z ∷ packFrom x (span a - 1) xs) (omega arith) }
@@ -156,7 +153,7 @@ one-more s b c x xs n m h e g q =
 
 module _ (s t : List ℕ) where
   -- the byte at p, where the bytes from p on are packed
-  byte-at : (p a k : ℕ) (bs : List ℕ) → AllBits bs → (a + 1) * 2 ^ k ≤ 256 → drop p s ≡ packFrom a k bs ++ t
+  byte-at : (p a k : ℕ) (bs : List ℕ) → AreBits bs → (a + 1) * 2 ^ k ≤ 256 → drop p s ≡ packFrom a k bs ++ t
       → (l : ℕ) × (getD s p 0 ≡ a * 2 ^ k + l) × (l < 2 ^ k) × (getD s p 0 < 256) × (p < length s)
   byte-at p a k bs h w e =
       let r = first-byte a k bs h in
@@ -189,7 +186,7 @@ module _ (s t : List ℕ) where
       })
 
   -- a byte is taken, and its first bit is x
-  byte-taken : (q u x : ℕ) (xs : List ℕ) → x < 2 → AllBits xs → drop q s ≡ packFrom x (span (u % 256) - 1) xs ++ t
+  byte-taken : (q u x : ℕ) (xs : List ℕ) → x < 2 → AreBits xs → drop q s ≡ packFrom x (span (u % 256) - 1) xs ++ t
       → (getBit s (bioWith q u 0) ≡ record { value = x; bio = bioWith (suc q) (u % 256 * 256 + getD s q 0) (span (u % 256) - 1) })
       × (span (u % 256) - 1 < 8) × ((x + 1) * 2 ^ (span (u % 256) - 1) ≤ 256) × ((u % 256 * 256 + getD s q 0) % 256 ≡ getD s q 0)
   byte-taken q u x xs hx h e =
@@ -201,7 +198,7 @@ module _ (s t : List ℕ) where
       let v : word / 2 ^ k % 2 ≡ x = bit-of word (7 - k) k x (omega (arith, nb .0)) (m ∙ f .1) (f .2) ∙ omega arith in
       (get-next s q u (f .4) ∙ ap (λ (z : ℕ). record { value = z; bio = bioWith (suc q) word k }) v, nb .0, nb .1, m)
 
-  bits-from : (bs : List ℕ) (p u a k : ℕ) → AllBits bs → k < 8 → (a + 1) * 2 ^ k ≤ 256 → u % 256 ≡ getD s p 0 → drop p s ≡ packFrom a k bs ++ t
+  bits-from : (bs : List ℕ) (p u a k : ℕ) → AreBits bs → k < 8 → (a + 1) * 2 ^ k ≤ 256 → u % 256 ≡ getD s p 0 → drop p s ≡ packFrom a k bs ++ t
       → BitsRead s (bioWith (suc p) u k) bs (p + length (packFrom a k bs))
   unfolding packFrom
   bits-from [] p u a k h i w low e = no-bits-left p u a k i low e
@@ -218,7 +215,7 @@ module _ (s t : List ℕ) where
       let v : u / 2 ^ k % 2 ≡ x = bit-of u (7 - k) k (a * 2 + x) (omega arith) (low ∙ f .1) (f .2) ∙ omega (arith, h .0) in
       one-more s (bioWith (suc p) u (suc k)) _ x xs _ _ (omega arith) (get-held s (suc p) u k ∙ ap (λ (z : ℕ). record { value = z; bio = bioWith (suc p) u k }) v) g refl
 
-pub packed-bits-read : (s t : List ℕ) (x : ℕ) (xs : List ℕ) (p : ℕ) → x < 2 → AllBits xs → drop p s ≡ pack (x ∷ xs) ++ t → BitsRead s (bioAt p) (x ∷ xs) (p + length (pack (x ∷ xs)))
+pub packed-bits-read : (s t : List ℕ) (x : ℕ) (xs : List ℕ) (p : ℕ) → x < 2 → AreBits xs → drop p s ≡ pack (x ∷ xs) ++ t → BitsRead s (bioAt p) (x ∷ xs) (p + length (pack (x ∷ xs)))
 unfolding packFrom
 packed-bits-read s t x xs p hx h e =
     let q : pack (x ∷ xs) ≡ packFrom x 7 xs = pack-is (x ∷ xs) ∙ ap (λ (z : ℕ). packFrom z 7 xs) (zero-add x) in

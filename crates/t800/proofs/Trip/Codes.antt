@@ -12,7 +12,7 @@ use lib.Pow.{mod-pow-add, pow-mono}
 use Rattle.t800.specs.declared.Bio.{Bio}
 use Rattle.t800.specs.Base.{halvings, floorLog2}
 use Rattle.t800.specs.Bits.{Decoded, bitsOf, readBitsOnto, readBits}
-use Rattle.t800.specs.PassCount.{passBits, readPasses}
+use Rattle.t800.specs.PassCount.{plus, passBits, readPasses}
 use Rattle.t800.specs.Segments.{Segment, width, bitLength, increment, commaBits, readOnes, readComma}
 use Rattle.t800.proofs.Laws.Tests.{if-eq, if-ne, if-lt, if-ge, on-lt, if-le, if-gt, on-le}
 use Rattle.t800.proofs.Trip.Bits.{nextBit, bioAfter, Reads, reads-held, reads-split, ones-bounded}
@@ -53,9 +53,6 @@ comma-read s n b e r =
 
 -- ---- pass counts
 
-abbrev more : ℕ → Decoded → Decoded
-more k r = decoded (k + r .value) (r .bio)
-
 module _ (s : List ℕ) (b e : Bio) where
   one : Reads s b (0 ∷ []) e → readPasses s b ≡ decoded 1 e
   unfolding readPasses
@@ -70,9 +67,9 @@ module _ (s : List ℕ) (b e : Bio) where
 
   -- past the first two ones, with what the bits after them say
   past-two-ones : (xs : List ℕ) → Reads s b (1 ∷ 1 ∷ xs) e → readPasses s b
-      ≡ cond (leb (readBits s 2 b₂ .value) 2) (more 3 (readBits s 2 b₂))
-      (cond (leb (readBits s 5 (readBits s 2 b₂ .bio) .value) 30) (more 6 (readBits s 5 (readBits s 2 b₂ .bio)))
-      (more 37 (readBits s 7 (readBits s 5 (readBits s 2 b₂ .bio) .bio))))
+      ≡ cond (leb (readBits s 2 b₂ .value) 2) (plus 3 (readBits s 2 b₂))
+      (cond (leb (readBits s 5 (readBits s 2 b₂ .bio) .value) 30) (plus 6 (readBits s 5 (readBits s 2 b₂ .bio)))
+      (plus 37 (readBits s 7 (readBits s 5 (readBits s 2 b₂ .bio) .bio))))
   unfolding readPasses
   past-two-ones xs r = if-ne (nextBit s b) 0 _ _ (omega (arith, r .1)) ∙ if-ne (nextBit s (bioAfter s b)) 0 _ _ (omega (arith, r .2 .1))
 

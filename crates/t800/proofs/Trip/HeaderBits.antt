@@ -12,52 +12,52 @@ use Rattle.t800.specs.Segments.{Segment, segmentsOf, width, increment, c
 use Rattle.t800.specs.State.{Block, notYetPlanes}
 use Rattle.t800.specs.WriteHeader.{isNew, lengthBitsBefore, codeInclusion, codeZeroPlanes, codePasses, codeBlock, codeBlocks}
 use Rattle.t800.proofs.Laws.Tests.{either}
-use Rattle.t800.proofs.Trip.Bits.{AllBits}
+use Rattle.t800.proofs.Laws.Pack.{AreBits}
 
-bitsOf-bits : (n v : ℕ) → AllBits (bitsOf n v)
+bitsOf-bits : (n v : ℕ) → AreBits (bitsOf n v)
 unfolding bitsOf
 bitsOf-bits zero v = tt
 bitsOf-bits (suc n) v = (omega arith, bitsOf-bits n v)
 
-bits-append : (xs ys : List ℕ) → AllBits xs → AllBits ys → AllBits (xs ++ ys)
+bits-append : (xs ys : List ℕ) → AreBits xs → AreBits ys → AreBits (xs ++ ys)
 bits-append [] ys h k = k
 bits-append (x ∷ xs) ys h k = (h .0, bits-append xs ys (h .1) k)
 
-bits-replicate : (n x : ℕ) → x < 2 → AllBits (replicate n x)
+bits-replicate : (n x : ℕ) → x < 2 → AreBits (replicate n x)
 bits-replicate zero x h = tt
 bits-replicate (suc n) x h = (h, bits-replicate n x h)
 
-one-bit : (x : ℕ) → x < 2 → AllBits (x ∷ [])
+one-bit : (x : ℕ) → x < 2 → AreBits (x ∷ [])
 one-bit x h = (h, tt)
 
-bits-node : (v l k t : ℕ) → AllBits (nodeBits v l k t)
+bits-node : (v l k t : ℕ) → AreBits (nodeBits v l k t)
 unfolding nodeBits
 bits-node v l k t =
     bits-append (replicate (lowAfter v l t - l) 0) _ (bits-replicate (lowAfter v l t - l) 0 (omega arith))
-    (either AllBits (ltb (lowAfter v l t) t && eqb k 0) _ _ (one-bit 1 (omega arith)) tt)
+    (either AreBits (ltb (lowAfter v l t) t && eqb k 0) _ _ (one-bit 1 (omega arith)) tt)
 
-bits-path : (base t : ℕ) (ns : List ℕ) (l : ℕ) (ws : List ℕ) → AllBits (codePath base t ns l ws .bits)
+bits-path : (base t : ℕ) (ns : List ℕ) (l : ℕ) (ws : List ℕ) → AreBits (codePath base t ns l ws .bits)
 unfolding codePath
 bits-path base t [] l ws = tt
 bits-path base t (n ∷ ns) l ws = bits-append (nodeBits _ _ _ t) _ (bits-node _ _ _ t) (bits-path base t ns _ _)
 
-bits-passes : (n : ℕ) → AllBits (passBits n)
+bits-passes : (n : ℕ) → AreBits (passBits n)
 unfolding passBits
 bits-passes n =
     let o : 1 < 2 = omega arith in
     let z : 0 < 2 = omega arith in
-    either AllBits (leb n 1) _ _ (z, tt)
-    (either AllBits (leb n 2) _ _ (o, (z, tt))
-    (either AllBits (leb n 5) _ _ (o, (o, bitsOf-bits 2 (n - 3)))
-    (either AllBits (leb n 36) _ _ (o, (o, (o, (o, bitsOf-bits 5 (n - 6))))) (bits-append (replicate 9 1) (bitsOf 7 (n - 37)) (bits-replicate 9 1 o) (bitsOf-bits 7 (n - 37))))))
+    either AreBits (leb n 1) _ _ (z, tt)
+    (either AreBits (leb n 2) _ _ (o, (z, tt))
+    (either AreBits (leb n 5) _ _ (o, (o, bitsOf-bits 2 (n - 3)))
+    (either AreBits (leb n 36) _ _ (o, (o, (o, (o, bitsOf-bits 5 (n - 6))))) (bits-append (replicate 9 1) (bitsOf 7 (n - 37)) (bits-replicate 9 1 o) (bitsOf-bits 7 (n - 37))))))
 
-bits-fields : (l : ℕ) (gs : List Segment) → AllBits (lengthFields l gs)
+bits-fields : (l : ℕ) (gs : List Segment) → AreBits (lengthFields l gs)
 unfolding lengthFields
 bits-fields l [] = tt
 bits-fields l (g ∷ gs) = bits-append (bitsOf (width l (g .passes)) (g .bytes)) _ (bitsOf-bits (width l (g .passes)) (g .bytes)) (bits-fields l gs)
 
 abbrev CodedBits : Coded → Type 0
-CodedBits c = AllBits (c .bits)
+CodedBits c = AreBits (c .bits)
 
 bits-inclusion : (t : ℕ) (k : Block) (c : ℕ) (ws : List ℕ) → CodedBits (codeInclusion t k c ws)
 unfolding codeInclusion
@@ -83,7 +83,7 @@ bits-block t k c segs ws =
     either CodedBits (eqb c 0) _ _ (bits-inclusion t k c ws)
     (bits-append (i .bits ++ z .bits) _ (bits-append (i .bits) (z .bits) (bits-inclusion t k c ws) (bits-planes k (i .words))) (bits-counted k c segs (z .words)))
 
-pub bits-blocks : (t : ℕ) (ks : List Block) (cs lens marks ws : List ℕ) → AllBits (codeBlocks t ks cs lens marks ws .bits)
+pub bits-blocks : (t : ℕ) (ks : List Block) (cs lens marks ws : List ℕ) → AreBits (codeBlocks t ks cs lens marks ws .bits)
 unfolding codeBlocks
 bits-blocks t [] cs lens marks ws = tt
 bits-blocks t (k ∷ ks) [] lens marks ws = tt
