@@ -14,7 +14,6 @@ pub mod InStep
 pub mod Booked
 pub mod Block
 pub mod Blocks
-pub mod HeaderBits
 pub mod ValidStates
 pub mod Header
 pub mod FewerRecords

@@ -22,7 +22,7 @@ use Rattle.t800.proofs.Trip.WriterState.{WriterState, Acceptable, heade
 use Rattle.t800.proofs.Trip.InStep.{InStep, same-in-step}
 use Rattle.t800.proofs.Trip.Booked.{AllBooked, counts-booked}
 use Rattle.t800.proofs.Trip.Blocks.{all-ready, blocks-read}
-use Rattle.t800.proofs.Trip.HeaderBits.{bits-blocks}
+use Rattle.t800.proofs.Laws.HeaderBits.{bits-blocks}
 
 -- the header's blocks read from place p on, with n bytes taken
 pub record HeaderReadBack (L : Layout) (s t : ℕ) (src : List ℕ) (room p n : ℕ) (ws rs vs : List ℕ) (ks : List Block) (es : List BlockEntry) (c : Contribution) : Type 0 where

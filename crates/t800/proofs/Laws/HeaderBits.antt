@@ -14,34 +14,34 @@ use Rattle.t800.specs.WriteHeader.{isNew, lengthBitsBefore, codeInclusio
 use Rattle.t800.proofs.Laws.Tests.{either}
 use Rattle.t800.proofs.Laws.Pack.{AreBits}
 
-bitsOf-bits : (n v : ℕ) → AreBits (bitsOf n v)
+pub bitsOf-bits : (n v : ℕ) → AreBits (bitsOf n v)
 unfolding bitsOf
 bitsOf-bits zero v = tt
 bitsOf-bits (suc n) v = (omega arith, bitsOf-bits n v)
 
-bits-append : (xs ys : List ℕ) → AreBits xs → AreBits ys → AreBits (xs ++ ys)
+pub bits-append : (xs ys : List ℕ) → AreBits xs → AreBits ys → AreBits (xs ++ ys)
 bits-append [] ys h k = k
 bits-append (x ∷ xs) ys h k = (h .0, bits-append xs ys (h .1) k)
 
-bits-replicate : (n x : ℕ) → x < 2 → AreBits (replicate n x)
+pub bits-replicate : (n x : ℕ) → x < 2 → AreBits (replicate n x)
 bits-replicate zero x h = tt
 bits-replicate (suc n) x h = (h, bits-replicate n x h)
 
-one-bit : (x : ℕ) → x < 2 → AreBits (x ∷ [])
+pub one-bit : (x : ℕ) → x < 2 → AreBits (x ∷ [])
 one-bit x h = (h, tt)
 
-bits-node : (v l k t : ℕ) → AreBits (nodeBits v l k t)
+pub bits-node : (v l k t : ℕ) → AreBits (nodeBits v l k t)
 unfolding nodeBits
 bits-node v l k t =
     bits-append (replicate (lowAfter v l t - l) 0) _ (bits-replicate (lowAfter v l t - l) 0 (omega arith))
     (either AreBits (ltb (lowAfter v l t) t && eqb k 0) _ _ (one-bit 1 (omega arith)) tt)
 
-bits-path : (base t : ℕ) (ns : List ℕ) (l : ℕ) (ws : List ℕ) → AreBits (codePath base t ns l ws .bits)
+pub bits-path : (base t : ℕ) (ns : List ℕ) (l : ℕ) (ws : List ℕ) → AreBits (codePath base t ns l ws .bits)
 unfolding codePath
 bits-path base t [] l ws = tt
 bits-path base t (n ∷ ns) l ws = bits-append (nodeBits _ _ _ t) _ (bits-node _ _ _ t) (bits-path base t ns _ _)
 
-bits-passes : (n : ℕ) → AreBits (passBits n)
+pub bits-passes : (n : ℕ) → AreBits (passBits n)
 unfolding passBits
 bits-passes n =
     let o : 1 < 2 = omega arith in
@@ -51,7 +51,7 @@ bits-passes n =
     (either AreBits (leb n 5) _ _ (o, (o, bitsOf-bits 2 (n - 3)))
     (either AreBits (leb n 36) _ _ (o, (o, (o, (o, bitsOf-bits 5 (n - 6))))) (bits-append (replicate 9 1) (bitsOf 7 (n - 37)) (bits-replicate 9 1 o) (bitsOf-bits 7 (n - 37))))))
 
-bits-fields : (l : ℕ) (gs : List Segment) → AreBits (lengthFields l gs)
+pub bits-fields : (l : ℕ) (gs : List Segment) → AreBits (lengthFields l gs)
 unfolding lengthFields
 bits-fields l [] = tt
 bits-fields l (g ∷ gs) = bits-append (bitsOf (width l (g .passes)) (g .bytes)) _ (bitsOf-bits (width l (g .passes)) (g .bytes)) (bits-fields l gs)
@@ -59,15 +59,15 @@ bits-fields l (g ∷ gs) = bits-append (bitsOf (width l (g .passes)) (g .bytes))
 abbrev CodedBits : Coded → Type 0
 CodedBits c = AreBits (c .bits)
 
-bits-inclusion : (t : ℕ) (k : Block) (c : ℕ) (ws : List ℕ) → CodedBits (codeInclusion t k c ws)
+pub bits-inclusion : (t : ℕ) (k : Block) (c : ℕ) (ws : List ℕ) → CodedBits (codeInclusion t k c ws)
 unfolding codeInclusion
 bits-inclusion t k c ws = either CodedBits (isNew ws k) _ _ (bits-path (k .inclTree) (t + 1) (reverse (k .path)) 0 ws) (one-bit (cond (ltb 0 c) 1 0) (either (λ (x : ℕ). x < 2) (ltb 0 c) 1 0 (omega arith) (omega arith)))
 
-bits-planes : (k : Block) (ws : List ℕ) → CodedBits (codeZeroPlanes k ws)
+pub bits-planes : (k : Block) (ws : List ℕ) → CodedBits (codeZeroPlanes k ws)
 unfolding codeZeroPlanes
 bits-planes k ws = either CodedBits (isNew ws k) _ _ (bits-path (k .zeroTree) notYetPlanes (reverse (k .path)) 0 ws) tt
 
-bits-counted : (k : Block) (c : ℕ) (segs : List Segment) (ws : List ℕ) → CodedBits (codePasses k c segs ws)
+pub bits-counted : (k : Block) (c : ℕ) (segs : List Segment) (ws : List ℕ) → CodedBits (codePasses k c segs ws)
 unfolding codePasses commaBits
 bits-counted k c segs ws =
     let lb : ℕ = lengthBitsBefore ws k in
@@ -75,7 +75,7 @@ bits-counted k c segs ws =
     bits-append (passBits c ++ commaBits n) (lengthFields (lb + n) segs)
     (bits-append (passBits c) (commaBits n) (bits-passes c) (bits-append (replicate n 1) (0 ∷ []) (bits-replicate n 1 (omega arith)) (one-bit 0 (omega arith)))) (bits-fields (lb + n) segs)
 
-bits-block : (t : ℕ) (k : Block) (c : ℕ) (segs : List Segment) (ws : List ℕ) → CodedBits (codeBlock t k c segs ws)
+pub bits-block : (t : ℕ) (k : Block) (c : ℕ) (segs : List Segment) (ws : List ℕ) → CodedBits (codeBlock t k c segs ws)
 unfolding codeBlock
 bits-block t k c segs ws =
     let i : Coded = codeInclusion t k c ws in
