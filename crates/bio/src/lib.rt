@@ -61,8 +61,8 @@ fn low_ones(k: u32) -> u32
     requires { ⌜ k ≤ 8 ⌝ }
     ensures { λ r. ⌜ r ≡ 2 ^ k - 1 ⌝ }
 {
-    let above = 8 - k;
-    0xffu32 >> above
+    let above = 1u32 << k;
+    above - 1
 }
 
 // ---- writing

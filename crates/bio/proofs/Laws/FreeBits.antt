@@ -2,7 +2,7 @@
 use mathlib.Core.Path.{_≡_, refl, _∙_, sym, ap}
 use mathlib.Core.Bool.{Bool, true, false, cond}
 use mathlib.Core.List.{List, [], _∷_, _++_}
-use Prim.Native.Nat.{ℕ, zero, suc, _+_, _-_, _*_, _%_, _^_, _≤_, _<_}
+use Prim.Native.Nat.{ℕ, _+_, _-_, _*_, _%_, _^_, _≤_}
 use native.Mathlib.Nat.{add-mul-mod-self-right, zero-mod}
 use native.Mathlib.Omega.{arith}
 use lib.Dec.{eqb}
@@ -10,7 +10,7 @@ use lib.ListN.{length, length-set}
 use lib.Pow.{mod-mod-pow}
 use borrow.Author.Tests.{eqb-false}
 use Rattle.t800.specs.declared.Bio.{Bio}
-use Rattle.bio.specs.Writing.{Output, output, emptyAt, byteOut, makeRoom, holdBit, putBit, putBits, flush, FreeBitsClear}
+use Rattle.bio.specs.Writing.{Output, emptyAt, byteOut, makeRoom, holdBit, putBit, putBits, FreeBitsClear}
 
 pub emptyAt-clear : (p : ℕ) → FreeBitsClear (emptyAt p)
 emptyAt-clear p = record { atMostEight = omega arith; clear = refl }

@@ -1,6 +1,6 @@
 -- Shifts and masks of the held word as plain arithmetic.
-use mathlib.Core.Path.{_≡_, refl, _∙_, ap, subst}
-use Prim.Native.Nat.{ℕ, zero, suc, _+_, _-_, _*_, _/_, _%_, _^_, _<_, _≤_}
+use mathlib.Core.Path.{_≡_, _∙_, ap, subst}
+use Prim.Native.Nat.{ℕ, _+_, _*_, _/_, _%_, _^_, _<_, _≤_}
 use native.Mathlib.Nat.{mul-le-mul-right}
 use native.Mathlib.Omega.{arith}
 use lib.Bits.{bitAnd, bitOr, and-mask, or-shifted}
@@ -20,18 +20,9 @@ or-byte u x l =
     let e : u * 256 % 65536 ≡ u % 256 * 256 = omega arith in
     rw e (or-shifted (u % 256) 8 x l)
 
--- 0xff >> (8 - k)
-pub ones-below : (k : ℕ) → k ≤ 8 → 255 / 2 ^ (8 - k) ≡ 2 ^ k - 1
-ones-below zero h = refl
-ones-below (suc zero) h = refl
-ones-below (suc (suc zero)) h = refl
-ones-below (suc (suc (suc zero))) h = refl
-ones-below (suc (suc (suc (suc zero)))) h = refl
-ones-below (suc (suc (suc (suc (suc zero))))) h = refl
-ones-below (suc (suc (suc (suc (suc (suc zero)))))) h = refl
-ones-below (suc (suc (suc (suc (suc (suc (suc zero))))))) h = refl
-ones-below (suc (suc (suc (suc (suc (suc (suc (suc zero)))))))) h = refl
-ones-below (suc (suc (suc (suc (suc (suc (suc (suc (suc k))))))))) h = absurd (omega arith)
+-- 1 << k
+pub one-above : (k : ℕ) → k ≤ 31 → 1 * 2 ^ k % 4294967296 ≡ 2 ^ k
+one-above k h = omega (arith, shl-exact {a = 1} 1 k 32 (omega arith) (omega arith))
 
 -- u | (y << r), where y has k bits and u's low k + r bits are 0
 pub or-above : (u y k r : ℕ) → u % 2 ^ (k + r) ≡ 0 → y < 2 ^ k → k + r ≤ 32 → bitOr u (y * 2 ^ r % 4294967296) ≡ u + y * 2 ^ r

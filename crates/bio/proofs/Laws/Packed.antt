@@ -2,13 +2,12 @@
 use mathlib.Core.Path.{_≡_, refl, sym, ap, _∙_, subst}
 use mathlib.Core.Bool.{Bool, true, false, cond}
 use mathlib.Core.List.{List, [], _∷_, _++_}
-use Prim.Native.Nat.{ℕ, zero, suc, _+_, _-_, _*_, _/_, _%_, _^_, _≤_, _<_, min}
+use Prim.Native.Nat.{ℕ, zero, suc, _+_, _-_, _*_, _%_, _^_, _≤_, _<_, min}
 use native.Mathlib.Omega.{arith}
 use lib.Dec.{eqb, ltb}
 use lib.ListN.{length, set, take, drop, length-set}
 use lib.Seq.{sets, sets-eq, set-out}
 use borrow.Author.Tests.{eq-eqb, ne-eqb, eqb-true, eqb-false, ltb-true, ltb-false}
-use Rattle.t800.specs.declared.Bio.{Bio}
 use Rattle.t800.specs.Bits.{bitsAfter, lastBytes, packFrom, pack}
 use Rattle.t800.proofs.Laws.Pack.{AreBits}
 use Rattle.bio.specs.Writing.{Output, output, emptyAt, lastPlace, placeAfter, byteOut, makeRoom, holdBit, putBit, putBits, flush, FreeBitsClear}

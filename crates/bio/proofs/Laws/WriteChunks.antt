@@ -1,5 +1,5 @@
 -- Several bits written in a step are as many single bits.
-use mathlib.Core.Path.{_≡_, refl, _∙_, sym, ap, ap₂, subst}
+use mathlib.Core.Path.{_≡_, _∙_, sym, ap, ap₂, subst}
 use mathlib.Core.List.{List, [], _∷_, _++_}
 use Prim.Native.Nat.{ℕ, zero, suc, _+_, _-_, _*_, _/_, _%_, _^_, _≤_, _<_}
 use native.Mathlib.Nat.{suc-add, zero-add, add-comm}
@@ -8,7 +8,7 @@ use lib.Pow.{mod-pow-add, pow-add, shr-shr}
 use borrow.Author.Tests.{ne-eqb}
 use Rattle.t800.specs.declared.Bio.{Bio}
 use Rattle.t800.specs.Bits.{bitsOf}
-use Rattle.bio.specs.Writing.{Output, output, byteOut, makeRoom, holdBit, putBit, putBits, FreeBitsClear}
+use Rattle.bio.specs.Writing.{Output, output, makeRoom, holdBit, putBit, putBits, FreeBitsClear}
 use Rattle.bio.specs.Chunks.{holdBits}
 use Rattle.bio.proofs.Laws.FreeBits.{makeRoom-clear, putBits-clear, putBits-append}
 

@@ -1,5 +1,6 @@
 -- `t2codes::opj_t2_putnumpasses` meets its contract: the table passes its test.
 -- Assumes nothing.
+use native.Mathlib.Omega.{arith}
 use borrow.Author.Needs.{needs}
 use Rattle.t800.specs.Base.{every}
 use Rattle.t800.specs.Bits.{bitsOf}
@@ -10,7 +11,9 @@ use Rattle.t2codes.proofs.opj_t2_putnumpasses.Tie as tie
 
 put-pass-codeword-requires : tie.Need-put-pass-codeword-requires
 unfolding isPassTable isCodeword sameBits every bitsOf passBits
-put-pass-codeword-requires c κs = (tt, c .before .before .before .pre .0, c .before .before .before .pre .1, c .before .before .before .pre .2)
+put-pass-codeword-requires c κs =
+    let p = c .before .before .before .pre in
+    (tt, p .0, omega (arith, p .1), omega (arith, p .2))
 
 same-length : tie.Need-same-length
 same-length c = search needs

@@ -20,7 +20,7 @@ returns : tie.Need-returns
 returns c =
     let two = c .before .before .before .opj-bio-read in
     let a = c .before .before .before .before .before .args in
-    c .plus .ensures ∙ from-3 (a .src .now) (a .b) (decoded (two .result)) (two .ensures) (c .before .if1 .taken)
+    c .plus .ensures ∙ from-3 (a .src .now) (a .b) (decoded (two .result)) (two .ensures) (omega (arith, c .before .if1 .taken))
 
 opj-bio-read-requires-2 : tie.Need-opj-bio-read-requires-2
 opj-bio-read-requires-2 c κs =
@@ -36,7 +36,7 @@ returns-2 c =
     let two = c .before .before .before .before .before .before .opj-bio-read in
     let a = c .before .before .before .before .before .before .before .before .args in
     c .plus2 .ensures
-    ∙ from-6 (a .src .now) (a .b) (decoded (two .result)) (two .ensures) (c .before .before .before .before .if1 .left) (decoded (five .result)) (five .ensures) (c .before .if2 .taken)
+    ∙ from-6 (a .src .now) (a .b) (decoded (two .result)) (two .ensures) (c .before .before .before .before .if1 .left) (decoded (five .result)) (five .ensures) (omega (arith, c .before .if2 .taken))
 
 opj-bio-read-requires-3 : tie.Need-opj-bio-read-requires-3
 opj-bio-read-requires-3 c κs =
