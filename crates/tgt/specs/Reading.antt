@@ -1,5 +1,5 @@
 -- What reading leaves: the words of the trees, and where the bits stand.
-use Prim.Native.Nat.{ℕ, zero, suc, _+_, _-_, _*_, _/_, _%_, _^_, _≤_, _<_, max}
+use Prim.Native.Nat.{ℕ, _+_, _-_, _/_, _%_, _^_, _≤_, _<_, max}
 use mathlib.Core.Path.{_≡_}
 use mathlib.Core.Bool.{Bool}
 use mathlib.Core.List.{List}
@@ -14,9 +14,6 @@ use Rattle.tgt.specs.declared.Behind.{Behind}
 use Rattle.tgt.specs.Path.{pathOver}
 use Rattle.tgt.specs.declared.NodeRead.{NodeRead}
 use Rattle.tgt.specs.declared.LeafRead.{LeafRead}
-
-abbrev pub bioOf : ℕ → ℕ → ℕ → Bio
-bioOf p u c = record { bp = p; buf = u; ct = c }
 
 -- ---- a leaf
 

@@ -1,8 +1,8 @@
 -- `tgt::raise` meets its contract. The invariant: raising the threshold on from here gives the whole.
 -- Assumes nothing.
-use mathlib.Core.Path.{_≡_, refl, sym, ap, _∙_, subst}
+use mathlib.Core.Path.{_≡_, refl, sym, _∙_, subst}
 use mathlib.Core.List.{reverse}
-use Prim.Native.Nat.{ℕ, _+_, _-_, _≤_}
+use Prim.Native.Nat.{ℕ, _-_, _≤_}
 use native.Mathlib.Omega.{arith}
 use lib.ListN.{length}
 use Rattle.t800.specs.TagTree.{PathRead, readPath}
@@ -10,7 +10,6 @@ use Rattle.t800.specs.ReadHeader.{readZeroPlanesFrom}
 use Rattle.tgt.specs.Path.{pathOver, leafWord, PathIn}
 use Rattle.tgt.specs.Reading.{pathRead, leafOf}
 use Rattle.tgt.proofs.Laws.Reading.{readPath-ct, leaf-says, raise-stop, raise-on, raise-end}
-use borrow.Author.Needs.{needs}
 use Rattle.tgt.proofs.raise.Statement.{statement}
 use Rattle.tgt.proofs.raise.Tie as tie
 
