@@ -73,6 +73,8 @@ fn first_word(base: usize, start: usize, x: usize, level: usize) -> usize
     base + words
 }
 
+// In what follows a tree of `depth` levels begins at the word `base`, and its leaf is in column x of the row that `row` was made for.
+
 // ---- setting
 
 // So many nodes from the word `from` on: a value that says "not yet", low 0, known 0.

@@ -121,7 +121,7 @@ module _ (w h : ℕ) (ls : List Level) (depth : ℕ) (t : TreeLevels w h ls dept
   -- ---- in column x, row y
 
   module _ (x y : ℕ) (in-row : x < w) (in-column : y < h) where
-    path-of-leaf : pathOver (rowOver ls depth y) depth x ≡ pathToRoot w h (y * w + x)
+    pub path-of-leaf : pathOver (rowOver ls depth y) depth x ≡ pathToRoot w h (y * w + x)
     unfolding pathToRoot
     path-of-leaf = path-at x y ∙ sym (rw (digits-div y in-row, digits-mod y in-row))
 
