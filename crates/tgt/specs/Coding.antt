@@ -11,6 +11,7 @@ use Rattle.tgt.specs.declared.Behind.{Behind}
 
 -- ---- a leaf
 
+-- the words and the output after it
 pub record LeafCoded : Type 0 where
   pub words : List ℕ
   pub output : Output
@@ -24,7 +25,7 @@ putCoded o c = record { words = c .words; output = putBits o (c .bits) }
 
 -- ---- a node
 
--- and the low from which the next node goes on
+-- the same after a node, and the low from which the next goes on
 pub record NodeCoded : Type 0 where
   pub words : List ℕ
   pub output : Output

@@ -1,5 +1,5 @@
 -- What reading leaves: the words of the trees, and where the bits stand.
-use Prim.Native.Nat.{ℕ, zero, suc, _+_, _-_, _*_, _/_, _%_, _^_, _≤_, _<_, max}
+use Prim.Native.Nat.{ℕ, _+_, _-_, _/_, _%_, _^_, _≤_, _<_, max}
 use mathlib.Core.Path.{_≡_}
 use mathlib.Core.Bool.{Bool}
 use mathlib.Core.List.{List}
@@ -15,15 +15,12 @@ use Rattle.tgt.specs.Path.{pathOver}
 use Rattle.tgt.specs.declared.NodeRead.{NodeRead}
 use Rattle.tgt.specs.declared.LeafRead.{LeafRead}
 
-abbrev pub bioOf : ℕ → ℕ → ℕ → Bio
-bioOf p u c = record { bp = p; buf = u; ct = c }
-
 -- ---- a leaf
 
 abbrev pub pathRead : List ℕ → Bio → PathRead
 pathRead ws b = record { words = ws; bio = b }
 
--- and whether its value lies below the threshold
+-- the words and the place after a leaf was read, and whether its value lies below the threshold
 pub record LeafAfter : Type 0 where
   pub words : List ℕ
   pub bio : Bio
@@ -36,7 +33,7 @@ leafAfter ws r = record { words = ws; bio = r .bio; below = r .below }
 abbrev pub belowIn : ℕ → ℕ → PathRead → LeafAfter
 belowIn t at r = record { words = r .words; bio = r .bio; below = ltb (value (r .words) at) t }
 
--- and its value
+-- the same, with its value
 pub record ValueAfter : Type 0 where
   pub words : List ℕ
   pub bio : Bio
@@ -60,7 +57,7 @@ seen v l b = record { value = v; low = l; bio = b }
 abbrev pub nodeRead : NodeRead → t800.NodeRead
 nodeRead r = seen (r .value) (r .low) (r .bio)
 
--- and the low from which the next node goes on
+-- the words and the place after a node was read, and the low from which the next goes on
 pub record NodeAfter : Type 0 where
   pub words : List ℕ
   pub bio : Bio

@@ -4,16 +4,16 @@ ghost use mathlib.Core.Bool.{_&&_, _||_};
 ghost use mathlib.Core.List.{reverse};
 ghost use Prim.Native.Nat.{_+_, _-_, _*_, _/_, _%_, _^_, _<_, _≤_};
 ghost use lib.Dec.{eqb, ltb, leb};
-ghost use lib.ListN.{length, getD, take, replicate, set};
+ghost use lib.ListN.{length, getD, replicate};
 ghost use lib.Seq.{sets};
-ghost use Rattle.t800.specs.TagTree.{setValue, codePath, readNode, readPath, knownAfter};
+ghost use Rattle.t800.specs.TagTree.{setValue, codePath, readNode, readPath};
 ghost use Rattle.t800.specs.State.{notYetPlanes};
 ghost use Rattle.t800.specs.Start.{freshNodes};
 ghost use Rattle.t800.specs.ReadHeader.{readZeroPlanesFrom};
 ghost use Rattle.bio.specs.Writing.{output, putBits, FreeBitsClear};
 ghost use Rattle.tgt.specs.Path.{rowOver, pathOver, leafWord, PathIn, SmallLevels};
 ghost use Rattle.tgt.specs.Coding.{leafCoded, putCoded, told, nodeCoded, codeFrom, codeNode};
-ghost use Rattle.tgt.specs.Reading.{bioOf, pathRead, leafAfter, belowIn, valueAfter, valueIn, leafOf, nodeRead, nodeAfter, readAt, LeadingZeros};
+ghost use Rattle.tgt.specs.Reading.{pathRead, leafAfter, belowIn, valueAfter, valueIn, leafOf, nodeRead, nodeAfter, readAt, LeadingZeros};
 use bio::Decoded;
 use t800::Bio;
 use t800::Level;
@@ -73,6 +73,8 @@ fn first_word(base: usize, start: usize, x: usize, level: usize) -> usize
     base + words
 }
 
+// In what follows a tree of `depth` levels begins at the word `base`, and its leaf is in column x of the row that `row` was made for.
+
 // ---- setting
 
 // So many nodes from the word `from` on: a value that says "not yet", low 0, known 0.
@@ -118,7 +120,7 @@ pub fn opj_tgt_setvalue(
 // Behind k bits of the held word, read, or put as zeros.
 fn behind_bits(b: Bio, k: u32) -> Bio
     requires { ⌜ k ≤ b .ct ⌝ }
-    ensures { λ r. ⌜ r ≡ bioOf (b .bp) (b .buf) (b .ct - k) ⌝ }
+    ensures { λ r. ⌜ r ≡ record { bp = b .bp; buf = b .buf; ct = b .ct - k } ⌝ }
 {
     Bio {
         bp: b.bp,

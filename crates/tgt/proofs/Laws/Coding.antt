@@ -5,18 +5,17 @@ use mathlib.Core.List.{List, [], _∷_, _++_, append-nil}
 use Prim.Native.Nat.{ℕ, zero, suc, _+_, _-_, _*_, _^_, _≤_, _<_, max, min}
 use native.Mathlib.Nat.{suc-add, zero-add}
 use native.Mathlib.Omega.{arith}
-use lib.Dec.{eqb, ltb, leb}
-use lib.ListN.{getD, set, replicate}
+use lib.Dec.{eqb, leb}
+use lib.ListN.{set, replicate}
 use lib.Seq.{getD-set-other, set-getD}
-use borrow.Author.Tests.{eq-eqb, ne-eqb, lt-ltb, le-ltb, leb-true, leb-false, eqb-true}
+use borrow.Author.Tests.{lt-ltb, le-ltb, leb-true, leb-false, eqb-true}
 use Rattle.t800.specs.declared.Bio.{Bio}
 use Rattle.t800.specs.TagTree.{codePath, lowAfter, nodeBits, knownAfter, value, low, known}
-use Rattle.t800.proofs.Laws.Tests.{if-ne, on-lt}
+use Rattle.t800.proofs.Laws.Tests.{if-ne}
 use Rattle.bio.specs.Writing.{Output, output, byteOut, makeRoom, putBit, putBits, holdBit, FreeBitsClear}
 use Rattle.bio.proofs.Laws.FreeBits.{byteOut-ct, putBits-append, putBits-clear}
-use Rattle.bio.proofs.Laws.WriteChunks.{put-held}
+use Rattle.bio.proofs.Laws.WriteChunks.{bioOf, put-held}
 use Rattle.tgt.specs.Coding.{LeafCoded, putCoded, NodeCoded, codeFrom, codeNode, told}
-use Rattle.tgt.specs.Reading.{bioOf}
 
 -- ---- zeros only take places
 

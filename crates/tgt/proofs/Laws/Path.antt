@@ -3,8 +3,6 @@
 use mathlib.Core.Path.{_≡_, refl, sym, ap, _∙_, subst}
 use mathlib.Core.List.{List, [], _∷_, _++_, reverse, reverse-append}
 use Prim.Native.Nat.{ℕ, zero, suc, _+_, _-_, _*_, _/_, _%_, _^_, _≤_, _<_}
-use native.Mathlib.Numerals.{add-one}
-use native.Mathlib.Nat.{le-of-eq, div-add-mod', suc-add, zero-add}
 use native.Mathlib.Omega.{arith}
 use lib.Arith.{digits-lt, digits-div, digits-mod}
 use lib.ListN.{length, getD, take, drop, replicate, length-append, length-replicate}
@@ -13,7 +11,7 @@ use lib.Seq.{length-take-le, drop-cons, getD-take, take-at, take-append-seam}
 use Rattle.t800.specs.declared.Level.{Level}
 use Rattle.t800.specs.TagTree.{levels, nodes, pathFrom, pathToRoot}
 use Rattle.t800.proofs.Laws.Levels.{at-most-seven-levels}
-use Rattle.t800.proofs.Laws.Paths.{All, AllBelow, Ancestors, Halves, levels-halve, parentOf, LeafPath, leaf-path}
+use Rattle.t800.proofs.Laws.Paths.{All, AllBelow, Halves, levels-halve, LeafPath, leaf-path}
 use Rattle.tgt.specs.Path.{rowFrom, rowOver, nodesOver, pathOver, leafWord, PathIn, noLevel, SmallLevels}
 
 -- ---- one node more, from the leaf up and from the root down
@@ -123,7 +121,7 @@ module _ (w h : ℕ) (ls : List Level) (depth : ℕ) (t : TreeLevels w h ls dept
   -- ---- in column x, row y
 
   module _ (x y : ℕ) (in-row : x < w) (in-column : y < h) where
-    path-of-leaf : pathOver (rowOver ls depth y) depth x ≡ pathToRoot w h (y * w + x)
+    pub path-of-leaf : pathOver (rowOver ls depth y) depth x ≡ pathToRoot w h (y * w + x)
     unfolding pathToRoot
     path-of-leaf = path-at x y ∙ sym (rw (digits-div y in-row, digits-mod y in-row))
 

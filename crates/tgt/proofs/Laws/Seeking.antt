@@ -3,7 +3,7 @@ use mathlib.Core.Path.{_≡_, refl, sym, ap, _∙_, subst}
 use mathlib.Core.Bool.{Bool, true, false, cond, _&&_, true≢false}
 use mathlib.Core.List.{List}
 use Prim.Native.Nat.{ℕ, zero, suc, _+_, _-_, _*_, _/_, _%_, _^_, _≤_, _<_, min}
-use native.Mathlib.Nat.{suc-add, zero-add, add-comm, mod-lt, div-eq-of-lt, div-eq-of-lt-le, mod-eq-of-lt, zero-div, zero-mod}
+use native.Mathlib.Nat.{add-comm, mod-lt, div-eq-of-lt, div-eq-of-lt-le, mod-eq-of-lt, zero-div, zero-mod}
 use native.Mathlib.Omega.{arith}
 use lib.Count.{leadingZeros, leading-length}
 use lib.Dec.{eqb, ltb}
@@ -14,7 +14,8 @@ use Rattle.t800.specs.Bits.{Decoded, byteIn, heldBit, getBit}
 use Rattle.t800.specs.TagTree.{NodeRead, readNode}
 use Rattle.t800.proofs.Laws.Tests.{if-lt, if-ge, if-eq, if-ne, on-lt, on-eq}
 use Rattle.bio.proofs.Laws.FreeBits.{seven-or-eight}
-use Rattle.tgt.specs.Reading.{bioOf, seen, LeadingZeros}
+use Rattle.bio.proofs.Laws.WriteChunks.{bioOf}
+use Rattle.tgt.specs.Reading.{seen, LeadingZeros}
 
 -- ---- the value bounds the bits as the threshold does
 

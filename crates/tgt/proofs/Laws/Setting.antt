@@ -1,9 +1,9 @@
 -- Setting a leaf node by node, and fresh nodes one by one.
-use mathlib.Core.Path.{_≡_, refl, sym, ap, _∙_}
-use mathlib.Core.List.{List, [], _∷_}
+use mathlib.Core.Path.{_≡_}
+use mathlib.Core.List.{List, _∷_}
 use Prim.Native.Nat.{ℕ, zero, suc, _+_, _-_, _*_, _≤_, _<_}
 use native.Mathlib.Omega.{arith}
-use lib.ListN.{getD, set}
+use lib.ListN.{set}
 use lib.Seq.{sets}
 use Rattle.t800.specs.TagTree.{setValue, value}
 use Rattle.t800.specs.Start.{freshNodes}

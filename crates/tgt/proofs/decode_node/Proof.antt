@@ -1,9 +1,8 @@
 -- `tgt::decode_node` meets its contract.
 -- Assumes nothing.
-use mathlib.Core.Path.{_≡_, sym, ap, _∙_, subst}
-use Prim.Native.Nat.{ℕ, _+_, _-_, _≤_, min}
+use mathlib.Core.Path.{ap, _∙_, subst}
+use Prim.Native.Nat.{ℕ, _+_, _-_, _≤_}
 use native.Mathlib.Omega.{arith}
-use lib.ListN.{length, getD}
 use lib.Seq.{lt-length-set}
 use Rattle.t800.specs.TagTree.{value, readNode}
 use Rattle.tgt.specs.Reading.{nodeRead}

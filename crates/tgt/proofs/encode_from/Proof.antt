@@ -1,14 +1,13 @@
 -- `tgt::encode_from` meets its contract.
 -- Assumes nothing.
 use mathlib.Core.Path.{_≡_, sym, ap, _∙_, subst}
-use Prim.Native.Nat.{ℕ, _+_, _-_, _<_, max, min}
-use native.Mathlib.Omega.{arith}
-use lib.ListN.{length, set, replicate, length-set}
+use Prim.Native.Nat.{ℕ, _+_, _-_, max, min}
+use lib.ListN.{set, replicate, length-set}
 use lib.Seq.{lt-length-set}
 use Rattle.t800.specs.TagTree.{value, lowAfter}
 use Rattle.bio.specs.Writing.{Output, output, FreeBitsClear}
 use Rattle.bio.proofs.Laws.FreeBits.{putBits-clear}
-use Rattle.tgt.specs.Coding.{leafCoded, NodeCoded, told}
+use Rattle.tgt.specs.Coding.{leafCoded, told}
 use Rattle.tgt.proofs.Laws.Coding.{code-to-threshold, code-to-value}
 use borrow.Author.Needs.{needs}
 use Rattle.tgt.proofs.encode_from.Statement.{statement}

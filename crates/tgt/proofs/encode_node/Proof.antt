@@ -1,7 +1,7 @@
 -- `tgt::encode_node` meets its contract.
 -- Assumes nothing.
-use mathlib.Core.Path.{_≡_, sym, ap, _∙_}
-use Prim.Native.Nat.{ℕ, _<_}
+use mathlib.Core.Path.{sym, ap, _∙_}
+use Prim.Native.Nat.{ℕ}
 use borrow.Author.Tests.{leb-false}
 use Rattle.t800.proofs.Laws.Tests.{or-left}
 use Rattle.bio.specs.Writing.{output}

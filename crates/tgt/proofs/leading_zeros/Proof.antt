@@ -1,8 +1,7 @@
 -- `tgt::leading_zeros` meets its contract.
 -- Assumes nothing.
-use mathlib.Core.Path.{_≡_, sym, subst}
+use mathlib.Core.Path.{sym, subst}
 use Prim.Native.Nat.{ℕ, _-_, _≤_}
-use native.Mathlib.Omega.{arith}
 use lib.Count.{leadingZeros}
 use Rattle.tgt.specs.Reading.{LeadingZeros}
 use Rattle.tgt.proofs.Laws.Seeking.{leading-held}

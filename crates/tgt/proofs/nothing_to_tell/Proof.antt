@@ -1,7 +1,6 @@
 -- `tgt::nothing_to_tell` meets its contract.
 -- Assumes nothing.
 use borrow.Author.Tests.{le-leb, lt-leb}
-use borrow.Author.Needs.{needs}
 use Rattle.tgt.proofs.nothing_to_tell.Statement.{statement}
 use Rattle.tgt.proofs.nothing_to_tell.Tie as tie
 

@@ -1,10 +1,10 @@
 -- `tgt::opj_tgt_decode` meets its contract.
 -- Assumes nothing.
-use mathlib.Core.Path.{_≡_, sym, ap, _∙_, subst}
+use mathlib.Core.Path.{sym, ap, _∙_, subst}
 use Prim.Native.Nat.{ℕ}
 use lib.Dec.{ltb}
 use Rattle.tgt.specs.Path.{leafWord, PathIn}
-use Rattle.tgt.specs.Reading.{LeafAfter, belowIn}
+use Rattle.tgt.specs.Reading.{belowIn}
 use borrow.Author.Needs.{needs}
 use Rattle.tgt.proofs.opj_tgt_decode.Statement.{statement}
 use Rattle.tgt.proofs.opj_tgt_decode.Tie as tie

@@ -1,9 +1,9 @@
 -- `tgt::opj_tgt_decode_value` meets its contract.
 -- Assumes nothing.
-use mathlib.Core.Path.{_≡_, sym, ap, _∙_, subst}
+use mathlib.Core.Path.{sym, ap, _∙_, subst}
 use Prim.Native.Nat.{ℕ}
 use Rattle.tgt.specs.Path.{leafWord, PathIn}
-use Rattle.tgt.specs.Reading.{ValueAfter, valueIn}
+use Rattle.tgt.specs.Reading.{valueIn}
 use borrow.Author.Needs.{needs}
 use Rattle.tgt.proofs.opj_tgt_decode_value.Statement.{statement}
 use Rattle.tgt.proofs.opj_tgt_decode_value.Tie as tie

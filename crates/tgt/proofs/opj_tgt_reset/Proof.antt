@@ -1,13 +1,12 @@
 -- `tgt::opj_tgt_reset` meets its contract. The invariant: the nodes that are left, set in the present words, give the whole.
 -- Assumes nothing.
 use mathlib.Core.Path.{_≡_, refl, _∙_}
-use Prim.Native.Nat.{ℕ, _+_, _-_, _*_, _≤_}
+use Prim.Native.Nat.{_+_, _*_, _≤_}
 use native.Mathlib.Omega.{arith}
 use lib.ListN.{length, set, length-set}
 use lib.Seq.{sets, lt-length-set}
 use Rattle.t800.specs.Start.{freshNodes}
 use Rattle.tgt.proofs.Laws.Setting.{fresh-turn}
-use borrow.Author.Needs.{needs}
 use Rattle.tgt.proofs.opj_tgt_reset.Statement.{statement}
 use Rattle.tgt.proofs.opj_tgt_reset.Tie as tie
 
@@ -33,7 +32,7 @@ mul-words-2 : tie.Need-mul-words-2 Inv-loop μ-loop
 mul-words-2 c = omega arith
 
 slice-write-words-2 : tie.Need-slice-write-words-2 Inv-loop μ-loop
-slice-write-words-2 c = let l = c .before .loop in lt-length-set (l .words) (l .at) (c .before .before .args .fresh) {i = l .at + 1} (omega arith)
+slice-write-words-2 c = let l = c .before .loop in lt-length-set (l .words) (l .at) _ {i = l .at + 1} (omega arith)
 
 add-words-2 : tie.Need-add-words-2 Inv-loop μ-loop
 add-words-2 c = omega arith
@@ -42,7 +41,7 @@ mul-words-3 : tie.Need-mul-words-3 Inv-loop μ-loop
 mul-words-3 c = omega arith
 
 slice-write-words-3 : tie.Need-slice-write-words-3 Inv-loop μ-loop
-slice-write-words-3 c = let l = c .before .loop in lt-length-set (set (l .words) (l .at) (c .before .before .args .fresh)) (l .at + 1) 0 {i = l .at + 2} (lt-length-set (l .words) (l .at) (c .before .before .args .fresh) {i = l .at + 2} (omega arith))
+slice-write-words-3 c = let l = c .before .loop in lt-length-set (set (l .words) (l .at) _) (l .at + 1) _ {i = l .at + 2} (lt-length-set (l .words) (l .at) _ {i = l .at + 2} (omega arith))
 
 add-at : tie.Need-add-at Inv-loop μ-loop
 add-at c = omega arith

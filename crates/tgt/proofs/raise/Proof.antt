@@ -1,8 +1,8 @@
 -- `tgt::raise` meets its contract. The invariant: raising the threshold on from here gives the whole.
 -- Assumes nothing.
-use mathlib.Core.Path.{_≡_, refl, sym, ap, _∙_, subst}
+use mathlib.Core.Path.{_≡_, refl, sym, _∙_, subst}
 use mathlib.Core.List.{reverse}
-use Prim.Native.Nat.{ℕ, _+_, _-_, _≤_}
+use Prim.Native.Nat.{ℕ, _-_, _≤_}
 use native.Mathlib.Omega.{arith}
 use lib.ListN.{length}
 use Rattle.t800.specs.TagTree.{PathRead, readPath}
@@ -10,7 +10,6 @@ use Rattle.t800.specs.ReadHeader.{readZeroPlanesFrom}
 use Rattle.tgt.specs.Path.{pathOver, leafWord, PathIn}
 use Rattle.tgt.specs.Reading.{pathRead, leafOf}
 use Rattle.tgt.proofs.Laws.Reading.{readPath-ct, leaf-says, raise-stop, raise-on, raise-end}
-use borrow.Author.Needs.{needs}
 use Rattle.tgt.proofs.raise.Statement.{statement}
 use Rattle.tgt.proofs.raise.Tie as tie
 
@@ -40,7 +39,7 @@ returns c = let s = c .before .before .before .before .before .before .before .b
     let row = s .args .row .now in
     let p = readPath src (s .args .base) (l .threshold) (reverse (pathOver row (s .args .depth) (s .args .x))) 0 (l .words) (l .bio) in
     let says = leaf-says (l .threshold) (leafWord (s .args .base) row (s .args .x)) (r .last .0) (r .result) p (r .ensures) in
-    sym (raise-stop src (leafOf (s .args .base) row (s .args .depth) (s .args .x)) (l .threshold) (l .words) (l .bio) (pathRead (r .last .0) (r .result .bio)) (says .0) (c .before .before .before .before .before .before .loop-test .taken) (says .1 ∙ c .if1 .taken))
+    sym (raise-stop src (leafOf (s .args .base) row (s .args .depth) (s .args .x)) (l .threshold) (l .words) (l .bio) (pathRead (r .last .0) (r .result .bio)) (says .0) (omega (arith, c .before .before .before .before .before .before .loop-test .taken)) (says .1 ∙ c .if1 .taken))
     ∙ l .inv .3
 
 add-threshold : tie.Need-add-threshold Inv-loop μ-loop
@@ -61,7 +60,7 @@ loop-again c = let s = c .before .before .before .before .before .before .before
       subst (λ (q : PathRead). q .bio .ct ≤ 8) (sym (says .0)) (readPath-ct src (s .args .base) (l .threshold) path 0 (l .words) (l .bio) (l .inv .0)),
       r .kept .0 ∙ l .inv .1,
       omega arith,
-      raise-on src (leafOf (s .args .base) row (s .args .depth) (s .args .x)) (l .threshold) (l .words) (l .bio) (pathRead (r .last .0) (r .result .bio)) (says .0) (c .before .before .before .before .before .before .loop-test .taken) (says .1 ∙ c .if1 .left) ∙ l .inv .3,
+      raise-on src (leafOf (s .args .base) row (s .args .depth) (s .args .x)) (l .threshold) (l .words) (l .bio) (pathRead (r .last .0) (r .result .bio)) (says .0) (omega (arith, c .before .before .before .before .before .before .loop-test .taken)) (says .1 ∙ c .if1 .left) ∙ l .inv .3,
     )
 
 same-length-2 : tie.Need-same-length-2 Inv-loop μ-loop

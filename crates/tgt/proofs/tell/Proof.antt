@@ -1,12 +1,10 @@
 -- `tgt::tell` meets its contract.
 -- Assumes nothing.
-use mathlib.Core.Path.{_≡_, ap, _∙_}
-use mathlib.Core.List.{List}
-use Prim.Native.Nat.{ℕ}
+use mathlib.Core.Path.{_∙_}
 use lib.ListN.{set}
 use borrow.Author.Tests.{eq-eqb, ne-eqb}
-use Rattle.bio.specs.Writing.{Output, putBits}
-use Rattle.tgt.specs.Coding.{LeafCoded, told}
+use Rattle.bio.specs.Writing.{putBits}
+use Rattle.tgt.specs.Coding.{told}
 use borrow.Author.Needs.{needs}
 use Rattle.tgt.proofs.tell.Statement.{statement}
 use Rattle.tgt.proofs.tell.Tie as tie

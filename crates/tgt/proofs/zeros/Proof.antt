@@ -1,7 +1,7 @@
 -- `tgt::zeros` meets its contract. The invariant: the zeros that are left, put into the present output, give the whole.
 -- Assumes nothing.
 use mathlib.Core.Path.{_≡_, refl, sym, ap, _∙_, subst}
-use Prim.Native.Nat.{ℕ, _-_, _*_, _<_}
+use Prim.Native.Nat.{_-_, _*_}
 use native.Mathlib.Omega.{arith}
 use lib.ListN.{length, replicate}
 use Rattle.bio.specs.Writing.{Output, output, putBits, FreeBitsClear}
