@@ -73,9 +73,9 @@ sides-of-all (b ∷ bs) e =
     )
 
 -- what a shape that isn't refused says
-pub shape-in-range : (n : ℕ) (bs : List Band) → badShape n (take n bs) ≡ false → (1 ≤ n) × (n ≤ 3) × AllUpTo64 (take n bs)
+pub shape-not-refused : (n : ℕ) (bs : List Band) → badShape n (take n bs) ≡ false → (1 ≤ n) × (n ≤ 3) × AllUpTo64 (take n bs)
 unfolding badShape
-shape-in-range n bs e =
+shape-not-refused n bs e =
     let tooWide : Bool = any (λ b. ltb 64 (b .across) || ltb 64 (b .down)) (take n (take n bs)) in
     let count = or-left (eqb n 0 || ltb 3 n) tooWide e in
     let t : take n (take n bs) ≡ take n bs = take-take n n bs (le-refl n) in

@@ -1,0 +1,4 @@
+pub mod Marks
+pub mod AnyOf
+pub mod BlockPlanes
+pub mod RangeParts

@@ -1,0 +1,43 @@
+-- Parts of the range check of a state (refusal 5) on the numbers that the code has read.
+use Prim.Native.Nat.{ℕ, _*_}
+use mathlib.Core.Bool.{Bool, cond, _&&_, _||_, not}
+use mathlib.Core.List.{List, [], _∷_}
+use lib.Dec.{leb, eqb}
+use Rattle.t800.specs.declared.Band.{Band}
+use Rattle.t800.specs.Segments.{isLimit}
+use Rattle.t800.specs.State.{notYetIncluded, writer, role, bandCount, style, layer, bands, bandAt}
+use Rattle.t800.specs.Ranges.{badShape, badStyle, bandTooDeep, unusedBandsZero}
+
+-- a loop's mark: 0 as long as the test holds
+abbrev pub mark : Bool → ℕ
+mark t = cond t 0 1
+
+-- the three bands that a state's words name, used or not
+abbrev pub threeBands : List ℕ → List Band
+threeBands ws = bandAt ws 0 ∷ bandAt ws 1 ∷ bandAt ws 2 ∷ []
+
+-- length bits b of a block with p passes
+unfoldable pub lengthBitsInRange : ℕ → ℕ → Bool
+lengthBitsInRange p b = cond (eqb p 0) (eqb b 0) (leb 3 b && leb b 32)
+
+-- limit m and passes u of its current segment, for a role and a style
+unfoldable pub segmentInRange : ℕ → ℕ → ℕ → ℕ → ℕ → Bool
+unfolding writer
+segmentInRange r s p m u = cond (eqb p 0 || eqb r writer) (eqb m 0 && eqb u 0) (isLimit s m && leb 1 u && leb u m)
+
+-- the four words of a block, for a role, a style and a next layer
+unfoldable pub blockWordsInRange : ℕ → ℕ → ℕ → ℕ → ℕ → ℕ → ℕ → Bool
+blockWordsInRange r s t p b m u = leb p (164 * t) && lengthBitsInRange p b && segmentInRange r s p m u
+
+-- role, band count and sides
+unfoldable pub shapeInRange : ℕ → List ℕ → Bool
+shapeInRange r ws = eqb (role ws) r && not (badShape (bandCount ws) (bands ws))
+
+-- the thirteen words before the first band's
+unfoldable pub firstWordsInRange : ℕ → List ℕ → Bool
+firstWordsInRange r ws =
+    shapeInRange r ws
+    && not (badStyle (style ws))
+    && leb (layer ws) notYetIncluded
+    && not (bandTooDeep (bands ws))
+    && unusedBandsZero ws
