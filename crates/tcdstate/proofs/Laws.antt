@@ -1,4 +1,4 @@
-pub mod Marks
+pub mod Faults
 pub mod AnyOf
 pub mod BlockPlanes
 pub mod RangeParts

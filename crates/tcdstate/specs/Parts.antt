@@ -8,9 +8,9 @@ use Rattle.t800.specs.Segments.{isLimit}
 use Rattle.t800.specs.State.{notYetIncluded, writer, role, bandCount, style, layer, bands, bandAt}
 use Rattle.t800.specs.Ranges.{badShape, badStyle, bandTooDeep, unusedBandsZero}
 
--- a loop's mark: 0 as long as the test holds
-abbrev pub mark : Bool → ℕ
-mark t = cond t 0 1
+-- a loop's fault: 0 as long as the test holds
+abbrev pub fault : Bool → ℕ
+fault t = cond t 0 1
 
 -- the three bands that a state's words name, used or not
 abbrev pub threeBands : List ℕ → List Band

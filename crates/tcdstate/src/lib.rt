@@ -1,14 +1,15 @@
 // What a start and a state must meet: the checks of refusals 1, 4 and 5 over the bands that are given and the words that are lent.
 ghost use mathlib.Core.Path.{_≡_};
-ghost use mathlib.Core.Bool.{_&&_, _||_};
+ghost use mathlib.Core.Bool.{cond, _&&_, _||_};
 ghost use Prim.Native.Nat.{_+_, _*_, _≤_, _<_, min};
 ghost use lib.ListN.{length, getD, take};
 ghost use lib.Dec.{ltb, leb, eqb};
 ghost use Rattle.t800.specs.Base.{every, any};
+ghost use Rattle.t800.specs.Segments.{isLimit};
 ghost use Rattle.t800.specs.State.{writer, bandLength, stateLength, blocks, bandAt};
 ghost use Rattle.t800.specs.Ranges.{badShape, bandTooDeep, blockTooDeep, nodeInRange, blockInRange, bandInRange, bandsInRange, validState};
 ghost use Rattle.tcd.specs.Geometry.{SidesUpTo64, AllUpTo64};
-ghost use Rattle.tcdstate.specs.Parts.{mark, lengthBitsInRange, segmentInRange, blockWordsInRange, shapeInRange, firstWordsInRange, threeBands};
+ghost use Rattle.tcdstate.specs.Parts.{fault, lengthBitsInRange, segmentInRange, blockWordsInRange, shapeInRange, firstWordsInRange, threeBands};
 use t800::Band;
 use tcd::Style;
 
@@ -68,7 +69,7 @@ pub fn band_too_deep(bands: [Band; 3], n: usize) -> bool
 }
 
 fn over(x: u32, most: u32) -> u32
-    ensures { λ r. ⌜ r ≡ mark (leb x most) ⌝ }
+    ensures { λ r. ⌜ r ≡ fault (leb x most) ⌝ }
 {
     if most < x { 1 } else { 0 }
 }
@@ -77,13 +78,13 @@ fn over(x: u32, most: u32) -> u32
 fn any_over(planes: &[u32], most: u32) -> bool
     ensures { λ r. ⌜ r ≡ any (λ p. ltb most p) (now (planes .entry)) ⌝ }
 {
-    let mut bad: u32 = 0;
+    let mut faults: u32 = 0;
     let mut i: usize = 0;
     while i < planes.len() {
-        bad = bad | over(planes[i], most);
+        faults = faults | over(planes[i], most);
         i += 1;
     }
-    bad != 0
+    faults != 0
 }
 
 fn smaller(a: usize, b: usize) -> usize
@@ -156,8 +157,8 @@ pub fn bands_of(state: &[u32]) -> [Band; 3]
     [first, second, third]
 }
 
-fn node_mark(value: u32, low: u32, known: u32, most: u32) -> u32
-    ensures { λ r. ⌜ r ≡ mark (leb value most && leb low most && leb known 1) ⌝ }
+fn node_fault(value: u32, low: u32, known: u32, most: u32) -> u32
+    ensures { λ r. ⌜ r ≡ fault (leb value most && leb low most && leb known 1) ⌝ }
 {
     over(value, most) | over(low, most) | over(known, 1)
 }
@@ -167,38 +168,30 @@ fn nodes_in_range(state: &[u32], at: usize, n: usize, most: u32) -> bool
     requires { ⌜ at + 3 * n ≤ length (now state) ⌝ }
     ensures { λ r. ⌜ r ≡ every n (λ i. nodeInRange (now (state .entry)) most (at + 3 * i)) ⌝ }
 {
-    let mut bad: u32 = 0;
+    let mut faults: u32 = 0;
     let mut i: usize = 0;
     while i < n {
         let node = at + 3 * i;
-        bad = bad | node_mark(state[node], state[node + 1], state[node + 2], most);
+        faults = faults | node_fault(state[node], state[node + 1], state[node + 2], most);
         i += 1;
     }
-    bad == 0
+    faults == 0
 }
 
-fn length_bits_in_range(passes: u32, bits: u32) -> bool
-    ensures { λ r. ⌜ r ≡ lengthBitsInRange passes bits ⌝ }
+// The bound on a word that must be 0 where there is none.
+fn unless(none: bool, bound: u32) -> u32
+    ensures { λ r. ⌜ r ≡ cond none 0 bound ⌝ }
 {
-    if passes == 0 {
-        return bits == 0;
-    }
-    if bits < 3 {
-        return false;
-    }
-    bits <= 32
+    if none { 0 } else { bound }
 }
 
-fn wide(x: u32) -> u64
-    ensures { λ r. ⌜ r ≡ x ⌝ }
+fn length_bits_fault(passes: u32, bits: u32) -> u32
+    ensures { λ r. ⌜ r ≡ fault (lengthBitsInRange passes bits) ⌝ }
 {
-    x as u64
-}
-
-fn most_passes(layer: u32) -> u64
-    ensures { λ r. ⌜ r ≡ 164 * layer ⌝ }
-{
-    164 * (layer as u64)
+    let none = passes == 0;
+    let least = unless(none, 3);
+    let most = unless(none, 32);
+    over(least, bits) | over(bits, most)
 }
 
 fn has_no_segment(role: u32, passes: u32) -> bool
@@ -210,51 +203,32 @@ fn has_no_segment(role: u32, passes: u32) -> bool
     role == WRITER
 }
 
-fn both_zero(a: u32, b: u32) -> bool
-    ensures { λ r. ⌜ r ≡ (eqb a 0 && eqb b 0) ⌝ }
+fn limit_fault(style: Style, none: bool, limit: u32) -> u32
+    ensures { λ r. ⌜ r ≡ fault (cond none (eqb limit 0) (isLimit (style .bits) limit)) ⌝ }
 {
-    if a != 0 {
-        return false;
+    if none {
+        return over(limit, 0);
     }
-    b == 0
+    if style.is_limit(limit) { 0 } else { 1 }
 }
 
-fn segment_in_range(role: u32, style: Style, passes: u32, limit: u32, used: u32) -> bool
-    ensures { λ r. ⌜ r ≡ segmentInRange role (style .bits) passes limit used ⌝ }
+// Where there is no segment the limit is 0, and the passes are at most that.
+fn segment_fault(role: u32, style: Style, passes: u32, limit: u32, used: u32) -> u32
+    ensures { λ r. ⌜ r ≡ fault (segmentInRange role (style .bits) passes limit used) ⌝ }
 {
-    if has_no_segment(role, passes) {
-        return both_zero(limit, used);
-    }
-    if !style.is_limit(limit) {
-        return false;
-    }
-    if used < 1 {
-        return false;
-    }
-    used <= limit
+    let none = has_no_segment(role, passes);
+    let least = unless(none, 1);
+    limit_fault(style, none, limit) | over(least, used) | over(used, limit)
 }
 
-fn block_in_range(
-    role: u32,
-    style: Style,
-    layer: u32,
-    passes: u32,
-    bits: u32,
-    limit: u32,
-    used: u32,
-) -> bool
-    ensures { λ r. ⌜ r ≡ blockWordsInRange role (style .bits) layer passes bits limit used ⌝ }
+fn passes_fault(passes: u32, layer: u32) -> u32
+    ensures { λ r. ⌜ r ≡ fault (leb passes (164 * layer)) ⌝ }
 {
-    if most_passes(layer) < wide(passes) {
-        return false;
-    }
-    if !length_bits_in_range(passes, bits) {
-        return false;
-    }
-    segment_in_range(role, style, passes, limit, used)
+    let most = 164 * (layer as u64);
+    if most < passes as u64 { 1 } else { 0 }
 }
 
-fn block_mark(
+fn block_fault(
     role: u32,
     style: Style,
     layer: u32,
@@ -263,13 +237,11 @@ fn block_mark(
     limit: u32,
     used: u32,
 ) -> u32
-    ensures { λ r. ⌜ r ≡ mark (blockWordsInRange role (style .bits) layer passes bits limit used) ⌝ }
+    ensures { λ r. ⌜ r ≡ fault (blockWordsInRange role (style .bits) layer passes bits limit used) ⌝ }
 {
-    if block_in_range(role, style, layer, passes, bits, limit, used) {
-        0
-    } else {
-        1
-    }
+    passes_fault(passes, layer)
+        | length_bits_fault(passes, bits)
+        | segment_fault(role, style, passes, limit, used)
 }
 
 fn blocks_in_range(state: &[u32], at: usize, n: usize) -> bool
@@ -280,12 +252,12 @@ fn blocks_in_range(state: &[u32], at: usize, n: usize) -> bool
     let bits = word(state, 2);
     let layer = word(state, 3);
     let style = Style { bits };
-    let mut bad: u32 = 0;
+    let mut faults: u32 = 0;
     let mut i: usize = 0;
     while i < n {
         let block = at + 4 * i;
-        bad = bad
-            | block_mark(
+        faults = faults
+            | block_fault(
                 role,
                 style,
                 layer,
@@ -296,7 +268,7 @@ fn blocks_in_range(state: &[u32], at: usize, n: usize) -> bool
             );
         i += 1;
     }
-    bad == 0
+    faults == 0
 }
 
 fn band_in_range(state: &[u32], at: usize, band: Band) -> bool
@@ -333,9 +305,9 @@ fn bands_in_range(state: &[u32], bands: [Band; 3], n: usize) -> bool
     true
 }
 
-fn unused_mark(state: &[u32], i: usize, used: usize) -> u32
+fn unused_fault(state: &[u32], i: usize, used: usize) -> u32
     requires { ⌜ i < 9 ⌝ }
-    ensures { λ r. ⌜ r ≡ mark (ltb i used || eqb (getD (now (state .entry)) (4 + i) 0) 0) ⌝ }
+    ensures { λ r. ⌜ r ≡ fault (ltb i used || eqb (getD (now (state .entry)) (4 + i) 0) 0) ⌝ }
 {
     if i < used {
         return 0;
@@ -347,13 +319,13 @@ fn unused_bands_zero(state: &[u32], n: u32) -> bool
     ensures { λ r. ⌜ r ≡ every 9 (λ i. ltb i (3 * n) || eqb (getD (now (state .entry)) (4 + i) 0) 0) ⌝ }
 {
     let used = 3 * (n as usize);
-    let mut bad: u32 = 0;
+    let mut faults: u32 = 0;
     let mut i: usize = 0;
     while i < 9 {
-        bad = bad | unused_mark(state, i, used);
+        faults = faults | unused_fault(state, i, used);
         i += 1;
     }
-    bad == 0
+    faults == 0
 }
 
 fn shape_in_range(role: u32, state: &[u32], bands: [Band; 3]) -> bool

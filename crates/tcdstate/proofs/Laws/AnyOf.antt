@@ -12,8 +12,8 @@ use lib.Dec.{eqb, ltb, leb}
 use borrow.Author.Tests.{lt-ltb, le-ltb, le-leb, lt-leb}
 use Rattle.t800.specs.Base.{any}
 use Rattle.t800.proofs.Laws.Tests.{on-lt}
-use Rattle.tcdstate.specs.Parts.{mark}
-use Rattle.tcdstate.proofs.Laws.Marks.{mark-both}
+use Rattle.tcdstate.specs.Parts.{fault}
+use Rattle.tcdstate.proofs.Laws.Faults.{fault-both}
 
 module _ {ℓ} {A : Type ℓ} (f : A → Bool) where
   -- at the first entry, or past it
@@ -41,24 +41,24 @@ module _ {ℓ} {A : Type ℓ} (f : A → Bool) where
 pub at-most-or-over : (x most : ℕ) → leb x most ≡ not (ltb most x)
 at-most-or-over x most = on-lt most x (λ h. simp (lt-leb x most h, lt-ltb most x h)) (λ h. simp (le-leb x most h, le-ltb most x h))
 
-none-over : (a b : Bool) → bitOr (mark (not a)) (mark (not b)) ≡ mark (not (a || b))
+none-over : (a b : Bool) → bitOr (fault (not a)) (fault (not b)) ≡ fault (not (a || b))
 none-over true true = refl
 none-over true false = refl
 none-over false true = refl
 none-over false false = refl
 
--- a loop's mark over a list: 0 as long as no entry is over
+-- a loop's fault over a list: 0 as long as no entry is over
 module _ (most : ℕ) (l : List ℕ) where
-  pub over-turn : (i bad m : ℕ) → i < length l → bad ≡ mark (not (any (λ x. ltb most x) (take i l))) → m ≡ mark (leb (getD l i 0) most)
-      → bitOr bad m ≡ mark (not (any (λ x. ltb most x) (take (i + 1) l)))
-  over-turn i bad m h p q =
+  pub over-turn : (i faults m : ℕ) → i < length l → faults ≡ fault (not (any (λ x. ltb most x) (take i l))) → m ≡ fault (leb (getD l i 0) most)
+      → bitOr faults m ≡ fault (not (any (λ x. ltb most x) (take (i + 1) l)))
+  over-turn i faults m h p q =
       let x : ℕ = getD l i 0 in
       let e : any (λ x. ltb most x) (take (i + 1) l) ≡ (any (λ x. ltb most x) (take i l) || ltb most x) = rw (add-one, take-suc l i 0 h) (any-and-one (λ x. ltb most x) (take i l) x) in
       rw (p, q, at-most-or-over x most, e) (none-over (any (λ x. ltb most x) (take i l)) (ltb most x))
 
-  pub over-end : (i bad : ℕ) → length l ≤ i → bad ≡ mark (not (any (λ x. ltb most x) (take i l))) → not (eqb bad 0) ≡ any (λ x. ltb most x) l
-  over-end i bad h p = rw (p, take-all i l h) (ends (any (λ x. ltb most x) l))
+  pub over-end : (i faults : ℕ) → length l ≤ i → faults ≡ fault (not (any (λ x. ltb most x) (take i l))) → not (eqb faults 0) ≡ any (λ x. ltb most x) l
+  over-end i faults h p = rw (p, take-all i l h) (ends (any (λ x. ltb most x) l))
     where
-      ends : (t : Bool) → not (eqb (mark (not t)) 0) ≡ t
+      ends : (t : Bool) → not (eqb (fault (not t)) 0) ≡ t
       ends true = refl
       ends false = refl

@@ -1,22 +1,44 @@
 -- The parts of the range check, as the code reads them, make the definition's. Each law takes a Bool for each part, so that a part that
 -- is known to fail decides.
 use mathlib.Core.Path.{_≡_, refl, sym, ap, _∙_, subst}
-use mathlib.Core.Bool.{Bool, true, false, not, _&&_, _||_}
+use mathlib.Core.Bool.{Bool, true, false, cond, not, _&&_, _||_}
 use mathlib.Core.List.{List, [], _∷_}
 use Prim.Native.Nat.{ℕ, _+_, _*_, _≤_, _<_}
 use native.Mathlib.Omega.{arith}
 use lib.ListN.{length, getD, take, drop}
 use lib.Dec.{ltb, leb, eqb}
-use borrow.Author.Tests.{not-true}
+use borrow.Author.Tests.{not-true, eq-eqb, ne-eqb, le-leb, lt-leb}
 use Rattle.t800.specs.declared.Band.{Band}
 use Rattle.t800.specs.Base.{every}
+use Rattle.t800.specs.Segments.{isLimit}
 use Rattle.t800.specs.State.{writer, notYetIncluded, notYetPlanes, role, bandCount, style, layer, bandAt, bands, bandNodes, blocksIn, bandLength, stateLength}
 use Rattle.t800.specs.Ranges.{badShape, badStyle, bandTooDeep, nodeInRange, blockInRange, bandInRange, bandsInRange, unusedBandsZero, validState}
+use Rattle.t800.proofs.Laws.Tests.{on-eq}
 use Rattle.tcd.specs.Geometry.{AllUpTo64}
 use Rattle.tcd.proofs.Laws.Bands.{shape-not-refused}
 use Rattle.tcdstate.specs.Parts.{threeBands, lengthBitsInRange, segmentInRange, blockWordsInRange, shapeInRange, firstWordsInRange}
 
 -- ---- blocks and bands
+
+pub at-most-zero : (n : ℕ) → leb n 0 ≡ eqb n 0
+at-most-zero n = on-eq n 0 (λ e. simp (le-leb n 0 (omega arith), eq-eqb n 0 e)) (λ e. simp (lt-leb n 0 (omega arith), ne-eqb n 0 e))
+
+pub length-bits-parts : (p b least most : ℕ) → least ≡ cond (eqb p 0) 0 3 → most ≡ cond (eqb p 0) 0 32 → (leb least b && leb b most) ≡ lengthBitsInRange p b
+unfolding lengthBitsInRange
+length-bits-parts p b least most x y = rw (x, y) (go (eqb p 0))
+  where
+    go : (none : Bool) → (leb (cond none 0 3) b && leb b (cond none 0 32)) ≡ cond none (eqb b 0) (leb 3 b && leb b 32)
+    go true = rw (le-leb 0 b (omega arith)) (at-most-zero b)
+    go false = refl
+
+pub segment-parts : (r s p m u least : ℕ) (none : Bool) → none ≡ (eqb p 0 || eqb r writer) → least ≡ cond none 0 1
+    → (cond none (eqb m 0) (isLimit s m) && leb least u && leb u m) ≡ segmentInRange r s p m u
+unfolding segmentInRange writer
+segment-parts r s p m u least none x y = rw (y, ← x) (go none)
+  where
+    go : (t : Bool) → (cond t (eqb m 0) (isLimit s m) && leb (cond t 0 1) u && leb u m) ≡ cond t (eqb m 0 && eqb u 0) (isLimit s m && leb 1 u && leb u m)
+    go true = on-eq m 0 (λ e. rw (e, le-leb 0 u (omega arith)) (at-most-zero u)) (λ e. simp (ne-eqb m 0 e))
+    go false = refl
 
 pub block-words : (ws : List ℕ) (at r s t : ℕ) → r ≡ role ws → s ≡ style ws → t ≡ layer ws
     → blockWordsInRange r s t (getD ws at 0) (getD ws (at + 1) 0) (getD ws (at + 2) 0) (getD ws (at + 3) 0) ≡ blockInRange ws at

@@ -7,15 +7,15 @@ use mathlib.Core.Path.{_≡_, refl}
 use native.Mathlib.Omega.{arith}
 use Rattle.t800.specs.Base.{any}
 use Rattle.tcdstate.proofs.Laws.AnyOf.{over-end, over-turn}
-use Rattle.tcdstate.specs.Parts.{mark}
+use Rattle.tcdstate.specs.Parts.{fault}
 use Rattle.tcdstate.proofs.any_over.Statement.{statement}
 use Rattle.tcdstate.proofs.any_over.Tie as tie
 
 abbrev Inv-loop : tie.InvT-loop
-Inv-loop planes most bad₀ i₀ bad i = (i ≤ length planes) × (bad ≡ mark (not (any (λ x. ltb most x) (take i planes))))
+Inv-loop planes most faults₀ i₀ faults i = (i ≤ length planes) × (faults ≡ fault (not (any (λ x. ltb most x) (take i planes))))
 
 abbrev μ-loop : tie.MeasureT-loop
-μ-loop planes most bad₀ i₀ bad i = length planes - i
+μ-loop planes most faults₀ i₀ faults i = length planes - i
 
 loop-holds : tie.Need-loop-holds Inv-loop μ-loop
 unfolding any
@@ -40,10 +40,10 @@ loop-again : tie.Need-loop-again Inv-loop μ-loop
 loop-again c =
     let l = c .before .before .before .loop in
     let s = c .before .before .before .before .before .args in
-    (omega arith, over-turn (s .most) (s .planes .now) (l .i) (l .bad) _ (omega arith) (l .inv .1) (c .over .ensures))
+    (omega arith, over-turn (s .most) (s .planes .now) (l .i) (l .faults) _ (omega arith) (l .inv .1) (c .over .ensures))
 
 returns : tie.Need-returns Inv-loop μ-loop
-returns c = let l = c .before .loop in let s = c .before .before .before .args in over-end (s .most) (s .planes .now) (l .i) (l .bad) (omega arith) (l .inv .1)
+returns c = let l = c .before .loop in let s = c .before .before .before .args in over-end (s .most) (s .planes .now) (l .i) (l .faults) (omega arith) (l .inv .1)
 
 pub any-over-spec : {M : Type 1} → statement M
 any-over-spec =
