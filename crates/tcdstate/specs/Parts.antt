@@ -1,10 +1,12 @@
 -- Parts of the range check of a state (refusal 5) on the numbers that the code has read.
 use Prim.Native.Nat.{ℕ, _*_}
+use mathlib.Core.Path.{_≡_}
 use mathlib.Core.Bool.{Bool, cond, _&&_, _||_, not}
 use mathlib.Core.List.{List, [], _∷_}
 use lib.Dec.{leb, eqb}
 use Rattle.t800.specs.declared.Band.{Band}
-use Rattle.t800.specs.Segments.{isLimit}
+use Rattle.tcdstate.specs.declared.Limits.{Limits}
+use Rattle.t800.specs.Segments.{firstLimit, nextLimit}
 use Rattle.t800.specs.State.{notYetIncluded, writer, role, bandCount, style, layer, bands, bandAt}
 use Rattle.t800.specs.Ranges.{badShape, badStyle, bandTooDeep, unusedBandsZero}
 
@@ -20,14 +22,23 @@ threeBands ws = bandAt ws 0 ∷ bandAt ws 1 ∷ bandAt ws 2 ∷ []
 unfoldable pub lengthBitsInRange : ℕ → ℕ → Bool
 lengthBitsInRange p b = cond (eqb p 0) (eqb b 0) (leb 3 b && leb b 32)
 
--- limit m and passes u of its current segment, for a role and a style
-unfoldable pub segmentInRange : ℕ → ℕ → ℕ → ℕ → ℕ → Bool
-unfolding writer
-segmentInRange r s p m u = cond (eqb p 0 || eqb r writer) (eqb m 0 && eqb u 0) (isLimit s m && leb 1 u && leb u m)
+-- the limits that a style gives, and a test against them
+pub record LimitsOf (s : ℕ) (l : Limits) : Type 0 where
+  pub first : l .first ≡ firstLimit s
+  pub second : l .second ≡ nextLimit s 2
+  pub third : l .third ≡ nextLimit s 1
 
--- the four words of a block, for a role, a style and a next layer
-unfoldable pub blockWordsInRange : ℕ → ℕ → ℕ → ℕ → ℕ → ℕ → ℕ → Bool
-blockWordsInRange r s t p b m u = leb p (164 * t) && lengthBitsInRange p b && segmentInRange r s p m u
+unfoldable pub isOneOf : Limits → ℕ → Bool
+isOneOf l m = eqb m (l .first) || eqb m (l .second) || eqb m (l .third)
+
+-- limit m and passes u of its current segment, for a role and a style's limits
+unfoldable pub segmentInRange : ℕ → Limits → ℕ → ℕ → ℕ → Bool
+unfolding writer
+segmentInRange r l p m u = cond (eqb p 0 || eqb r writer) (eqb m 0 && eqb u 0) (isOneOf l m && leb 1 u && leb u m)
+
+-- the four words of a block, for a role, a style's limits and a next layer
+unfoldable pub blockWordsInRange : ℕ → Limits → ℕ → ℕ → ℕ → ℕ → ℕ → Bool
+blockWordsInRange r l t p b m u = leb p (164 * t) && lengthBitsInRange p b && segmentInRange r l p m u
 
 -- role, band count and sides
 unfoldable pub shapeInRange : ℕ → List ℕ → Bool

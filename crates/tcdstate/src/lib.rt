@@ -5,11 +5,10 @@ ghost use Prim.Native.Nat.{_+_, _*_, _≤_, _<_, min};
 ghost use lib.ListN.{length, getD, take};
 ghost use lib.Dec.{ltb, leb, eqb};
 ghost use Rattle.t800.specs.Base.{every, any};
-ghost use Rattle.t800.specs.Segments.{isLimit};
 ghost use Rattle.t800.specs.State.{writer, bandLength, stateLength, blocks, bandAt};
 ghost use Rattle.t800.specs.Ranges.{badShape, bandTooDeep, blockTooDeep, nodeInRange, blockInRange, bandInRange, bandsInRange, validState};
 ghost use Rattle.tcd.specs.Geometry.{SidesUpTo64, AllUpTo64};
-ghost use Rattle.tcdstate.specs.Parts.{fault, lengthBitsInRange, segmentInRange, blockWordsInRange, shapeInRange, firstWordsInRange, threeBands};
+ghost use Rattle.tcdstate.specs.Parts.{fault, LimitsOf, isOneOf, lengthBitsInRange, segmentInRange, blockWordsInRange, shapeInRange, firstWordsInRange, threeBands};
 use t800::Band;
 use tcd::Style;
 
@@ -178,19 +177,18 @@ fn nodes_in_range(state: &[u32], at: usize, n: usize, most: u32) -> bool
     faults == 0
 }
 
-// The bound on a word that must be 0 where there is none.
-fn unless(none: bool, bound: u32) -> u32
-    ensures { λ r. ⌜ r ≡ cond none 0 bound ⌝ }
+fn chosen(none: bool, a: u32, b: u32) -> u32
+    ensures { λ r. ⌜ r ≡ cond none a b ⌝ }
 {
-    if none { 0 } else { bound }
+    if none { a } else { b }
 }
 
 fn length_bits_fault(passes: u32, bits: u32) -> u32
     ensures { λ r. ⌜ r ≡ fault (lengthBitsInRange passes bits) ⌝ }
 {
     let none = passes == 0;
-    let least = unless(none, 3);
-    let most = unless(none, 32);
+    let least = chosen(none, 0, 3);
+    let most = chosen(none, 0, 32);
     over(least, bits) | over(bits, most)
 }
 
@@ -203,22 +201,46 @@ fn has_no_segment(role: u32, passes: u32) -> bool
     role == WRITER
 }
 
-fn limit_fault(style: Style, none: bool, limit: u32) -> u32
-    ensures { λ r. ⌜ r ≡ fault (cond none (eqb limit 0) (isLimit (style .bits) limit)) ⌝ }
+// The limits that a style gives: of a first segment, and of one behind a limit 2 and any other.
+struct Limits {
+    first: u32,
+    second: u32,
+    third: u32,
+}
+
+fn limits_of(style: Style) -> Limits
+    ensures { λ r. ⌜ LimitsOf (style .bits) r ⌝ }
 {
-    if none {
-        return over(limit, 0);
+    let first = style.first_limit();
+    let second = style.next_limit(2);
+    let third = style.next_limit(1);
+    Limits {
+        first,
+        second,
+        third,
     }
-    if style.is_limit(limit) { 0 } else { 1 }
+}
+
+fn differs(a: u32, b: u32) -> u32
+    ensures { λ r. ⌜ r ≡ fault (eqb a b) ⌝ }
+{
+    if a == b { 0 } else { 1 }
+}
+
+fn limit_fault(limits: Limits, limit: u32) -> u32
+    ensures { λ r. ⌜ r ≡ fault (isOneOf limits limit) ⌝ }
+{
+    differs(limit, limits.first) & differs(limit, limits.second) & differs(limit, limits.third)
 }
 
 // Where there is no segment the limit is 0, and the passes are at most that.
-fn segment_fault(role: u32, style: Style, passes: u32, limit: u32, used: u32) -> u32
-    ensures { λ r. ⌜ r ≡ fault (segmentInRange role (style .bits) passes limit used) ⌝ }
+fn segment_fault(role: u32, limits: Limits, passes: u32, limit: u32, used: u32) -> u32
+    ensures { λ r. ⌜ r ≡ fault (segmentInRange role limits passes limit used) ⌝ }
 {
     let none = has_no_segment(role, passes);
-    let least = unless(none, 1);
-    limit_fault(style, none, limit) | over(least, used) | over(used, limit)
+    let least = chosen(none, 0, 1);
+    let wrong = chosen(none, differs(limit, 0), limit_fault(limits, limit));
+    wrong | over(least, used) | over(used, limit)
 }
 
 fn passes_fault(passes: u32, layer: u32) -> u32
@@ -230,18 +252,18 @@ fn passes_fault(passes: u32, layer: u32) -> u32
 
 fn block_fault(
     role: u32,
-    style: Style,
+    limits: Limits,
     layer: u32,
     passes: u32,
     bits: u32,
     limit: u32,
     used: u32,
 ) -> u32
-    ensures { λ r. ⌜ r ≡ fault (blockWordsInRange role (style .bits) layer passes bits limit used) ⌝ }
+    ensures { λ r. ⌜ r ≡ fault (blockWordsInRange role limits layer passes bits limit used) ⌝ }
 {
     passes_fault(passes, layer)
         | length_bits_fault(passes, bits)
-        | segment_fault(role, style, passes, limit, used)
+        | segment_fault(role, limits, passes, limit, used)
 }
 
 fn blocks_in_range(state: &[u32], at: usize, n: usize) -> bool
@@ -251,7 +273,7 @@ fn blocks_in_range(state: &[u32], at: usize, n: usize) -> bool
     let role = word(state, 0);
     let bits = word(state, 2);
     let layer = word(state, 3);
-    let style = Style { bits };
+    let limits = limits_of(Style { bits });
     let mut faults: u32 = 0;
     let mut i: usize = 0;
     while i < n {
@@ -259,7 +281,7 @@ fn blocks_in_range(state: &[u32], at: usize, n: usize) -> bool
         faults = faults
             | block_fault(
                 role,
-                style,
+                limits,
                 layer,
                 state[block],
                 state[block + 1],

@@ -1,9 +1,9 @@
 -- Loops that gather a fault: it is 0 exactly as long as the test holds at each place passed.
 use mathlib.Core.Path.{_≡_, refl, ap, ap₂, _∙_}
-use mathlib.Core.Bool.{Bool, true, false, _&&_}
+use mathlib.Core.Bool.{Bool, true, false, cond, _&&_, _||_}
 use Prim.Native.Nat.{ℕ, _+_}
 use native.Mathlib.Numerals.{add-one}
-use lib.Bits.{bitOr, or-comm}
+use lib.Bits.{bitOr, bitAnd, or-comm}
 use lib.Dec.{eqb}
 use Rattle.t800.specs.Base.{every}
 use Rattle.tcdstate.specs.Parts.{fault}
@@ -13,6 +13,16 @@ fault-both true true = refl
 fault-both true false = refl
 fault-both false true = refl
 fault-both false false = refl
+
+pub fault-either : (a b : Bool) → bitAnd (fault a) (fault b) ≡ fault (a || b)
+fault-either true true = refl
+fault-either true false = refl
+fault-either false true = refl
+fault-either false false = refl
+
+pub chosen-fault : (t a b : Bool) → cond t (fault a) (fault b) ≡ fault (cond t a b)
+chosen-fault true a b = refl
+chosen-fault false a b = refl
 
 pub fault-three : (x y z : ℕ) (a b c : Bool) → x ≡ fault a → y ≡ fault b → z ≡ fault c → bitOr (bitOr x y) z ≡ fault (a && b && c)
 fault-three x y z a b c p q r = ap₂ bitOr (ap₂ bitOr p q ∙ fault-both a b) r ∙ fault-both (a && b) c

@@ -16,7 +16,8 @@ use Rattle.t800.specs.Ranges.{badShape, badStyle, bandTooDeep, nodeInRange, blo
 use Rattle.t800.proofs.Laws.Tests.{on-eq}
 use Rattle.tcd.specs.Geometry.{AllUpTo64}
 use Rattle.tcd.proofs.Laws.Bands.{shape-not-refused}
-use Rattle.tcdstate.specs.Parts.{threeBands, lengthBitsInRange, segmentInRange, blockWordsInRange, shapeInRange, firstWordsInRange}
+use Rattle.tcdstate.specs.declared.Limits.{Limits}
+use Rattle.tcdstate.specs.Parts.{threeBands, LimitsOf, isOneOf, lengthBitsInRange, segmentInRange, blockWordsInRange, shapeInRange, firstWordsInRange}
 
 -- ---- blocks and bands
 
@@ -31,19 +32,19 @@ length-bits-parts p b least most x y = rw (x, y) (go (eqb p 0))
     go true = rw (le-leb 0 b (omega arith)) (at-most-zero b)
     go false = refl
 
-pub segment-parts : (r s p m u least : ℕ) (none : Bool) → none ≡ (eqb p 0 || eqb r writer) → least ≡ cond none 0 1
-    → (cond none (eqb m 0) (isLimit s m) && leb least u && leb u m) ≡ segmentInRange r s p m u
+pub segment-parts : (r : ℕ) (l : Limits) (p m u least : ℕ) (none : Bool) → none ≡ (eqb p 0 || eqb r writer) → least ≡ cond none 0 1
+    → (cond none (eqb m 0) (isOneOf l m) && leb least u && leb u m) ≡ segmentInRange r l p m u
 unfolding segmentInRange writer
-segment-parts r s p m u least none x y = rw (y, ← x) (go none)
+segment-parts r l p m u least none x y = rw (y, ← x) (go none)
   where
-    go : (t : Bool) → (cond t (eqb m 0) (isLimit s m) && leb (cond t 0 1) u && leb u m) ≡ cond t (eqb m 0 && eqb u 0) (isLimit s m && leb 1 u && leb u m)
+    go : (t : Bool) → (cond t (eqb m 0) (isOneOf l m) && leb (cond t 0 1) u && leb u m) ≡ cond t (eqb m 0 && eqb u 0) (isOneOf l m && leb 1 u && leb u m)
     go true = on-eq m 0 (λ e. rw (e, le-leb 0 u (omega arith)) (at-most-zero u)) (λ e. simp (ne-eqb m 0 e))
     go false = refl
 
-pub block-words : (ws : List ℕ) (at r s t : ℕ) → r ≡ role ws → s ≡ style ws → t ≡ layer ws
-    → blockWordsInRange r s t (getD ws at 0) (getD ws (at + 1) 0) (getD ws (at + 2) 0) (getD ws (at + 3) 0) ≡ blockInRange ws at
-unfolding blockWordsInRange blockInRange lengthBitsInRange segmentInRange writer
-block-words ws at r s t p q h = rw (p, q, h)
+pub block-words : (ws : List ℕ) (at r s t : ℕ) (l : Limits) → r ≡ role ws → s ≡ style ws → t ≡ layer ws → LimitsOf s l
+    → blockWordsInRange r l t (getD ws at 0) (getD ws (at + 1) 0) (getD ws (at + 2) 0) (getD ws (at + 3) 0) ≡ blockInRange ws at
+unfolding blockWordsInRange blockInRange lengthBitsInRange segmentInRange isOneOf isLimit writer
+block-words ws at r s t l p q h k = rw (k .first, k .second, k .third, p, q, h)
 
 -- n nodes in each tree, the second's from `zeros` on, and m blocks from `blocks` on
 pub band-parts : (ws : List ℕ) (at : ℕ) (b : Band) (n zeros blocks m : ℕ) (t u v : Bool) → n ≡ bandNodes b → zeros ≡ at + 3 * n → blocks ≡ zeros + 3 * n → m ≡ blocksIn b

@@ -4,7 +4,7 @@ use mathlib.Core.Path.{_∙_, _≡_, ap, refl}
 use native.Mathlib.Omega.{arith}
 use Rattle.t800.specs.Base.{every}
 use Rattle.t800.specs.Ranges.{blockInRange}
-use Rattle.t800.specs.State.{layer, role, style}
+use Rattle.t800.specs.State.{layer, role}
 use Rattle.tcdstate.proofs.Laws.Faults.{faults-end, faults-turn}
 use Rattle.tcdstate.proofs.Laws.RangeParts.{block-words}
 use Rattle.tcdstate.specs.Parts.{fault}
@@ -12,10 +12,10 @@ use Rattle.tcdstate.proofs.blocks_in_range.Statement.{statement}
 use Rattle.tcdstate.proofs.blocks_in_range.Tie as tie
 
 abbrev Inv-loop : tie.InvT-loop
-Inv-loop state at n role bits layer style faults₀ i₀ faults i = (i ≤ n) × (faults ≡ fault (every i (λ k. blockInRange state (at + 4 * k))))
+Inv-loop state at n role bits layer limits faults₀ i₀ faults i = (i ≤ n) × (faults ≡ fault (every i (λ k. blockInRange state (at + 4 * k))))
 
 abbrev μ-loop : tie.MeasureT-loop
-μ-loop state at n role bits layer style faults₀ i₀ faults i = n - i
+μ-loop state at n role bits layer limits faults₀ i₀ faults i = n - i
 
 word-requires : tie.Need-word-requires Inv-loop μ-loop
 word-requires c κs = omega arith
@@ -25,6 +25,9 @@ word-requires-2 c κs = omega arith
 
 word-requires-3 : tie.Need-word-requires-3 Inv-loop μ-loop
 word-requires-3 c κs = omega arith
+
+limits-of-requires : tie.Need-limits-of-requires Inv-loop μ-loop
+limits-of-requires c κs = omega arith
 
 loop-holds : tie.Need-loop-holds Inv-loop μ-loop
 unfolding every
@@ -81,14 +84,14 @@ loop-less c = omega arith
 loop-again : tie.Need-loop-again Inv-loop μ-loop
 loop-again c =
     let l = c .before .before .before .before .before .before .loop in
-    let s = c .before .before .before .before .before .before .before .before .before .before .before .args in (
+    let s = c .before .before .before .before .before .before .before .before .before .before .before .before .args in (
       omega arith,
       faults-turn (λ k. blockInRange (s .state .now) (s .at + 4 * k)) (l .i) (l .faults) _ (l .inv .1)
-          (c .block-fault .ensures ∙ ap fault (block-words (s .state .now) (s .at + 4 * l .i) _ _ _ (c .before .before .before .before .before .before .before .before .before .word .ensures) (c .before .before .before .before .before .before .before .before .word2 .ensures) (c .before .before .before .before .before .before .before .word3 .ensures))),
+          (c .block-fault .ensures ∙ ap fault (block-words (s .state .now) (s .at + 4 * l .i) _ _ _ _ (c .before .before .before .before .before .before .before .before .before .before .word .ensures) (c .before .before .before .before .before .before .before .before .before .word2 .ensures) (c .before .before .before .before .before .before .before .before .word3 .ensures) (c .before .before .before .before .before .before .before .limits-of .ensures))),
     )
 
 returns : tie.Need-returns Inv-loop μ-loop
-returns c = let l = c .before .loop in let s = c .before .before .before .before .before .before .args in faults-end (λ k. blockInRange (s .state .now) (s .at + 4 * k)) (s .n) (l .i) (l .faults) (omega arith) (l .inv .1)
+returns c = let l = c .before .loop in let s = c .before .before .before .before .before .before .before .args in faults-end (λ k. blockInRange (s .state .now) (s .at + 4 * k)) (s .n) (l .i) (l .faults) (omega arith) (l .inv .1)
 
 pub blocks-in-range-spec : {M : Type 1} → statement M
 blocks-in-range-spec =
@@ -99,6 +102,7 @@ blocks-in-range-spec =
     word-requires
     word-requires-2
     word-requires-3
+    limits-of-requires
     loop-holds
     mul-block
     add-block
