@@ -2,3 +2,4 @@ pub mod Faults
 pub mod AnyOf
 pub mod BlockPlanes
 pub mod RangeParts
+pub mod ValidStates

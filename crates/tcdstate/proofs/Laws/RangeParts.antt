@@ -90,11 +90,11 @@ pub first-words-parts : (r : ℕ) (ws : List ℕ) (shape style′ layer′ deep 
 unfolding firstWordsInRange
 first-words-parts r ws a b c d e ea eb ec ed ee = rw (ea, eb, ec, ed, ee)
 
-and-left : (a b : Bool) → (a && b) ≡ true → a ≡ true
+pub and-left : (a b : Bool) → (a && b) ≡ true → a ≡ true
 and-left true b e = refl
 and-left false b e = e
 
-and-right : (a b : Bool) → (a && b) ≡ true → b ≡ true
+pub and-right : (a b : Bool) → (a && b) ≡ true → b ≡ true
 and-right true b e = e
 and-right false b e = absurd (let z : _≡_ {A = ℕ} 0 1 = cc in omega arith)
 
