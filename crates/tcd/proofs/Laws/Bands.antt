@@ -37,6 +37,12 @@ pub levels-of-three : (bs : List Band) (p q r : List Level) → length bs ≡ 3
 unfolding bandLevels
 levels-of-three bs p q r l x y z = rw (three bs noBand l, x, y, z)
 
+pub band-levels-at : (bs : List Band) (i : ℕ) → i < length bs → getD (bandLevels bs) i [] ≡ padded (levels (getD bs i noBand .across) (getD bs i noBand .down))
+unfolding bandLevels
+band-levels-at [] i h = absurd (omega arith)
+band-levels-at (b ∷ bs) zero h = refl
+band-levels-at (b ∷ bs) (suc i) h = band-levels-at bs i (omega arith)
+
 -- band i of the first n
 pub next-band : (bs : List Band) (n i : ℕ) → n ≤ length bs → i < n → drop i (take n bs) ≡ getD bs i noBand ∷ drop (i + 1) (take n bs)
 next-band bs n i h k =

@@ -124,6 +124,7 @@ limit-up-to-109 s m e = go (termAll s) (bypass s) e
   where
     one : (a b c : ℕ) → a ≤ 109 → b ≤ 109 → c ≤ 109 → (eqb m a || eqb m b || eqb m c) ≡ true → m ≤ 109
     one a b c x y z e = on-eq m a (λ q. omega arith) (λ q. on-eq m b (λ q. omega arith) (λ r. omega (arith, eqb-true m c (rw (ne-eqb m a q, ne-eqb m b r) at e))))
+
     go : (t b : Bool) → (eqb m (cond t 1 (cond b 10 109)) || eqb m (cond t 1 (cond b (cond (eqb 2 2) 1 2) 109)) || eqb m (cond t 1 (cond b (cond (eqb 1 2) 1 2) 109))) ≡ true → m ≤ 109
     go true b e = one 1 1 1 (omega arith) (omega arith) (omega arith) e
     go false true e = one 10 1 2 (omega arith) (omega arith) (omega arith) e
@@ -148,6 +149,7 @@ block-bounds ws p e =
     most-bits : (none : Bool) (b : ℕ) → cond none (eqb b 0) (leb 3 b && leb b 32) ≡ true → b ≤ 32
     most-bits true b e = omega (arith, eqb-true b 0 e)
     most-bits false b e = leb-true b 32 (and-right (leb 3 b) (leb b 32) e)
+
     segments : (none : Bool) (s m u : ℕ) → cond none (eqb m 0 && eqb u 0) (isLimit s m && leb 1 u && leb u m) ≡ true → (u ≤ m) × (m ≤ 109)
     segments true s m u e = let k = both (eqb m 0) (eqb u 0) e in (omega (arith, eqb-true m 0 (k .0), eqb-true u 0 (k .1)), omega (arith, eqb-true m 0 (k .0)))
     segments false s m u e =
