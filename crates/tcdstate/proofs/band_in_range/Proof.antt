@@ -37,8 +37,11 @@ nodes-in-range-requires-2 c κs = let s = c .before .before .before .before in o
 
 returns-2 : tie.Need-returns-2
 returns-2 c =
-    let s = c .before .before .before .before .before .before .args in
-    band-parts (s .state .now) (s .at) (s .band) _ _ _ _ true false _ (c .before .before .before .before .band-nodes .ensures) refl refl refl (sym (not-false _ (c .before .before .if1 .left)) ∙ c .before .before .before .nodes-in-range .ensures) (sym (not-true _ (c .if2 .taken)) ∙ c .before .nodes-in-range2 .ensures) refl
+    let incl = c .before .before .before in
+    let s = incl .before .before .before .args in
+    let t = sym (not-false _ (c .before .before .if1 .left)) ∙ incl .nodes-in-range .ensures in
+    let u = sym (not-true _ (c .if2 .taken)) ∙ c .before .nodes-in-range2 .ensures in
+    band-parts (s .state .now) (s .at) (s .band) _ _ _ _ true false _ (incl .before .band-nodes .ensures) refl refl refl t u refl
 
 band-blocks-requires : tie.Need-band-blocks-requires
 band-blocks-requires c κs = search needs
@@ -48,8 +51,11 @@ blocks-in-range-requires c κs = let s = c .before .before .before .before .befo
 
 returns-3 : tie.Need-returns-3
 returns-3 c =
-    let s = c .before .before .before .before .before .before .before .before .args in
-    band-parts (s .state .now) (s .at) (s .band) _ _ _ _ true true _ (c .before .before .before .before .before .before .band-nodes .ensures) refl refl (c .before .band-blocks .ensures) (sym (not-false _ (c .before .before .before .before .if1 .left)) ∙ c .before .before .before .before .before .nodes-in-range .ensures) (sym (not-false _ (c .before .before .if2 .left)) ∙ c .before .before .before .nodes-in-range2 .ensures) (c .blocks-in-range .ensures)
+    let incl = c .before .before .before .before .before in
+    let s = incl .before .before .before .args in
+    let t = sym (not-false _ (c .before .before .before .before .if1 .left)) ∙ incl .nodes-in-range .ensures in
+    let u = sym (not-false _ (c .before .before .if2 .left)) ∙ c .before .before .before .nodes-in-range2 .ensures in
+    band-parts (s .state .now) (s .at) (s .band) _ _ _ _ true true _ (incl .before .band-nodes .ensures) refl refl (c .before .band-blocks .ensures) t u (c .blocks-in-range .ensures)
 
 pub band-in-range-spec : {M : Type 1} → statement M
 band-in-range-spec =

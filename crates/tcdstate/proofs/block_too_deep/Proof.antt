@@ -60,7 +60,8 @@ returns c =
     let l = c .before .before .before .before .before .before .before .loop in
     let g : length (s .args .t1) ≡ 3 = search needs in
     let e = next-band (s .args .t1) (s .args .n) (l .i) (omega arith) (omega arith) in
-    let w = ap (λ (k : ℕ). l .from + k) (c .before .before .before .smaller .ensures ∙ ap (λ (k : ℕ). min k (length (s .args .planes .now) - l .from)) (c .before .before .before .before .band-blocks .ensures)) in
+    let n = c .before .before .before .smaller .ensures ∙ ap (λ (k : ℕ). min k (length (s .args .planes .now) - l .from)) (c .before .before .before .before .band-blocks .ensures) in
+    let w = ap (λ (k : ℕ). l .from + k) n in
     sym (deep-turn _ _ _ (s .args .planes .now) (l .from) _ true e w (sym (c .if1 .taken) ∙ c .before .any-over .ensures)) ∙ l .inv .2
 
 add-i : tie.Need-add-i Inv-loop μ-loop
@@ -75,7 +76,8 @@ loop-again c =
     let l = c .before .before .before .before .before .before .before .loop in
     let g : length (s .args .t1) ≡ 3 = search needs in
     let e = next-band (s .args .t1) (s .args .n) (l .i) (omega arith) (omega arith) in
-    let w = ap (λ (k : ℕ). l .from + k) (c .before .before .before .smaller .ensures ∙ ap (λ (k : ℕ). min k (length (s .args .planes .now) - l .from)) (c .before .before .before .before .band-blocks .ensures)) in
+    let n = c .before .before .before .smaller .ensures ∙ ap (λ (k : ℕ). min k (length (s .args .planes .now) - l .from)) (c .before .before .before .before .band-blocks .ensures) in
+    let w = ap (λ (k : ℕ). l .from + k) n in
     (omega arith, omega (arith, c .before .before .before .smaller .ensures), sym (deep-turn _ _ _ (s .args .planes .now) (l .from) _ false e w (sym (c .if1 .left) ∙ c .before .any-over .ensures)) ∙ l .inv .2)
 
 returns-2 : tie.Need-returns-2 Inv-loop μ-loop

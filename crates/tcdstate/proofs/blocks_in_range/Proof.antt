@@ -83,15 +83,18 @@ loop-less c = omega arith
 
 loop-again : tie.Need-loop-again Inv-loop μ-loop
 loop-again c =
-    let l = c .before .before .before .before .before .before .loop in
-    let s = c .before .before .before .before .before .before .before .before .before .before .before .before .args in (
-      omega arith,
-      faults-turn (λ k. blockInRange (s .state .now) (s .at + 4 * k)) (l .i) (l .faults) _ (l .inv .1)
-          (c .block-fault .ensures ∙ ap fault (block-words (s .state .now) (s .at + 4 * l .i) _ _ _ _ (c .before .before .before .before .before .before .before .before .before .before .word .ensures) (c .before .before .before .before .before .before .before .before .before .word2 .ensures) (c .before .before .before .before .before .before .before .before .word3 .ensures) (c .before .before .before .before .before .before .before .limits-of .ensures))),
-    )
+    let looped = c .before .before .before .before .before .before in
+    let l = looped .loop in
+    let layered = looped .before .before in
+    let s = layered .before .before .before .before .args in
+    let words = block-words (s .state .now) (s .at + 4 * l .i) _ _ _ _ (layered .before .before .word .ensures) (layered .before .word2 .ensures) (layered .word3 .ensures) (looped .before .limits-of .ensures) in
+    (omega arith, faults-turn (λ k. blockInRange (s .state .now) (s .at + 4 * k)) (l .i) (l .faults) _ (l .inv .1) (c .block-fault .ensures ∙ ap fault words))
 
 returns : tie.Need-returns Inv-loop μ-loop
-returns c = let l = c .before .loop in let s = c .before .before .before .before .before .before .before .args in faults-end (λ k. blockInRange (s .state .now) (s .at + 4 * k)) (s .n) (l .i) (l .faults) (omega arith) (l .inv .1)
+returns c =
+    let l = c .before .loop in
+    let s = c .before .before .before .before .before .before .before .args in
+    faults-end (λ k. blockInRange (s .state .now) (s .at + 4 * k)) (s .n) (l .i) (l .faults) (omega arith) (l .inv .1)
 
 pub blocks-in-range-spec : {M : Type 1} → statement M
 blocks-in-range-spec =

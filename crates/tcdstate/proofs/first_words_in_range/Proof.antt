@@ -24,17 +24,26 @@ is-refused-requires c κs = search needs
 
 returns-2 : tie.Need-returns-2
 returns-2 c =
-    let s = c .before .before .before .before .before .before .args in
-    first-words-parts (s .role) (s .state .now) true true _ _ _ (sym (not-false _ (c .before .before .before .if1 .left)) ∙ c .before .before .before .before .shape-in-range .ensures) (sym (c .if2 .taken) ∙ c .before .is-refused .ensures ∙ ap badStyle (c .before .before .word .ensures)) refl refl refl
+    let styled = c .before in
+    let shaped = styled .before .before .before in
+    let s = shaped .before .before .args in
+    let shape = sym (not-false _ (styled .before .before .if1 .left)) ∙ shaped .shape-in-range .ensures in
+    let style′ = sym (c .if2 .taken) ∙ styled .is-refused .ensures ∙ ap badStyle (styled .before .word .ensures) in
+    first-words-parts (s .role) (s .state .now) true true _ _ _ shape style′ refl refl refl
 
 word-requires-2 : tie.Need-word-requires-2
 word-requires-2 c κs = search needs
 
 returns-3 : tie.Need-returns-3
 returns-3 c =
-    let s = c .before .before .before .before .before .before .before .before .args in
-    first-words-parts (s .role) (s .state .now) true false false _ _ (sym (not-false _ (c .before .before .before .before .before .if1 .left)) ∙ c .before .before .before .before .before .before .shape-in-range .ensures) (sym (c .before .before .if2 .left) ∙ c .before .before .before .is-refused .ensures ∙ ap badStyle (c .before .before .before .before .word .ensures))
-    (sym (lt-leb (layer (s .state .now)) 999 (omega (arith, c .before .word2 .ensures)))) refl refl
+    let layered = c .before in
+    let styled = layered .before .before in
+    let shaped = styled .before .before .before in
+    let s = shaped .before .before .args in
+    let shape = sym (not-false _ (styled .before .before .if1 .left)) ∙ shaped .shape-in-range .ensures in
+    let style′ = sym (layered .before .if2 .left) ∙ styled .is-refused .ensures ∙ ap badStyle (styled .before .word .ensures) in
+    let layer′ = sym (lt-leb (layer (s .state .now)) 999 (omega (arith, layered .word2 .ensures))) in
+    first-words-parts (s .role) (s .state .now) true false false _ _ shape style′ layer′ refl refl
 
 word-requires-3 : tie.Need-word-requires-3
 word-requires-3 c κs = search needs
@@ -50,21 +59,34 @@ band-too-deep-requires c κs =
 
 returns-4 : tie.Need-returns-4
 returns-4 c =
-    let s = c .before .before .before .before .before .before .before .before .before .before .before in
+    let deep = c .before in
+    let layered = deep .before .before .before in
+    let styled = layered .before .before in
+    let shaped = styled .before .before .before in
+    let s = shaped .before .before in
     let ws = s .args .state .now in
-    first-words-parts (s .args .role) ws true false true true _ (sym (not-false _ (c .before .before .before .before .before .before .before .before .if1 .left)) ∙ c .before .before .before .before .before .before .before .before .before .shape-in-range .ensures) (sym (c .before .before .before .before .before .if2 .left) ∙ c .before .before .before .before .before .before .is-refused .ensures ∙ ap badStyle (c .before .before .before .before .before .before .before .word .ensures))
-    (sym (le-leb (layer ws) 999 (omega (arith, c .before .before .before .before .word2 .ensures)))) (sym (c .if4 .taken) ∙ c .before .band-too-deep .ensures ∙ ap bandTooDeep (first-bands ws _ _ (c .before .before .word3 .ensures) (s .pre))) refl
+    let shape = sym (not-false _ (styled .before .before .if1 .left)) ∙ shaped .shape-in-range .ensures in
+    let style′ = sym (layered .before .if2 .left) ∙ styled .is-refused .ensures ∙ ap badStyle (styled .before .word .ensures) in
+    let layer′ = sym (le-leb (layer ws) 999 (omega (arith, layered .word2 .ensures))) in
+    let depth = sym (c .if4 .taken) ∙ deep .band-too-deep .ensures ∙ ap bandTooDeep (first-bands ws _ _ (deep .before .word3 .ensures) (s .pre)) in
+    first-words-parts (s .args .role) ws true false true true _ shape style′ layer′ depth refl
 
 unused-bands-zero-requires : tie.Need-unused-bands-zero-requires
 unused-bands-zero-requires c κs = search needs
 
 returns-5 : tie.Need-returns-5
 returns-5 c =
-    let s = c .before .before .before .before .before .before .before .before .before .before .before .before in
+    let deep = c .before .before in
+    let layered = deep .before .before .before in
+    let styled = layered .before .before in
+    let shaped = styled .before .before .before in
+    let s = shaped .before .before in
     let ws = s .args .state .now in
-    first-words-parts (s .args .role) ws true false true false _ (sym (not-false _ (c .before .before .before .before .before .before .before .before .before .if1 .left)) ∙ c .before .before .before .before .before .before .before .before .before .before .shape-in-range .ensures) (sym (c .before .before .before .before .before .before .if2 .left) ∙ c .before .before .before .before .before .before .before .is-refused .ensures ∙ ap badStyle (c .before .before .before .before .before .before .before .before .word .ensures))
-    (sym (le-leb (layer ws) 999 (omega (arith, c .before .before .before .before .before .word2 .ensures)))) (sym (c .before .if4 .left) ∙ c .before .before .band-too-deep .ensures ∙ ap bandTooDeep (first-bands ws _ _ (c .before .before .before .word3 .ensures) (s .pre)))
-    (c .unused-bands-zero .ensures ∙ unused-zero ws _ (c .before .before .before .word3 .ensures))
+    let shape = sym (not-false _ (styled .before .before .if1 .left)) ∙ shaped .shape-in-range .ensures in
+    let style′ = sym (layered .before .if2 .left) ∙ styled .is-refused .ensures ∙ ap badStyle (styled .before .word .ensures) in
+    let layer′ = sym (le-leb (layer ws) 999 (omega (arith, layered .word2 .ensures))) in
+    let depth = sym (c .before .if4 .left) ∙ deep .band-too-deep .ensures ∙ ap bandTooDeep (first-bands ws _ _ (deep .before .word3 .ensures) (s .pre)) in
+    first-words-parts (s .args .role) ws true false true false _ shape style′ layer′ depth (c .unused-bands-zero .ensures ∙ unused-zero ws _ (deep .before .word3 .ensures))
 
 pub first-words-in-range-spec : {M : Type 1} → statement M
 first-words-in-range-spec =

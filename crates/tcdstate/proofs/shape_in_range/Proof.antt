@@ -20,10 +20,18 @@ bad-shape-requires : tie.Need-bad-shape-requires
 bad-shape-requires c κs = search needs
 
 returns-2 : tie.Need-returns-2
-returns-2 c = let s = c .before .before .before .before .before .before in shape-parts (s .args .role) (s .args .state .now) _ _ true true (c .before .before .word2 .ensures) (s .pre) (sym (eq-eqb _ _ (sym (c .before .before .before .before .word .ensures) ∙ c .before .before .before .if1 .left))) (sym (c .if2 .taken) ∙ c .before .bad-shape .ensures)
+returns-2 c =
+    let counted = c .before .before in
+    let s = counted .before .before .before .before in
+    let role′ = sym (eq-eqb _ _ (sym (counted .before .before .word .ensures) ∙ counted .before .if1 .left)) in
+    shape-parts (s .args .role) (s .args .state .now) _ _ true true (counted .word2 .ensures) (s .pre) role′ (sym (c .if2 .taken) ∙ c .before .bad-shape .ensures)
 
 returns-3 : tie.Need-returns-3
-returns-3 c = let s = c .before .before .before .before .before .before in shape-parts (s .args .role) (s .args .state .now) _ _ true false (c .before .before .word2 .ensures) (s .pre) (sym (eq-eqb _ _ (sym (c .before .before .before .before .word .ensures) ∙ c .before .before .before .if1 .left))) (sym (c .if2 .left) ∙ c .before .bad-shape .ensures)
+returns-3 c =
+    let counted = c .before .before in
+    let s = counted .before .before .before .before in
+    let role′ = sym (eq-eqb _ _ (sym (counted .before .before .word .ensures) ∙ counted .before .if1 .left)) in
+    shape-parts (s .args .role) (s .args .state .now) _ _ true false (counted .word2 .ensures) (s .pre) role′ (sym (c .if2 .left) ∙ c .before .bad-shape .ensures)
 
 pub shape-in-range-spec : {M : Type 1} → statement M
 shape-in-range-spec =

@@ -30,34 +30,44 @@ cast-n c = search needs
 state-length-requires : tie.Need-state-length-requires
 state-length-requires c κs =
     let s = c .before .before .before .before .before .args in
-    sides-known (s .role) (s .state .now) _ _ (sym (c .before .before .first-words-in-range .ensures) ∙ not-false _ (c .before .if1 .left)) (c .word .ensures) (c .before .before .before .bands-of .ensures)
+    let first = sym (c .before .before .first-words-in-range .ensures) ∙ not-false _ (c .before .if1 .left) in
+    sides-known (s .role) (s .state .now) _ _ first (c .word .ensures) (c .before .before .before .bands-of .ensures)
 
 returns-2 : tie.Need-returns-2
 returns-2 c =
-    let s = c .before .before .before .before .before .before .before .args in
-    let n = c .before .state-length .ensures ∙ ap stateLength (first-bands (s .state .now) _ _ (c .before .before .word .ensures) (c .before .before .before .before .before .bands-of .ensures)) in
-    valid-parts (s .role) (s .state .now) (s .scratch-len) true false _ _ (sym (not-false _ (c .before .before .before .if1 .left)) ∙ c .before .before .before .before .first-words-in-range .ensures)
-    (sym (ne-eqb (length (s .state .now)) (stateLength (bands (s .state .now))) (λ e. c .if2 .taken (e ∙ sym n)))) refl refl
+    let counted = c .before .before in
+    let s = counted .before .before .before .before .before .args in
+    let ws = s .state .now in
+    let first = sym (not-false _ (counted .before .if1 .left)) ∙ counted .before .before .first-words-in-range .ensures in
+    let n = c .before .state-length .ensures ∙ ap stateLength (first-bands ws _ _ (counted .word .ensures) (counted .before .before .before .bands-of .ensures)) in
+    valid-parts (s .role) ws (s .scratch-len) true false _ _ first (sym (ne-eqb (length ws) (stateLength (bands ws)) (λ e. c .if2 .taken (e ∙ sym n)))) refl refl
 
 returns-3 : tie.Need-returns-3
 returns-3 c =
-    let s = c .before .before .before .before .before .before .before .before .args in
-    let n = c .before .before .state-length .ensures ∙ ap stateLength (first-bands (s .state .now) _ _ (c .before .before .before .word .ensures) (c .before .before .before .before .before .before .bands-of .ensures)) in
-    valid-parts (s .role) (s .state .now) (s .scratch-len) true true false _ (sym (not-false _ (c .before .before .before .before .if1 .left)) ∙ c .before .before .before .before .before .first-words-in-range .ensures)
-    (sym (eq-eqb (length (s .state .now)) (stateLength (bands (s .state .now))) (c .before .if2 .left ∙ n))) (sym (ne-eqb _ _ (c .if3 .taken))) refl
+    let counted = c .before .before .before in
+    let s = counted .before .before .before .before .before .args in
+    let ws = s .state .now in
+    let first = sym (not-false _ (counted .before .if1 .left)) ∙ counted .before .before .first-words-in-range .ensures in
+    let n = c .before .before .state-length .ensures ∙ ap stateLength (first-bands ws _ _ (counted .word .ensures) (counted .before .before .before .bands-of .ensures)) in
+    valid-parts (s .role) ws (s .scratch-len) true true false _ first (sym (eq-eqb (length ws) (stateLength (bands ws)) (c .before .if2 .left ∙ n))) (sym (ne-eqb _ _ (c .if3 .taken))) refl
 
 bands-in-range-requires : tie.Need-bands-in-range-requires
 bands-in-range-requires c κs =
-    let s = c .before .before .before .before .before .before .before .before .args in
-    let k = sides-known (s .role) (s .state .now) _ _ (sym (c .before .before .before .before .before .first-words-in-range .ensures) ∙ not-false _ (c .before .before .before .before .if1 .left)) (c .before .before .before .word .ensures) (c .before .before .before .before .before .before .bands-of .ensures) in
+    let counted = c .before .before .before in
+    let s = counted .before .before .before .before .before .args in
+    let first = sym (counted .before .before .first-words-in-range .ensures) ∙ not-false _ (counted .before .if1 .left) in
+    let k = sides-known (s .role) (s .state .now) _ _ first (counted .word .ensures) (counted .before .before .before .bands-of .ensures) in
     (k .0, k .1, c .before .if2 .left ∙ c .before .before .state-length .ensures)
 
 returns-4 : tie.Need-returns-4
 returns-4 c =
-    let s = c .before .before .before .before .before .before .before .before .before .args in
-    let b = first-bands (s .state .now) _ _ (c .before .before .before .before .word .ensures) (c .before .before .before .before .before .before .before .bands-of .ensures) in
-    valid-parts (s .role) (s .state .now) (s .scratch-len) true true true _ (sym (not-false _ (c .before .before .before .before .before .if1 .left)) ∙ c .before .before .before .before .before .before .first-words-in-range .ensures)
-    (sym (eq-eqb (length (s .state .now)) (stateLength (bands (s .state .now))) (c .before .before .if2 .left ∙ c .before .before .before .state-length .ensures ∙ ap stateLength b))) (sym (eq-eqb _ _ (c .before .if3 .left))) (c .bands-in-range .ensures ∙ ap (bandsInRange (s .state .now) 13) b)
+    let counted = c .before .before .before .before in
+    let s = counted .before .before .before .before .before .args in
+    let ws = s .state .now in
+    let first = sym (not-false _ (counted .before .if1 .left)) ∙ counted .before .before .first-words-in-range .ensures in
+    let b = first-bands ws _ _ (counted .word .ensures) (counted .before .before .before .bands-of .ensures) in
+    let n = c .before .before .if2 .left ∙ c .before .before .before .state-length .ensures ∙ ap stateLength b in
+    valid-parts (s .role) ws (s .scratch-len) true true true _ first (sym (eq-eqb (length ws) (stateLength (bands ws)) n)) (sym (eq-eqb _ _ (c .before .if3 .left))) (c .bands-in-range .ensures ∙ ap (bandsInRange ws 13) b)
 
 pub valid-state-spec : {M : Type 1} → statement M
 valid-state-spec =
