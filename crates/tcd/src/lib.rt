@@ -114,6 +114,18 @@ impl Marker {
     };
 }
 
+// ---- a state's numbers
+
+// The roles.
+pub const WRITER: u32 = 1;
+
+pub const READER: u32 = 2;
+
+// "Not yet" in the inclusion tree, and so the number of layers; and in the zero-plane tree.
+pub const NOT_YET_INCLUDED: u32 = 999;
+
+pub const NOT_YET_PLANES: u32 = 999;
+
 // A block's planes as read; more zero planes than the band has go round.
 pub fn block_planes(band: u32, zero: u32) -> u32
     ensures { λ r. ⌜ r ≡ (band + 2 ^ 32 - zero) % 2 ^ 32 ⌝ }

@@ -94,7 +94,7 @@ fn smaller(a: usize, b: usize) -> usize
 
 // Part of refusal 4: a block of the first n bands has more planes than its band.
 pub fn block_too_deep(bands: [Band; 3], n: usize, planes: &[u32]) -> bool
-    requires { ⌜ (n ≤ 3) × AllUpTo64 (take n bands) ⌝ }
+    requires { ⌜ n ≤ 3 ⌝ }
     ensures { λ r. ⌜ r ≡ blockTooDeep (blocks (take n bands)) (now (planes .entry)) ⌝ }
 {
     let mut from: usize = 0;
@@ -114,16 +114,6 @@ pub fn block_too_deep(bands: [Band; 3], n: usize, planes: &[u32]) -> bool
 }
 
 // ---- the state's words
-
-// The roles.
-pub const WRITER: u32 = 1;
-
-pub const READER: u32 = 2;
-
-// "Not yet" in the inclusion tree, and so the number of layers; and in the zero-plane tree.
-pub const NOT_YET_INCLUDED: u32 = 999;
-
-pub const NOT_YET_PLANES: u32 = 999;
 
 fn word(state: &[u32], i: usize) -> u32
     ensures { λ r. ⌜ r ≡ getD (now (state .entry)) i 0 ⌝ }
@@ -198,7 +188,7 @@ fn has_no_segment(role: u32, passes: u32) -> bool
     if passes == 0 {
         return true;
     }
-    role == WRITER
+    role == tcd::WRITER
 }
 
 // The limits that a style gives: of a first segment, and of one behind a limit 2 and any other.
@@ -300,10 +290,10 @@ fn band_in_range(state: &[u32], at: usize, band: Band) -> bool
     let nodes = tcd::band_nodes(band);
     let zero_tree = at + 3 * nodes;
     let blocks = zero_tree + 3 * nodes;
-    if !nodes_in_range(state, at, nodes, NOT_YET_INCLUDED) {
+    if !nodes_in_range(state, at, nodes, tcd::NOT_YET_INCLUDED) {
         return false;
     }
-    if !nodes_in_range(state, zero_tree, nodes, NOT_YET_PLANES) {
+    if !nodes_in_range(state, zero_tree, nodes, tcd::NOT_YET_PLANES) {
         return false;
     }
     blocks_in_range(state, blocks, tcd::band_blocks(band))
@@ -358,10 +348,7 @@ fn shape_in_range(role: u32, state: &[u32], bands: [Band; 3]) -> bool
         return false;
     }
     let n = word(state, 1);
-    if bad_shape(n, bands) {
-        return false;
-    }
-    true
+    !bad_shape(n, bands)
 }
 
 // The thirteen words before the first band's.
@@ -377,7 +364,7 @@ fn first_words_in_range(role: u32, state: &[u32], bands: [Band; 3]) -> bool
     if style.is_refused() {
         return false;
     }
-    if NOT_YET_INCLUDED < word(state, 3) {
+    if tcd::NOT_YET_INCLUDED < word(state, 3) {
         return false;
     }
     let n = word(state, 1);

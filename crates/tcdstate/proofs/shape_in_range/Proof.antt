@@ -21,19 +21,11 @@ bad-shape-requires c κs = search needs
 
 returns-2 : tie.Need-returns-2
 returns-2 c =
-    let counted = c .before .before in
+    let counted = c .before in
     let s = counted .before .before .before .before in
     let role′ = sym (eq-eqb _ _ (sym (counted .before .before .word .ensures) ∙ counted .before .if1 .left)) in
-    shape-parts (s .args .role) (s .args .state .now) _ _ true true (counted .word2 .ensures) (s .pre) role′ (sym (c .if2 .taken) ∙ c .before .bad-shape .ensures)
-
-returns-3 : tie.Need-returns-3
-returns-3 c =
-    let counted = c .before .before in
-    let s = counted .before .before .before .before in
-    let role′ = sym (eq-eqb _ _ (sym (counted .before .before .word .ensures) ∙ counted .before .if1 .left)) in
-    shape-parts (s .args .role) (s .args .state .now) _ _ true false (counted .word2 .ensures) (s .pre) role′ (sym (c .if2 .left) ∙ c .before .bad-shape .ensures)
+    shape-parts (s .args .role) (s .args .state .now) _ _ true _ (counted .word2 .ensures) (s .pre) role′ (c .bad-shape .ensures)
 
 pub shape-in-range-spec : {M : Type 1} → statement M
 shape-in-range-spec =
-    tie.close
-    (tie.spec word-requires returns word-requires-2 bad-shape-requires returns-2 returns-3)
+    tie.close (tie.spec word-requires returns word-requires-2 bad-shape-requires returns-2)
