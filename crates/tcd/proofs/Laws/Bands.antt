@@ -6,7 +6,7 @@ use Prim.Native.Nat.{ℕ, zero, suc, _+_, _*_, _≤_, _<_}
 use native.Mathlib.Nat.{le-refl}
 use native.Mathlib.Numerals.{add-one}
 use native.Mathlib.Omega.{arith}
-use lib.ListN.{length, getD, take, drop, length-append, length-take}
+use lib.ListN.{length, getD, take, drop, drop-of-length-le, length-append, length-take}
 use lib.Seq.{drop-cons, getD-take, take-take}
 use lib.Dec.{ltb, eqb}
 use borrow.Author.Tests.{ltb-false, eqb-false}
@@ -48,6 +48,9 @@ pub next-band : (bs : List Band) (n i : ℕ) → n ≤ length bs → i < n → d
 next-band bs n i h k =
     let l : i < length (take n bs) = simp length-take (omega arith) in
     rw (add-one, drop-cons (take n bs) i noBand l, getD-take n bs i noBand k)
+
+pub no-more-bands : (bs : List Band) (n i : ℕ) → n ≤ i → drop i (take n bs) ≡ []
+no-more-bands bs n i h = drop-of-length-le (take n bs) {i = i} (simp length-take (omega arith))
 
 -- ---- sides in range
 
@@ -91,9 +94,16 @@ shape-not-refused n bs e =
 
 -- ---- words and blocks
 
+pub blocks-up-to-4096 : (b : Band) → SidesUpTo64 b → blocksIn b ≤ 4096
+unfolding blocksIn
+blocks-up-to-4096 b s = area-up-to-4096 (b .across) (b .down) (s .0) (s .1)
+
+pub nodes-of-band-up-to : (b : Band) → SidesUpTo64 b → bandNodes b ≤ 28672
+unfolding bandNodes
+nodes-of-band-up-to b s = nodes-up-to-28672 (b .across) (b .down) (s .0) (s .1)
+
 pub band-length-up-to : (b : Band) → SidesUpTo64 b → bandLength b ≤ 188416
-unfolding bandNodes blocksIn
-band-length-up-to b s = omega (arith, band-length b, nodes-up-to-28672 (b .across) (b .down) (s .0) (s .1), area-up-to-4096 (b .across) (b .down) (s .0) (s .1))
+band-length-up-to b s = omega (arith, band-length b, nodes-of-band-up-to b s, blocks-up-to-4096 b s)
 
 length-from : (at : ℕ) (b : Band) (n i : ℕ) → length (blocksFrom at b n i) ≡ n
 unfolding blocksFrom

@@ -1,12 +1,12 @@
 -- `tcd::band_start` meets its contract.
 use Prim.Native.Nat.{_*_, _+_, _-_, _≤_, ℕ}
 use borrow.Author.Needs.{needs}
-use lib.ListN.{drop, drop-of-length-le, getD, length, length-take, take}
+use lib.ListN.{drop, getD, length, take}
 use mathlib.Core.Path.{_∙_, _≡_, ap, refl}
 use native.Mathlib.Omega.{arith}
-use Rattle.t800.specs.State.{bands, endOf}
+use Rattle.t800.specs.State.{endOf}
 use Rattle.t800.specs.declared.Band.{Band}
-use Rattle.tcd.proofs.Laws.Bands.{band-length-up-to, end-turn, sides-of-first}
+use Rattle.tcd.proofs.Laws.Bands.{band-length-up-to, end-turn, no-more-bands, sides-of-first}
 use Rattle.tcd.specs.Geometry.{noBand}
 use Rattle.tcd.proofs.band_start.Statement.{statement}
 use Rattle.tcd.proofs.band_start.Tie as tie
@@ -58,7 +58,11 @@ loop-again c =
 
 returns : tie.Need-returns Inv-loop μ-loop
 unfolding endOf
-returns c = let l = c .before .loop in let s = c .before .before in let z = drop-of-length-le (take (s .args .n) (s .args .t1)) {i = l .i} (simp length-take (omega arith)) in rw z at (l .inv .2)
+returns c =
+    let l = c .before .loop in
+    let s = c .before .before in
+    let z = no-more-bands (s .args .t1) (s .args .n) (l .i) (omega arith) in
+    rw z at (l .inv .2)
 
 pub band-start-spec : {M : Type 1} → statement M
 band-start-spec =

@@ -32,7 +32,10 @@ area-requires : tie.Need-area-requires Inv-loop μ-loop
 area-requires c κs = omega arith
 
 returns : tie.Need-returns Inv-loop μ-loop
-returns c = let l = c .before .before .before .loop in sym (ap (λ (ls : List Level). sets (l .tree) (l .i) ls) (levels-stop (l .x) (l .y) (7 - l .i) (6 - l .i) (omega arith) (omega (arith, c .before .area .ensures)))) ∙ l .inv .2
+returns c =
+    let l = c .before .before .before .loop in
+    let e = levels-stop (l .x) (l .y) (7 - l .i) (6 - l .i) (omega arith) (omega (arith, c .before .area .ensures)) in
+    sym (ap (λ (ls : List Level). sets (l .tree) (l .i) ls) e) ∙ l .inv .2
 
 half-up-requires : tie.Need-half-up-requires Inv-loop μ-loop
 half-up-requires c κs = omega arith
@@ -49,7 +52,8 @@ loop-less c = omega arith
 loop-again : tie.Need-loop-again Inv-loop μ-loop
 loop-again c =
     let l = c .before .before .before .before .before .loop in
-    (simp length-set (l .inv .0), omega arith, stored-turn (l .x) (l .y) _ _ (omega (arith, c .before .before .before .area .ensures)) (c .before .half-up .ensures) (c .half-up2 .ensures) (l .tree) (l .i) (omega arith) ∙ l .inv .2)
+    let e = stored-turn (l .x) (l .y) _ _ (omega (arith, c .before .before .before .area .ensures)) (c .before .half-up .ensures) (c .half-up2 .ensures) (l .tree) (l .i) (omega arith) in
+    (simp length-set (l .inv .0), omega arith, e ∙ l .inv .2)
 
 returns-2 : tie.Need-returns-2 Inv-loop μ-loop
 unfolding levelsFrom

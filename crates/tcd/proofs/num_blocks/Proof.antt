@@ -1,15 +1,13 @@
 -- `tcd::num_blocks` meets its contract.
 use Prim.Native.Nat.{_*_, _+_, _-_, _≤_}
 use borrow.Author.Needs.{needs}
-use lib.ListN.{drop, drop-of-length-le, getD, length, length-take, take}
+use lib.ListN.{drop, getD, length, take}
 use mathlib.Core.List.{map}
 use mathlib.Core.Path.{_≡_}
 use native.Mathlib.Omega.{arith}
 use Rattle.t800.specs.Base.{sum}
-use Rattle.t800.specs.State.{bands, blocks, blocksIn}
-use Rattle.t800.specs.declared.Band.{Band}
-use Rattle.tcd.proofs.Laws.Bands.{blocks-turn, length-blocks, sides-of-first}
-use Rattle.tcd.proofs.Laws.TreeLevels.{area-up-to-4096}
+use Rattle.t800.specs.State.{blocks, blocksIn}
+use Rattle.tcd.proofs.Laws.Bands.{blocks-turn, blocks-up-to-4096, length-blocks, no-more-bands, sides-of-first}
 use Rattle.tcd.specs.Geometry.{noBand}
 use Rattle.tcd.proofs.num_blocks.Statement.{statement}
 use Rattle.tcd.proofs.num_blocks.Tie as tie
@@ -33,14 +31,12 @@ band-blocks-requires : tie.Need-band-blocks-requires Inv-loop μ-loop
 band-blocks-requires c κs = omega arith
 
 add-total : tie.Need-add-total Inv-loop μ-loop
-unfolding blocksIn
 add-total c =
     let s = c .before .before .before .before in
     let l = c .before .before .before .loop in
     let g : length (s .args .t1) ≡ 3 = search needs in
     let k = sides-of-first (s .args .t1) (s .args .n) (l .i) (omega arith) (omega arith) (s .pre .1) in
-    let b : Band = getD (s .args .t1) (l .i) noBand in
-    omega (arith, c .band-blocks .ensures, area-up-to-4096 (b .across) (b .down) (k .0) (k .1))
+    omega (arith, c .band-blocks .ensures, blocks-up-to-4096 (getD (s .args .t1) (l .i) noBand) k)
 
 add-i : tie.Need-add-i Inv-loop μ-loop
 add-i c = omega arith
@@ -49,19 +45,22 @@ loop-less : tie.Need-loop-less Inv-loop μ-loop
 loop-less c = omega arith
 
 loop-again : tie.Need-loop-again Inv-loop μ-loop
-unfolding blocksIn
 loop-again c =
     let s = c .before .before .before .before in
     let l = c .before .before .before .loop in
     let g : length (s .args .t1) ≡ 3 = search needs in
     let k = sides-of-first (s .args .t1) (s .args .n) (l .i) (omega arith) (omega arith) (s .pre .1) in
-    let b : Band = getD (s .args .t1) (l .i) noBand in
+    let m = blocks-up-to-4096 (getD (s .args .t1) (l .i) noBand) k in
     let e = blocks-turn (s .args .t1) (s .args .n) (l .i) (l .total) (omega arith) (omega arith) in
-    (omega arith, omega (arith, c .band-blocks .ensures, area-up-to-4096 (b .across) (b .down) (k .0) (k .1)), omega (arith, c .band-blocks .ensures, l .inv .2))
+    (omega arith, omega (arith, c .band-blocks .ensures), omega (arith, c .band-blocks .ensures, l .inv .2))
 
 returns : tie.Need-returns Inv-loop μ-loop
 unfolding sum
-returns c = let l = c .before .loop in let s = c .before .before in let z = drop-of-length-le (take (s .args .n) (s .args .t1)) {i = l .i} (simp length-take (omega arith)) in let e : l .total + 0 ≡ length (blocks (take (s .args .n) (s .args .t1))) = rw z at (l .inv .2) in omega arith
+returns c =
+    let l = c .before .loop in
+    let s = c .before .before in
+    let z = no-more-bands (s .args .t1) (s .args .n) (l .i) (omega arith) in
+    let e : l .total + 0 ≡ length (blocks (take (s .args .n) (s .args .t1))) = rw z at (l .inv .2) in omega arith
 
 pub num-blocks-spec : {M : Type 1} → statement M
 num-blocks-spec =

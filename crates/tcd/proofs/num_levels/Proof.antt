@@ -25,7 +25,10 @@ area-requires : tie.Need-area-requires Inv-loop μ-loop
 area-requires c κs = omega arith
 
 returns : tie.Need-returns Inv-loop μ-loop
-returns c = let l = c .before .before .before .loop in let e = ap length (levels-stop (l .x) (l .y) (7 - l .i) (6 - l .i) (omega arith) (omega (arith, c .before .area .ensures))) in omega (arith, l .inv .1)
+returns c =
+    let l = c .before .before .before .loop in
+    let e = ap length (levels-stop (l .x) (l .y) (7 - l .i) (6 - l .i) (omega arith) (omega (arith, c .before .area .ensures))) in
+    omega (arith, l .inv .1)
 
 half-up-requires : tie.Need-half-up-requires Inv-loop μ-loop
 half-up-requires c κs = omega arith
@@ -39,11 +42,15 @@ loop-less c = omega arith
 loop-again : tie.Need-loop-again Inv-loop μ-loop
 loop-again c =
     let l = c .before .before .before .before .before .loop in
-    (omega arith, counted-turn (l .x) (l .y) _ _ (omega (arith, c .before .before .before .area .ensures)) (c .before .half-up .ensures) (c .half-up2 .ensures) (l .i) (omega arith) ∙ l .inv .1)
+    let e = counted-turn (l .x) (l .y) _ _ (omega (arith, c .before .before .before .area .ensures)) (c .before .half-up .ensures) (c .half-up2 .ensures) (l .i) (omega arith) in
+    (omega arith, e ∙ l .inv .1)
 
 returns-2 : tie.Need-returns-2 Inv-loop μ-loop
 unfolding levelsFrom
-returns-2 c = let l = c .before .loop in let e : 7 - l .i ≡ 0 = omega arith in let f : l .i + 0 ≡ length (levels (c .before .before .args .w) (c .before .before .args .h)) = rw e at (l .inv .1) in omega arith
+returns-2 c =
+    let l = c .before .loop in
+    let e : 7 - l .i ≡ 0 = omega arith in
+    let f : l .i + 0 ≡ length (levels (c .before .before .args .w) (c .before .before .args .h)) = rw e at (l .inv .1) in omega arith
 
 pub num-levels-spec : {M : Type 1} → statement M
 num-levels-spec =

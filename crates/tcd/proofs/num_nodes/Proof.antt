@@ -2,7 +2,6 @@
 use Prim.Native.Nat.{_*_, _+_, _-_, _≤_}
 use mathlib.Core.Path.{_≡_}
 use native.Mathlib.Omega.{arith}
-use Rattle.t800.specs.Base.{sum}
 use Rattle.t800.specs.TagTree.{levels, levelsFrom, nodes, nodesIn}
 use Rattle.tcd.proofs.Laws.TreeLevels.{area-up-to-4096, summed-stop, summed-turn}
 use Rattle.tcd.proofs.num_nodes.Statement.{statement}

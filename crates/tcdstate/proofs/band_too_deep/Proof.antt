@@ -3,14 +3,13 @@ use Prim.Native.Nat.{_-_, _≤_}
 use borrow.Author.Needs.{needs}
 use borrow.Author.Tests.{le-ltb, lt-ltb}
 use lib.Dec.{ltb}
-use lib.ListN.{drop, drop-of-length-le, length, length-take, take}
+use lib.ListN.{drop, length, take}
 use mathlib.Core.Path.{_∙_, _≡_, refl, sym}
 use native.Mathlib.Omega.{arith}
 use Rattle.t800.specs.Base.{any}
 use Rattle.t800.specs.Ranges.{bandTooDeep}
-use Rattle.t800.specs.State.{bands}
 use Rattle.t800.specs.declared.Band.{Band}
-use Rattle.tcd.proofs.Laws.Bands.{next-band}
+use Rattle.tcd.proofs.Laws.Bands.{next-band, no-more-bands}
 use Rattle.tcdstate.proofs.Laws.AnyOf.{any-here, any-later}
 use Rattle.tcdstate.proofs.band_too_deep.Statement.{statement}
 use Rattle.tcdstate.proofs.band_too_deep.Tie as tie
@@ -54,7 +53,11 @@ loop-again c =
 
 returns-2 : tie.Need-returns-2 Inv-loop μ-loop
 unfolding any bandTooDeep
-returns-2 c = let l = c .before .loop in let s = c .before .before in let z = drop-of-length-le (take (s .args .n) (s .args .t1)) {i = l .i} (simp length-take (omega arith)) in rw z at (l .inv .1)
+returns-2 c =
+    let l = c .before .loop in
+    let s = c .before .before in
+    let z = no-more-bands (s .args .t1) (s .args .n) (l .i) (omega arith) in
+    rw z at (l .inv .1)
 
 pub band-too-deep-spec : {M : Type 1} → statement M
 band-too-deep-spec =

@@ -2,16 +2,16 @@
 use Prim.Native.Nat.{_+_, _-_, _≤_, ℕ}
 use borrow.Author.Needs.{needs}
 use borrow.Author.Tests.{not-false, not-true}
-use lib.ListN.{drop, drop-of-length-le, getD, length, length-take, take}
+use lib.ListN.{drop, getD, length, take}
 use mathlib.Core.Bool.{false, true}
 use mathlib.Core.List.{List}
 use mathlib.Core.Path.{_∙_, _≡_, ap, refl, sym}
 use native.Mathlib.Omega.{arith}
 use Rattle.t800.proofs.Laws.Layout.{end-after}
 use Rattle.t800.specs.Ranges.{bandsInRange}
-use Rattle.t800.specs.State.{bandLength, bands, endOf, stateLength}
+use Rattle.t800.specs.State.{bandLength, endOf, stateLength}
 use Rattle.t800.specs.declared.Band.{Band}
-use Rattle.tcd.proofs.Laws.Bands.{end-turn, next-band, sides-of-first}
+use Rattle.tcd.proofs.Laws.Bands.{end-turn, next-band, no-more-bands, sides-of-first}
 use Rattle.tcd.specs.Geometry.{noBand}
 use Rattle.tcdstate.proofs.Laws.RangeParts.{bands-turn}
 use Rattle.tcdstate.proofs.bands_in_range.Statement.{statement}
@@ -84,7 +84,11 @@ loop-again c =
 
 returns-2 : tie.Need-returns-2 Inv-loop μ-loop
 unfolding bandsInRange
-returns-2 c = let l = c .before .loop in let s = c .before .before .before in let z = drop-of-length-le (take (s .args .n) (s .args .t2)) {i = l .i} (simp length-take (omega arith)) in rw z at (l .inv .1)
+returns-2 c =
+    let l = c .before .loop in
+    let s = c .before .before .before in
+    let z = no-more-bands (s .args .t2) (s .args .n) (l .i) (omega arith) in
+    rw z at (l .inv .1)
 
 pub bands-in-range-spec : {M : Type 1} → statement M
 bands-in-range-spec =

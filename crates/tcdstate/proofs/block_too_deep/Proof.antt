@@ -1,13 +1,13 @@
 -- `tcdstate::block_too_deep` meets its contract.
 use Prim.Native.Nat.{_+_, _-_, _≤_, min, ℕ}
 use borrow.Author.Needs.{needs}
-use lib.ListN.{drop, drop-of-length-le, length, length-take, take}
+use lib.ListN.{drop, length, take}
 use mathlib.Core.Bool.{false, true}
 use mathlib.Core.Path.{_∙_, _≡_, ap, sym}
 use native.Mathlib.Omega.{arith}
 use Rattle.t800.specs.Ranges.{blockTooDeep}
-use Rattle.t800.specs.State.{bands, blocks}
-use Rattle.tcd.proofs.Laws.Bands.{next-band}
+use Rattle.t800.specs.State.{blocks}
+use Rattle.tcd.proofs.Laws.Bands.{next-band, no-more-bands}
 use Rattle.tcdstate.proofs.Laws.BlockPlanes.{deep-is, deep-turn, deepFrom}
 use Rattle.tcdstate.proofs.block_too_deep.Statement.{statement}
 use Rattle.tcdstate.proofs.block_too_deep.Tie as tie
@@ -82,7 +82,11 @@ loop-again c =
 
 returns-2 : tie.Need-returns-2 Inv-loop μ-loop
 unfolding deepFrom
-returns-2 c = let l = c .before .loop in let s = c .before .before .before in let z = drop-of-length-le (take (s .args .n) (s .args .t1)) {i = l .i} (simp length-take (omega arith)) in rw z at (l .inv .2)
+returns-2 c =
+    let l = c .before .loop in
+    let s = c .before .before .before in
+    let z = no-more-bands (s .args .t1) (s .args .n) (l .i) (omega arith) in
+    rw z at (l .inv .2)
 
 pub block-too-deep-spec : {M : Type 1} → statement M
 block-too-deep-spec =

@@ -20,7 +20,8 @@ returns-2 : tie.Need-returns-2
 unfolding isLimit
 returns-2 c =
     let s = c .before .before .before .before .args in
-    simp (ne-eqb (s .limit) (firstLimit (s .self .bits)) (λ e. c .before .before .if1 .left (e ∙ sym (c .before .before .before .first-limit .ensures))), eq-eqb _ _ (c .if2 .taken ∙ c .before .next-limit .ensures))
+    let first = ne-eqb (s .limit) (firstLimit (s .self .bits)) (λ e. c .before .before .if1 .left (e ∙ sym (c .before .before .before .first-limit .ensures))) in
+    simp (first, eq-eqb _ _ (c .if2 .taken ∙ c .before .next-limit .ensures))
 
 next-limit-requires-2 : tie.Need-next-limit-requires-2
 next-limit-requires-2 c κs = search needs
@@ -29,9 +30,9 @@ returns-3 : tie.Need-returns-3
 unfolding isLimit
 returns-3 c =
     let s = c .before .before .before .before .before .args in
-    rw (c .next-limit2 .ensures)
-    (simp
-    (ne-eqb (s .limit) (firstLimit (s .self .bits)) (λ e. c .before .before .before .if1 .left (e ∙ sym (c .before .before .before .before .first-limit .ensures))), ne-eqb (s .limit) (nextLimit (s .self .bits) 2) (λ e. c .before .if2 .left (e ∙ sym (c .before .before .next-limit .ensures)))))
+    let first = ne-eqb (s .limit) (firstLimit (s .self .bits)) (λ e. c .before .before .before .if1 .left (e ∙ sym (c .before .before .before .before .first-limit .ensures))) in
+    let second = ne-eqb (s .limit) (nextLimit (s .self .bits) 2) (λ e. c .before .if2 .left (e ∙ sym (c .before .before .next-limit .ensures))) in
+    rw (c .next-limit2 .ensures) (simp (first, second))
 
 pub is-limit-spec : {M : Type 1} → statement M
 is-limit-spec =
