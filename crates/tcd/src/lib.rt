@@ -295,13 +295,13 @@ pub fn copy(from: &[u32], to: &mut [u32])
     }
 }
 
-pub fn copy_bytes(from: &[u8], to: &mut [u8])
-    requires { ⌜ length (now from) ≡ length (now to) ⌝ }
-    ensures { λ _. ⌜ now (to .exit) ≡ now (from .entry) ⌝ }
+pub fn copy_bytes(bytes: &[u8], to: &mut [u8])
+    requires { ⌜ length (now bytes) ≡ length (now to) ⌝ }
+    ensures { λ _. ⌜ now (to .exit) ≡ now (bytes .entry) ⌝ }
 {
     let mut i = 0;
-    while i < from.len() {
-        to[i] = from[i];
+    while i < bytes.len() {
+        to[i] = bytes[i];
         i += 1;
     }
 }
@@ -316,12 +316,12 @@ pub fn wipe(list: &mut [u32])
     }
 }
 
-pub fn wipe_bytes(list: &mut [u8])
-    ensures { λ _. ⌜ now (list .exit) ≡ wiped (now (list .entry)) ⌝ }
+pub fn wipe_bytes(bytes: &mut [u8])
+    ensures { λ _. ⌜ now (bytes .exit) ≡ wiped (now (bytes .entry)) ⌝ }
 {
     let mut i = 0;
-    while i < list.len() {
-        list[i] = 0;
+    while i < bytes.len() {
+        bytes[i] = 0;
         i += 1;
     }
 }

@@ -9,16 +9,16 @@ use Rattle.tcd.proofs.wipe_bytes.Statement.{statement}
 use Rattle.tcd.proofs.wipe_bytes.Tie as tie
 
 abbrev Inv-loop : tie.InvT-loop
-Inv-loop list₀ i₀ list i = (i ≤ length list₀) × (length list ≡ length list₀) × (take i list ≡ take i (wiped list₀))
+Inv-loop bytes₀ i₀ bytes i = (i ≤ length bytes₀) × (length bytes ≡ length bytes₀) × (take i bytes ≡ take i (wiped bytes₀))
 
 abbrev μ-loop : tie.MeasureT-loop
-μ-loop list₀ i₀ list i = length list₀ - i
+μ-loop bytes₀ i₀ bytes i = length bytes₀ - i
 
 loop-holds : tie.Need-loop-holds Inv-loop μ-loop
 loop-holds c = (omega arith, refl, refl)
 
-slice-write-list : tie.Need-slice-write-list Inv-loop μ-loop
-slice-write-list c = omega arith
+slice-write-bytes : tie.Need-slice-write-bytes Inv-loop μ-loop
+slice-write-bytes c = omega arith
 
 add-i : tie.Need-add-i Inv-loop μ-loop
 add-i c = omega arith
@@ -29,7 +29,7 @@ loop-less c = omega arith
 loop-again : tie.Need-loop-again Inv-loop μ-loop
 loop-again c =
     let l = c .before .loop in
-    (omega arith, simp length-set (l .inv .1), wiped-turn (c .before .before .args .list .now) (l .list) (l .i) (omega arith) (l .inv .1) (l .inv .2))
+    (omega arith, simp length-set (l .inv .1), wiped-turn (c .before .before .args .bytes .now) (l .bytes) (l .i) (omega arith) (l .inv .1) (l .inv .2))
 
 same-length : tie.Need-same-length Inv-loop μ-loop
 same-length c = c .before .loop .inv .1
@@ -37,7 +37,7 @@ same-length c = c .before .loop .inv .1
 returns : tie.Need-returns Inv-loop μ-loop
 returns c =
     let l = c .before .loop in
-    wiped-all (c .before .before .args .list .now) (l .list) (l .i) (omega arith) (l .inv .1) (l .inv .2)
+    wiped-all (c .before .before .args .bytes .now) (l .bytes) (l .i) (omega arith) (l .inv .1) (l .inv .2)
 
 pub wipe-bytes-spec : {M : Type 1} → statement M
 wipe-bytes-spec =
@@ -46,7 +46,7 @@ wipe-bytes-spec =
     Inv-loop
     μ-loop
     loop-holds
-    slice-write-list
+    slice-write-bytes
     add-i
     loop-less
     loop-again
