@@ -1,5 +1,5 @@
 -- A precinct's geometry as the code holds it: each tree's levels as an array of seven, and bands whose sides are in range.
-use Prim.Native.Nat.{ℕ, _-_, _≤_}
+use Prim.Native.Nat.{_-_, _≤_}
 use mathlib.Core.List.{List, [], _∷_, _++_, map}
 use lib.ListN.{length, replicate}
 use Rattle.t800.specs.declared.Level.{Level}

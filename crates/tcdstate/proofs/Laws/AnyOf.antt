@@ -1,11 +1,10 @@
 -- A test of some entry of a list, entry by entry from the front.
-use mathlib.Core.Path.{_≡_, refl, sym, ap, _∙_}
-use mathlib.Core.Bool.{Bool, true, false, not, _&&_, _||_}
+use mathlib.Core.Path.{_≡_, refl}
+use mathlib.Core.Bool.{Bool, true, false, not, _||_}
 use mathlib.Core.List.{List, [], _∷_, _++_}
-use Prim.Native.Nat.{ℕ, zero, suc, _+_, _≤_, _<_}
+use Prim.Native.Nat.{ℕ, _+_, _≤_, _<_}
 use native.Mathlib.Numerals.{add-one}
-use native.Mathlib.Omega.{arith}
-use lib.ListN.{length, getD, take, drop}
+use lib.ListN.{length, getD, take}
 use lib.Seq.{take-suc, take-all}
 use lib.Bits.{bitOr}
 use lib.Dec.{eqb, ltb, leb}
@@ -13,7 +12,6 @@ use borrow.Author.Tests.{lt-ltb, le-ltb, le-leb, lt-leb}
 use Rattle.t800.specs.Base.{any}
 use Rattle.t800.proofs.Laws.Tests.{on-lt}
 use Rattle.tcdstate.specs.Parts.{fault}
-use Rattle.tcdstate.proofs.Laws.Faults.{fault-both}
 
 module _ {ℓ} {A : Type ℓ} (f : A → Bool) where
   -- at the first entry, or past it

@@ -1,11 +1,11 @@
 -- The parts of the range check, as the code reads them, make the definition's. Each law takes a Bool for each part, so that a part that
 -- is known to fail decides.
-use mathlib.Core.Path.{_≡_, refl, sym, ap, _∙_, subst}
+use mathlib.Core.Path.{_≡_, refl, sym, subst}
 use mathlib.Core.Bool.{Bool, true, false, cond, not, _&&_, _||_}
-use mathlib.Core.List.{List, [], _∷_}
-use Prim.Native.Nat.{ℕ, _+_, _*_, _≤_, _<_}
+use mathlib.Core.List.{List, _∷_}
+use Prim.Native.Nat.{ℕ, _+_, _*_, _≤_}
 use native.Mathlib.Omega.{arith}
-use lib.ListN.{length, getD, take, drop}
+use lib.ListN.{length, getD, take}
 use lib.Dec.{ltb, leb, eqb}
 use borrow.Author.Tests.{not-true, eq-eqb, ne-eqb, le-leb, lt-leb}
 use Rattle.t800.specs.declared.Band.{Band}
