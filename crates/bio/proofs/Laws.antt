@@ -2,5 +2,4 @@ pub mod HeldWord
 pub mod FreeBits
 pub mod WriteChunks
 pub mod ReadChunks
-pub mod AreBits
 pub mod Packed

@@ -1,4 +1,3 @@
 pub mod PassTable
 pub mod PassCount
 pub mod CommaCode
-pub mod AreBits
