@@ -4,7 +4,7 @@ ghost use Prim.Native.Nat.{_+_, _-_, _*_, _/_, _%_, _^_, _≤_};
 ghost use lib.ListN.{length, take};
 ghost use Rattle.t800.specs.Base.{wiped};
 ghost use Rattle.t800.specs.TagTree.{levels, nodes};
-ghost use Rattle.t800.specs.Segments.{termAll, bypass, firstLimit, nextLimit, isLimit};
+ghost use Rattle.t800.specs.Segments.{termAll, bypass, firstLimit, nextLimit};
 ghost use Rattle.t800.specs.State.{blocksIn, bandNodes, bandLength, endOf, stateLength, blocks};
 ghost use Rattle.t800.specs.Ranges.{badStyle};
 ghost use Rattle.tcd.specs.Geometry.{padded, SidesUpTo64, AllUpTo64, bandLevels};
@@ -76,18 +76,6 @@ impl Style {
             return if limit == 2 { 1 } else { 2 };
         }
         109
-    }
-
-    pub fn is_limit(self, limit: u32) -> bool
-        ensures { λ r. ⌜ r ≡ isLimit (self .bits) limit ⌝ }
-    {
-        if limit == self.first_limit() {
-            return true;
-        }
-        if limit == self.next_limit(2) {
-            return true;
-        }
-        limit == self.next_limit(1)
     }
 }
 
