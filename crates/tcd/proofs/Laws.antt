@@ -1,0 +1,5 @@
+pub mod Lists
+pub mod StyleBits
+pub mod TreeLevels
+pub mod Bands
+pub mod Filled

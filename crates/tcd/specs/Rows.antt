@@ -1,0 +1,12 @@
+-- Lent lists of reports and records as rows of four words, as many as fit.
+use Prim.Native.Nat.{ℕ, _+_, _*_, _/_}
+use mathlib.Core.Bool.{cond}
+use mathlib.Core.List.{List}
+use lib.ListN.{length, set}
+use lib.Dec.{ltb}
+
+-- row n becomes a, b, c, d, if there is one
+unfoldable pub putRow : List ℕ → ℕ → ℕ → ℕ → ℕ → ℕ → List ℕ
+putRow rows n a b c d =
+    let put = set (set (set (set rows (4 * n) a) (4 * n + 1) b) (4 * n + 2) c) (4 * n + 3) d in
+    cond (ltb n (length rows / 4)) put rows

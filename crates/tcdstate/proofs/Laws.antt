@@ -1,0 +1,5 @@
+pub mod Faults
+pub mod AnyOf
+pub mod BlockPlanes
+pub mod RangeParts
+pub mod ValidStates
