@@ -212,11 +212,11 @@ fn set_rows(
     at: usize,
     nodes: usize,
     band: Band,
-    levels: [Level; 7],
+    tree: [Level; 7],
     depth: usize,
     planes: &[u32],
 )
-    requires { ⌜ SidesUpTo64 band × (nodes ≡ bandNodes band) × (levels ≡ padded (levels (band .across) (band .down))) × (depth ≡ length (levels (band .across) (band .down))) × (at + bandLength band ≤ length (now state)) × (length (now planes) ≡ blocksIn band) × (any (λ p. ltb (band .planes) p) (now planes) ≡ false) ⌝ }
+    requires { ⌜ SidesUpTo64 band × (nodes ≡ bandNodes band) × (tree ≡ padded (levels (band .across) (band .down))) × (depth ≡ length (levels (band .across) (band .down))) × (at + bandLength band ≤ length (now state)) × (length (now planes) ≡ blocksIn band) × (any (λ p. ltb (band .planes) p) (now planes) ≡ false) ⌝ }
     ensures { λ _. ⌜ now (state .exit) ≡ setZeroPlanes (blocksFrom at band (blocksIn band) 0) (now (planes .entry)) (now (state .entry)) ⌝ }
 {
     let base = at + 3 * nodes;
@@ -225,7 +225,7 @@ fn set_rows(
     let mut from: usize = 0;
     let mut y: usize = 0;
     while y < down {
-        let row = tgt::opj_tgt_row(levels, depth, y);
+        let row = tgt::opj_tgt_row(tree, depth, y);
         let to = from + across;
         set_row(state, base, &row, depth, band.planes, &planes[from..to]);
         from = to;

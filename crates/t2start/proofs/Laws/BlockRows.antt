@@ -3,16 +3,23 @@
 use mathlib.Core.Path.{_≡_, refl, sym, ap, _∙_}
 use mathlib.Core.List.{List, [], _∷_, _++_}
 use Prim.Native.Nat.{ℕ, zero, suc, _+_, _-_, _*_, _≤_, _<_}
-use native.Mathlib.Nat.{mul-le-mul, le-refl, mul-comm}
+use native.Mathlib.Nat.{mul-le-mul, le-refl, le-trans, le-of-eq, mul-comm}
 use native.Mathlib.Omega.{arith}
 use lib.Arith.{digits-lt}
-use lib.ListN.{length, getD}
+use lib.ListN.{length, getD, take, drop}
 use Rattle.t800.specs.declared.Band.{Band}
 use Rattle.t800.specs.declared.Level.{Level}
 use Rattle.t800.specs.TagTree.{pathToRoot}
-use Rattle.t800.specs.State.{Block, blockOf, blocksIn, blocksFrom}
+use Rattle.t800.specs.State.{Block, blockOf, blocksIn, bandLength, blocksFrom, endOf}
+use Rattle.t800.proofs.Laws.Layout.{end-after}
+use Rattle.tcd.specs.Geometry.{noBand}
+use Rattle.tcd.proofs.Laws.Bands.{end-turn}
 use Rattle.tgt.specs.Path.{rowOver, pathOver}
 use Rattle.tgt.proofs.Laws.Path.{TreeLevels, climb, path-climbs}
+
+-- band i of the first n, the words of which begin at `at`, ends before the last of them does
+pub band-inside : (bs : List Band) (n i at size : ℕ) → n ≤ length bs → i < n → endOf at (drop i (take n bs)) ≡ size → at + bandLength (getD bs i noBand) ≤ size
+band-inside bs n i at size h k e = le-trans (end-after (at + bandLength (getD bs i noBand)) (drop (i + 1) (take n bs))) (le-of-eq (end-turn bs n i at h k ∙ e))
 
 module _ (at : ℕ) (b : Band) where
   pub blocks-many : (n i : ℕ) → length (blocksFrom at b n i) ≡ n

@@ -1,34 +1,27 @@
+-- `t2start::begin` meets its contract.
+use mathlib.Core.Path.{_≡_, _∙_, sym}
+use Rattle.t2start.proofs.Laws.Checks.{room, begun-refused, begun-fresh}
 use borrow.Author.Needs.{needs}
 use Rattle.t2start.proofs.begin.Statement.{statement}
 use Rattle.t2start.proofs.begin.Tie as tie
-use Rattle.t2start.proofs.begin.Reads as reads
-use Rattle.t2start.proofs.begin.Lts as lts
-use Rattle.t2start.proofs.fill.Reads as fill-reads
-use Rattle.t2start.proofs.refusal.Reads as refusal-reads
 
--- src/lib.rt:278:9
 refusal-requires : tie.Need-refusal-requires
 refusal-requires c κs = search needs
 
--- src/lib.rt:280:9
 same-length : tie.Need-same-length
 same-length c = search needs
 
--- src/lib.rt:280:9
 returns : tie.Need-returns
-returns c = ?
+returns c = let s = c .before .before .before .before .before .args in begun-refused (s .role) (s .count) (s .bands) (s .style) (s .planes .now) (s .state .now) (c .before .refusal .result) (c .before .refusal .ensures) (c .if1 .taken)
 
--- src/lib.rt:282:5
 fill-requires : tie.Need-fill-requires
-fill-requires c κs = ?
+fill-requires c κs = let s = c .before .before .before .before .before .before .args in room (s .role) (s .count) (s .bands) (s .style) (s .planes .now) (s .state .now) (sym (c .before .before .refusal .ensures) ∙ c .before .if1 .left)
 
--- src/lib.rt:268:1
 same-length-2 : tie.Need-same-length-2
 same-length-2 c = search needs
 
--- src/lib.rt:268:1
 returns-2 : tie.Need-returns-2
-returns-2 c = ?
+returns-2 c = let s = c .before .before .before .before .before .before .before .before .before .args in begun-fresh (s .role) (s .count) (s .bands) (s .style) (s .planes .now) (s .state .now) (c .before .before .fill .last .0) (sym (c .before .before .before .before .before .refusal .ensures) ∙ c .before .before .before .before .if1 .left) (c .before .before .fill .ensures)
 
 pub begin-spec : {M : Type 1} → statement M
 begin-spec =

@@ -1,42 +1,44 @@
+-- `t2start::fresh_band` meets its contract.
+use mathlib.Core.Path.{_≡_, _∙_, ap}
+use mathlib.Core.List.{List}
+use Prim.Native.Nat.{ℕ, _+_, _*_}
+use lib.Seq.{sets}
+use Rattle.t800.specs.State.{notYetPlanes}
+use Rattle.t800.specs.Start.{freshNodes, freshBlocks}
+use Rattle.t2start.proofs.Laws.FreshParts.{own-set}
 use borrow.Author.Needs.{needs}
 use Rattle.t2start.proofs.fresh_band.Statement.{statement}
 use Rattle.t2start.proofs.fresh_band.Tie as tie
-use Rattle.t2start.proofs.fresh_band.Reads as reads
-use Rattle.t2start.proofs.fresh_band.Lts as lts
-use Rattle.t2start.proofs.zero_blocks.Reads as zero-blocks-reads
-use Rattle.tgt.proofs.opj_tgt_reset.Reads as opj-tgt-reset-reads
 
--- src/lib.rt:152:16
 mul-tree : tie.Need-mul-tree
 mul-tree c = search needs
 
--- src/lib.rt:153:5
 opj-tgt-reset-requires : tie.Need-opj-tgt-reset-requires
 opj-tgt-reset-requires c κs = search needs
 
--- src/lib.rt:154:18
 add-second : tie.Need-add-second
 add-second c = search needs
 
--- src/lib.rt:155:5
 opj-tgt-reset-requires-2 : tie.Need-opj-tgt-reset-requires-2
 opj-tgt-reset-requires-2 c κs = search needs
 
--- src/lib.rt:156:18
 add-behind : tie.Need-add-behind
 add-behind c = search needs
 
--- src/lib.rt:157:5
 zero-blocks-requires : tie.Need-zero-blocks-requires
 zero-blocks-requires c κs = search needs
 
--- src/lib.rt:148:1
 same-length : tie.Need-same-length
 same-length c = search needs
 
--- src/lib.rt:148:1
 returns : tie.Need-returns
-returns c = ?
+returns c = 
+    let s = c .before .before .before .before .before .before .before .before .before .before .before .before .before .args in
+    let n : ℕ = s .nodes in
+    c .before .before .zero-blocks .ensures
+    ∙ ap (λ (z : List ℕ). sets z (s .at + 3 * n + 3 * n) (freshBlocks (s .blocks))) (c .before .before .before .before .before .before .opj-tgt-reset2 .ensures)
+    ∙ ap (λ (z : List ℕ). sets (sets z (s .at + 3 * n) (freshNodes notYetPlanes n)) (s .at + 3 * n + 3 * n) (freshBlocks (s .blocks))) (c .before .before .before .before .before .before .before .before .before .before .opj-tgt-reset .ensures)
+    ∙ own-set (s .state .now) (s .at) n (s .blocks)
 
 pub fresh-band-spec : {M : Type 1} → statement M
 fresh-band-spec =

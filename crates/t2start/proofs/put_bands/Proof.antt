@@ -1,51 +1,57 @@
+-- `t2start::put_bands` meets its contract.
+use native.Mathlib.Omega.{arith}
+use mathlib.Core.Path.{_≡_, refl, sym, ap, _∙_}
+use mathlib.Core.List.{List, _∷_, []}
+use Prim.Native.Nat.{ℕ, _+_, _-_, _*_, _≤_}
+use lib.ListN.{length, take, drop}
+use lib.Seq.{sets}
+use Rattle.t800.specs.Start.{bandWords}
+use Rattle.t2start.proofs.Laws.FreshParts.{put-turn}
 use Rattle.t2start.proofs.put_bands.Statement.{statement}
 use Rattle.t2start.proofs.put_bands.Tie as tie
-use Rattle.t2start.proofs.put_bands.Reads as reads
-use Rattle.t2start.proofs.put_bands.Lts as lts
-use Rattle.t2start.proofs.put_band.Reads as put-band-reads
-use Rattle.t2start.proofs.used_band.Reads as used-band-reads
 
 abbrev Inv-loop : tie.InvT-loop
-Inv-loop state₀ bands n at₀ i₀ state at i = ?
+Inv-loop state₀ bands n at₀ i₀ state at i = (i ≤ 3) × (at ≡ 4 + 3 * i) × (length state ≡ length state₀) × (sets state at (bandWords (drop i (take n bands)) (3 - i)) ≡ sets state₀ 4 (bandWords (take n bands) 3))
 
 abbrev μ-loop : tie.MeasureT-loop
-μ-loop state₀ bands n at₀ i₀ state at i = ?
+μ-loop state₀ bands n at₀ i₀ state at i = 3 - i
 
--- src/lib.rt:130:5
 loop-holds : tie.Need-loop-holds Inv-loop μ-loop
-loop-holds c = ?
+loop-holds c = (omega arith, omega arith, refl, refl)
 
--- src/lib.rt:131:13
 used-band-requires : tie.Need-used-band-requires Inv-loop μ-loop
-used-band-requires c κs = ?
+used-band-requires c κs = c .before .before .before .pre .0
 
--- src/lib.rt:132:9
 put-band-requires : tie.Need-put-band-requires Inv-loop μ-loop
-put-band-requires c κs = ?
+put-band-requires c κs = omega (arith, c .before .before .before .before .before .pre .1, c .before .before .before .loop .inv .2)
 
--- src/lib.rt:133:9
 add-at : tie.Need-add-at Inv-loop μ-loop
-add-at c = ?
+add-at c = omega (arith, c .before .before .before .before .before .before .loop .inv .1)
 
--- src/lib.rt:134:9
 add-i : tie.Need-add-i Inv-loop μ-loop
-add-i c = ?
+add-i c = omega arith
 
--- src/lib.rt:130:5
 loop-less : tie.Need-loop-less Inv-loop μ-loop
-loop-less c = ?
+loop-less c = omega arith
 
--- src/lib.rt:130:5
 loop-again : tie.Need-loop-again Inv-loop μ-loop
-loop-again c = ?
+loop-again c = 
+    let s = c .before .before .before .before .before .before .before .before .args in
+    let l = c .before .before .before .before .before .before .loop in
+    let rest : List ℕ = bandWords (drop (l .i + 1) (take (s .n) (s .bands))) (3 - (l .i + 1)) in
+    ( omega arith
+    , omega arith
+    , c .before .before .put-band .kept .0 ∙ l .inv .2
+    , ap (λ (z : List ℕ). sets z (l .at + 3) rest) (c .before .before .put-band .ensures)
+    ∙ put-turn (l .state) (take (s .n) (s .bands)) (l .i) (l .at) _ (omega arith) (c .before .before .before .before .used-band .ensures)
+    ∙ l .inv .3 )
 
--- src/lib.rt:124:1
 same-length : tie.Need-same-length Inv-loop μ-loop
-same-length c = ?
+same-length c = c .before .loop .inv .2
 
--- src/lib.rt:124:1
 returns : tie.Need-returns Inv-loop μ-loop
-returns c = ?
+unfolding bandWords
+returns c = let l = c .before .loop in let e : l .i ≡ 3 = omega arith in rw e at (l .inv .3)
 
 pub put-bands-spec : {M : Type 1} → statement M
 put-bands-spec =

@@ -1,26 +1,25 @@
+-- `t2start::wrong_list` meets its contract.
+use borrow.Author.Tests.{eq-eqb, ne-eqb}
+use mathlib.Core.Path.{_≡_, _∙_, ap, sym}
+use mathlib.Core.Bool.{not}
+use Prim.Native.Nat.{ℕ}
+use lib.Dec.{eqb}
+use lib.ListN.{length}
 use borrow.Author.Needs.{needs}
 use Rattle.t2start.proofs.wrong_list.Statement.{statement}
 use Rattle.t2start.proofs.wrong_list.Tie as tie
-use Rattle.t2start.proofs.wrong_list.Reads as reads
-use Rattle.t2start.proofs.wrong_list.Lts as lts
-use Rattle.t2start.proofs.planes_wanted.Reads as planes-wanted-reads
-use Rattle.tcd.proofs.state_length.Reads as state-length-reads
 
--- src/lib.rt:42:23
 state-length-requires : tie.Need-state-length-requires
 state-length-requires c κs = search needs
 
--- src/lib.rt:43:9
 returns : tie.Need-returns
-returns c = ?
+returns c = simp (ne-eqb _ _ (λ e. c .if1 .taken (e ∙ sym (c .before .state-length .ensures))))
 
--- src/lib.rt:45:21
 planes-wanted-requires : tie.Need-planes-wanted-requires
 planes-wanted-requires c κs = search needs
 
--- src/lib.rt:38:1
 returns-2 : tie.Need-returns-2
-returns-2 c = ?
+returns-2 c = let s = c .before .before .before .before .before .args in ap (λ (k : ℕ). not (eqb (length (s .planes .now)) k)) (c .planes-wanted .ensures) ∙ simp (eq-eqb _ _ (c .before .if1 .left ∙ c .before .before .state-length .ensures))
 
 pub wrong-list-spec : {M : Type 1} → statement M
 wrong-list-spec =
