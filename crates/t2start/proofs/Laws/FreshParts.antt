@@ -3,7 +3,7 @@ use mathlib.Core.Path.{_≡_, refl, sym, ap, ap₂, _∙_}
 use mathlib.Core.List.{List, [], _∷_, _++_}
 use Prim.Native.Nat.{ℕ, zero, suc, _+_, _-_, _*_, _≤_, _<_}
 use native.Mathlib.Omega.{arith}
-use lib.ListN.{length, getD, take, drop, replicate, length-append, length-replicate, length-take, length-drop}
+use lib.ListN.{length, getD, take, drop, replicate, length-append, length-replicate}
 use lib.Seq.{sets}
 use Rattle.t800.specs.declared.Band.{Band}
 use Rattle.t800.specs.Base.{wiped}
@@ -11,7 +11,7 @@ use Rattle.t800.specs.State.{notYetIncluded, notYetPlanes, blocksIn, bandNodes,
 use Rattle.t800.specs.Start.{freshNodes, freshBlocks, freshBands, bandWords, freshState}
 use Rattle.t800.proofs.Laws.FreshState.{fresh-length}
 use Rattle.tcd.specs.Geometry.{noBand}
-use Rattle.t2start.proofs.Laws.Runs.{sets-behind, sets-whole, part-set}
+use Rattle.t2start.proofs.Laws.Runs.{sets-behind, sets-whole, part-length, part-set}
 
 -- ---- the words of bands in front
 
@@ -55,7 +55,7 @@ pub blocks-wiped : (l part : List ℕ) (from blocks : ℕ) → from + 4 * blocks
     → take from l ++ (part ++ drop (from + 4 * blocks - from) (drop from l)) ≡ sets l from (freshBlocks blocks)
 blocks-wiped l part from blocks h e =
     let to : ℕ = from + 4 * blocks in
-    let n : length (take (to - from) (drop from l)) ≡ 4 * blocks = length-take (to - from) (drop from l) ∙ omega (arith, length-drop from l) in
+    let n : length (take (to - from) (drop from l)) ≡ 4 * blocks = part-length l from to (omega arith) (omega arith) ∙ omega arith in
     let p : part ≡ freshBlocks blocks = e ∙ ap (λ (k : ℕ). replicate k 0) n ∙ sym (blocks-are-zeros blocks) in
     part-set l part from to (omega arith) (omega arith) (ap length p ∙ length-blocks blocks ∙ omega arith) ∙ ap (λ (xs : List ℕ). sets l from xs) p
 

@@ -3,7 +3,7 @@ use mathlib.Core.Path.{_≡_, refl, sym, ap, _∙_}
 use mathlib.Core.List.{List, [], _∷_, _++_, append-assoc, append-nil}
 use Prim.Native.Nat.{ℕ, zero, suc, _+_, _-_, _≤_}
 use native.Mathlib.Omega.{arith}
-use lib.ListN.{length, set, take, drop, drop-of-length-le}
+use lib.ListN.{length, set, take, drop, length-take, length-drop, drop-of-length-le}
 use lib.Seq.{sets, sets-eq, drop-drop}
 
 module _ {ℓ} {A : Type ℓ} where
@@ -22,6 +22,9 @@ module _ {ℓ} {A : Type ℓ} where
   sets-whole l xs e =
       let n : drop (0 + length xs) l ≡ [] = drop-of-length-le l {i = 0 + length xs} (omega arith) in
       sets-eq xs l 0 (omega arith) ∙ ap (λ (r : List A). xs ++ r) n ∙ append-nil xs
+
+  pub part-length : (l : List A) (from to : ℕ) → from ≤ to → to ≤ length l → length (take (to - from) (drop from l)) ≡ to - from
+  part-length l from to h k = length-take (to - from) (drop from l) ∙ omega (arith, length-drop from l)
 
   -- a part that is lent and comes back with other words
   pub part-set : (l xs : List A) (from to : ℕ) → from ≤ to → to ≤ length l → length xs ≡ to - from → take from l ++ (xs ++ drop (to - from) (drop from l)) ≡ sets l from xs

@@ -21,7 +21,7 @@ same-length-2 : tie.Need-same-length-2
 same-length-2 c = search needs
 
 returns-2 : tie.Need-returns-2
-returns-2 c = let s = c .before .before .before .before .before .before .before .before .before .args in begun-fresh (s .role) (s .count) (s .bands) (s .style) (s .planes .now) (s .state .now) (c .before .before .fill .last .0) (sym (c .before .before .before .before .before .refusal .ensures) ∙ c .before .before .before .before .if1 .left) (c .before .before .fill .ensures)
+returns-2 c = let s = c .before .before .before .before .before .before .before .before .before .args in begun-fresh (s .role) (s .count) (s .bands) (s .style) (s .planes .now) (s .state .now) _ (sym (c .before .before .before .before .before .refusal .ensures) ∙ c .before .before .before .before .if1 .left) (c .before .before .fill .ensures)
 
 pub begin-spec : {M : Type 1} → statement M
 begin-spec =
