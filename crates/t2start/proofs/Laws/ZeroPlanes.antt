@@ -7,6 +7,7 @@ use native.Mathlib.Numerals.{add-one}
 use native.Mathlib.Omega.{arith}
 use lib.ListN.{length, getD, take, drop}
 use lib.Seq.{drop-cons, drop-drop}
+use lib.Dec.{ltb}
 use Rattle.t800.specs.declared.Band.{Band}
 use Rattle.t800.specs.declared.Level.{Level}
 use Rattle.t800.specs.Base.{any}
@@ -14,6 +15,7 @@ use Rattle.t800.specs.TagTree.{setValue}
 use Rattle.t800.specs.State.{Block, blockOf, blocksIn, bandNodes, bandLength, blocksFrom, blocksAt}
 use Rattle.t800.specs.Start.{setZeroPlanes}
 use Rattle.t800.proofs.Laws.Tests.{or-left, or-right}
+use Rattle.tcdstate.proofs.Laws.BlockPlanes.{deepFrom}
 use Rattle.tgt.specs.Path.{rowOver, pathOver}
 use Rattle.tgt.proofs.Laws.Path.{TreeLevels}
 use Rattle.t2start.specs.Parts.{setRow}
@@ -39,6 +41,19 @@ module _ (f : ℕ → Bool) where
   none-behind zero l e = e
   none-behind (suc n) [] e = refl
   none-behind (suc n) (x ∷ xs) e = none-behind n xs (or-right (f x) (any f xs) e)
+
+-- no block of the next band is too deep, and none behind it
+pub shallow-turn : (l : List Band) (b : Band) (bs : List Band) (ps : List ℕ) (from to : ℕ) → l ≡ b ∷ bs → to ≡ from + blocksIn b → deepFrom l (drop from ps) ≡ false
+    → (any (λ p. ltb (b .planes) p) (take (to - from) (drop from ps)) ≡ false) × (deepFrom bs (drop to ps) ≡ false)
+unfolding deepFrom
+shallow-turn l b bs ps from to e q h =
+    let n : to - from ≡ blocksIn b = omega arith in
+    let here : Bool = any (λ p. ltb (b .planes) p) (take (blocksIn b) (drop from ps)) in
+    let rest : Bool = deepFrom bs (drop (blocksIn b) (drop from ps)) in
+    let f = sym (ap (λ (k : List Band). deepFrom k (drop from ps)) e) ∙ h in (
+      ap (λ (k : ℕ). any (λ p. ltb (b .planes) p) (take k (drop from ps))) n ∙ or-left here rest f,
+      ap (λ (k : ℕ). deepFrom bs (drop k ps)) q ∙ ap (deepFrom bs) (sym (drop-drop (blocksIn b) from ps)) ∙ or-right here rest f,
+    )
 
 -- ---- some blocks, and others behind them
 
