@@ -13,6 +13,7 @@ use Rattle.t800.specs.State.{writer, reader, blocks, stateLength}
 use Rattle.t800.specs.Ranges.{badShape, badStyle, bandTooDeep, blockTooDeep}
 use Rattle.t800.specs.Start.{StartResult, freshState, setZeroPlanes, startRefusal, start}
 use Rattle.t800.proofs.Laws.Tests.{if-true, if-false, on-eq}
+use Rattle.t800.proofs.Laws.FreshState.{fresh-length}
 use Rattle.t800.proofs.Laws.Accepted.{StartAccepted, start-accepted}
 use Rattle.tcd.specs.Geometry.{AllUpTo64}
 use Rattle.tcd.proofs.Laws.Bands.{shape-not-refused}
@@ -94,6 +95,10 @@ module _ (r n : ℕ) (given : List Band) (s : ℕ) (planes lent : List ℕ) wher
   pub begun-answer : (why : ℕ) (ws : List ℕ) → _≡_ {A = StartResult} (record { answer = why; state = ws }) (begun r n given s planes lent) → why ≡ startRefusal r n given s planes lent
   begun-answer why ws e = ap (λ (z : StartResult). z .answer) e ∙ answer-is
 
+  begun-state : (why : ℕ) (ws : List ℕ) → _≡_ {A = StartResult} (record { answer = why; state = ws }) (begun r n given s planes lent) → why ≡ 0 → ws ≡ freshState r s (take n given)
+  unfolding begun
+  begun-state why ws e z = ap (λ (k : StartResult). k .state) e ∙ if-true _ _ _ (eq-eqb (startRefusal r n given s planes lent) 0 (sym (begun-answer why ws e) ∙ z))
+
   refused-too : startRefusal r n given s planes lent ≢ 0 → begun r n given s planes lent ≡ start r n given s planes lent
   unfolding begun start
   refused-too h =
@@ -104,15 +109,23 @@ module _ (r n : ℕ) (given : List Band) (s : ℕ) (planes lent : List ℕ) wher
   pub start-refused : (why : ℕ) (ws : List ℕ) → _≡_ {A = StartResult} (record { answer = why; state = ws }) (begun r n given s planes lent) → why ≢ 0 → _≡_ {A = StartResult} (record { answer = why; state = ws }) (start r n given s planes lent)
   start-refused why ws e h = e ∙ refused-too (λ z. h (begun-answer why ws e ∙ z))
 
-  pub start-set : (ws vs : List ℕ) → _≡_ {A = StartResult} (record { answer = 0; state = ws }) (begun r n given s planes lent) → vs ≡ setZeroPlanes (blocks (take n given)) planes ws
-      → _≡_ {A = StartResult} (record { answer = 0; state = vs }) (start r n given s planes lent)
-  unfolding begun start
-  start-set ws vs e f =
-      let a : 0 ≡ startRefusal r n given s planes lent = begun-answer 0 ws e in
-      let t = eq-eqb (startRefusal r n given s planes lent) 0 (sym a) in
-      let g : ws ≡ freshState r s (take n given) = ap (λ (z : StartResult). z .state) e ∙ if-true _ _ _ t in
-      let q : vs ≡ start r n given s planes lent .state = f ∙ ap (λ (z : List ℕ). setZeroPlanes (blocks (take n given)) planes z) g ∙ sym (if-true _ _ _ t) in
+  pub start-set : (why : ℕ) (ws vs : List ℕ) → _≡_ {A = StartResult} (record { answer = why; state = ws }) (begun r n given s planes lent) → why ≡ 0
+      → vs ≡ setZeroPlanes (blocks (take n given)) planes ws → _≡_ {A = StartResult} (record { answer = 0; state = vs }) (start r n given s planes lent)
+  unfolding start
+  start-set why ws vs e z f =
+      let a : 0 ≡ startRefusal r n given s planes lent = sym z ∙ begun-answer why ws e in
+      let q : vs ≡ start r n given s planes lent .state = f ∙ ap (λ (l : List ℕ). setZeroPlanes (blocks (take n given)) planes l) (begun-state why ws e z) ∙ sym (if-true _ _ _ (eq-eqb (startRefusal r n given s planes lent) 0 (sym a))) in
       λ i. record { answer = a i; state = q i }
+
+-- what a writer's zero planes are set in
+pub writer-begun : (n : ℕ) (given : List Band) (s : ℕ) (planes lent : List ℕ) (why : ℕ) (ws : List ℕ)
+    → _≡_ {A = StartResult} (record { answer = why; state = ws }) (begun writer n given s planes lent) → why ≡ 0
+    → (n ≤ 3) × AllUpTo64 (take n given) × (length ws ≡ stateLength (take n given)) × (length planes ≡ length (blocks (take n given))) × (blockTooDeep (blocks (take n given)) planes ≡ false)
+unfolding writer stateLength
+writer-begun n given s planes lent why ws e z =
+    let A = accepted writer n given s planes lent (sym (begun-answer writer n given s planes lent why ws e) ∙ z) in
+    let h = shape-not-refused n given (A .shape) in
+    (h .1, h .2, ap length (begun-state writer n given s planes lent why ws e z) ∙ fresh-length writer s (take n given), A .planes-length, A .blocks-in)
 
 -- a reader's zero planes stay as they are
 pub reader-begun : (n : ℕ) (given : List Band) (s : ℕ) (planes lent : List ℕ) → begun reader n given s planes lent ≡ start reader n given s planes lent
@@ -121,12 +134,9 @@ reader-begun n given s planes lent =
     on-eq (startRefusal reader n given s planes lent) 0
     (λ e. let A = accepted reader n given s planes lent e in
     let f = begun-fresh reader n given s planes lent (freshState reader s (take n given)) e refl in
-    sym f ∙ start-set reader n given s planes lent (freshState reader s (take n given)) (freshState reader s (take n given)) f (none planes (no-planes A)))
+    sym f ∙ start-set reader n given s planes lent 0 (freshState reader s (take n given)) (freshState reader s (take n given)) f refl (none planes (A .planes-length)))
     (λ h. refused-too reader n given s planes lent h)
   where
     none : (ps : List ℕ) → length ps ≡ 0 → freshState reader s (take n given) ≡ setZeroPlanes (blocks (take n given)) ps (freshState reader s (take n given))
     none [] l = sym (set-none (blocks (take n given)) (freshState reader s (take n given)))
     none (p ∷ ps) l = absurd (omega arith)
-
-    no-planes : StartAccepted reader n given s planes lent → length planes ≡ 0
-    no-planes A = A .planes-length

@@ -1,34 +1,31 @@
+-- `t2start::start_writer` meets its contract.
+use mathlib.Core.Path.{_≡_}
+use Rattle.t800.specs.State.{writer}
+use Rattle.t2start.proofs.Laws.Checks.{start-refused, start-set, writer-begun}
 use borrow.Author.Needs.{needs}
 use Rattle.t2start.proofs.start_writer.Statement.{statement}
 use Rattle.t2start.proofs.start_writer.Tie as tie
-use Rattle.t2start.proofs.start_writer.Reads as reads
-use Rattle.t2start.proofs.start_writer.Lts as lts
-use Rattle.t2start.proofs.begin.Reads as begin-reads
-use Rattle.t2start.proofs.set_zero_planes.Reads as set-zero-planes-reads
 
--- src/lib.rt:296:9
 begin-requires : tie.Need-begin-requires
 begin-requires c κs = search needs
 
--- src/lib.rt:298:9
 same-length : tie.Need-same-length
 same-length c = search needs
 
--- src/lib.rt:298:9
 returns : tie.Need-returns
-returns c = ?
+unfolding writer
+returns c = let s = c .before .before .before .before .before .before .before .args in start-refused writer (s .count) (s .bands) (s .style) (s .planes .now) (s .state .now) (c .before .before .before .begin .result) _ (c .before .before .before .begin .ensures) (c .if1 .taken)
 
--- src/lib.rt:300:5
 set-zero-planes-requires : tie.Need-set-zero-planes-requires
-set-zero-planes-requires c κs = ?
+unfolding writer
+set-zero-planes-requires c κs = let s = c .before .before .before .before .before .before .before .before .args in writer-begun (s .count) (s .bands) (s .style) (s .planes .now) (s .state .now) (c .before .before .before .before .begin .result) _ (c .before .before .before .before .begin .ensures) (c .before .if1 .left)
 
--- src/lib.rt:287:1
 same-length-2 : tie.Need-same-length-2
 same-length-2 c = search needs
 
--- src/lib.rt:287:1
 returns-2 : tie.Need-returns-2
-returns-2 c = ?
+unfolding writer
+returns-2 c = let s = c .before .before .before .before .before .before .before .before .before .before .before .args in start-set writer (s .count) (s .bands) (s .style) (s .planes .now) (s .state .now) (c .before .before .before .before .before .before .before .begin .result) _ _ (c .before .before .before .before .before .before .before .begin .ensures) (c .before .before .before .before .if1 .left) (c .before .before .set-zero-planes .ensures)
 
 pub start-writer-spec : {M : Type 1} → statement M
 start-writer-spec =
