@@ -57,14 +57,7 @@ fn too_deep(bands: [Band; 3], n: usize, planes: &[u32]) -> bool
 }
 
 // 0 if nothing is to be refused.
-fn refusal(
-    role: u32,
-    count: u32,
-    bands: [Band; 3],
-    style: u8,
-    planes: &[u32],
-    state: &[u32],
-) -> u32
+fn refusal(role: u32, count: u32, bands: [Band; 3], style: u8, planes: &[u32], state: &[u32]) -> u32
     ensures { λ r. ⌜ r ≡ startRefusal role count bands style (now (planes .entry)) (now (state .entry)) ⌝ }
 {
     if tcdstate::bad_shape(count, bands) {

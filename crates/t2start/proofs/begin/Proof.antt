@@ -1,5 +1,5 @@
 -- `t2start::begin` meets its contract.
-use mathlib.Core.Path.{_≡_, _∙_, sym}
+use mathlib.Core.Path.{_∙_, sym}
 use Rattle.t2start.proofs.Laws.Checks.{room, begun-refused, begun-fresh}
 use borrow.Author.Needs.{needs}
 use Rattle.t2start.proofs.begin.Statement.{statement}

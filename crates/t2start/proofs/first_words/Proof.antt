@@ -1,7 +1,6 @@
 -- `t2start::first_words` meets its contract.
 use native.Mathlib.Omega.{arith}
-use lib.Seq.{lt-length-set}
-use lib.ListN.{set, length-set}
+use lib.ListN.{length-set}
 use borrow.Author.Needs.{needs}
 use Rattle.t2start.proofs.first_words.Statement.{statement}
 use Rattle.t2start.proofs.first_words.Tie as tie

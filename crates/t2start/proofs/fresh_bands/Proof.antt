@@ -2,14 +2,14 @@
 use native.Mathlib.Omega.{arith}
 use borrow.Author.Needs.{needs}
 use mathlib.Core.Path.{_≡_, refl, sym, ap, _∙_}
-use mathlib.Core.List.{List, _∷_, []}
+use mathlib.Core.List.{List}
 use Prim.Native.Nat.{ℕ, _+_, _-_, _*_, _≤_, _<_}
 use lib.ListN.{length, getD, take, drop, length-take, drop-of-length-le}
 use lib.Seq.{sets}
 use Rattle.t800.specs.declared.Band.{Band}
-use Rattle.t800.specs.State.{blocksIn, bandNodes, bandLength, endOf, stateLength}
+use Rattle.t800.specs.State.{bandLength, endOf, stateLength}
 use Rattle.t800.specs.Start.{freshBands}
-use Rattle.t800.proofs.Laws.Layout.{band-length, end-after}
+use Rattle.t800.proofs.Laws.Layout.{band-length}
 use Rattle.tcd.specs.Geometry.{noBand}
 use Rattle.tcd.proofs.Laws.Bands.{next-band, sides-of-first, end-turn}
 use Rattle.t2start.proofs.Laws.FreshParts.{own-turn}
@@ -34,7 +34,7 @@ array-copy-out-band : tie.Need-array-copy-out-band Inv-loop μ-loop
 array-copy-out-band c = omega (arith, c .before .before .before .pre .0)
 
 band-nodes-requires : tie.Need-band-nodes-requires Inv-loop μ-loop
-band-nodes-requires c κs = 
+band-nodes-requires c κs =
     let s = c .before .before .before .before in
     let g : length (s .args .t2) ≡ 3 = search needs in
     sides-of-first (s .args .t2) (s .args .n) (c .before .before .loop .i) (omega (arith, s .pre .0)) (omega arith) (s .pre .1)
@@ -43,7 +43,7 @@ band-blocks-requires : tie.Need-band-blocks-requires Inv-loop μ-loop
 band-blocks-requires c κs = tt
 
 fresh-band-requires : tie.Need-fresh-band-requires Inv-loop μ-loop
-fresh-band-requires c κs = 
+fresh-band-requires c κs =
     let s = c .before .before .before .before .before .before .before in
     let l = c .before .before .before .before .before .loop in
     let g : length (s .args .t2) ≡ 3 = search needs in
@@ -52,7 +52,7 @@ fresh-band-requires c κs =
     omega (arith, e, q, c .before .band-blocks .ensures, c .before .before .band-nodes .ensures, l .inv .1)
 
 mul-words : tie.Need-mul-words Inv-loop μ-loop
-mul-words c = 
+mul-words c =
     let s = c .before .before .before .before .before .before .before .before .before .before in
     let l = c .before .before .before .before .before .before .before .before .loop in
     let g : length (s .args .t2) ≡ 3 = search needs in
@@ -62,7 +62,7 @@ mul-words c =
     omega (arith, e, q, f, c .before .before .before .before .band-blocks .ensures, c .before .before .before .before .before .band-nodes .ensures)
 
 mul-words-2 : tie.Need-mul-words-2 Inv-loop μ-loop
-mul-words-2 c = 
+mul-words-2 c =
     let s = c .before .before .before .before .before .before .before .before .before .before in
     let l = c .before .before .before .before .before .before .before .before .loop in
     let g : length (s .args .t2) ≡ 3 = search needs in
@@ -72,7 +72,7 @@ mul-words-2 c =
     omega (arith, e, q, f, c .before .before .before .before .band-blocks .ensures, c .before .before .before .before .before .band-nodes .ensures)
 
 add-words : tie.Need-add-words Inv-loop μ-loop
-add-words c = 
+add-words c =
     let s = c .before .before .before .before .before .before .before .before .before .before in
     let l = c .before .before .before .before .before .before .before .before .loop in
     let g : length (s .args .t2) ≡ 3 = search needs in
@@ -82,7 +82,7 @@ add-words c =
     omega (arith, e, q, f, c .before .before .before .before .band-blocks .ensures, c .before .before .before .before .before .band-nodes .ensures)
 
 add-at : tie.Need-add-at Inv-loop μ-loop
-add-at c = 
+add-at c =
     let s = c .before .before .before .before .before .before .before .before .before .before in
     let l = c .before .before .before .before .before .before .before .before .loop in
     let g : length (s .args .t2) ≡ 3 = search needs in
@@ -98,20 +98,21 @@ loop-less : tie.Need-loop-less Inv-loop μ-loop
 loop-less c = omega arith
 
 loop-again : tie.Need-loop-again Inv-loop μ-loop
-loop-again c = 
+loop-again c =
     let s = c .before .before .before .before .before .before .before .before .before .before in
     let l = c .before .before .before .before .before .before .before .before .loop in
     let g : length (s .args .t2) ≡ 3 = search needs in
     let k : s .args .n ≤ length (s .args .t2) = omega (arith, s .pre .0) in
     let b : Band = getD (s .args .t2) (l .i) noBand in
     let rest : List Band = drop (l .i + 1) (take (s .args .n) (s .args .t2)) in
-    let w : 6 * c .before .before .before .before .before .band-nodes .result + 4 * c .before .before .before .before .band-blocks .result ≡ bandLength b = omega (arith, band-length b, c .before .before .before .before .before .band-nodes .ensures, c .before .before .before .before .band-blocks .ensures) in
-    ( omega arith
-    , c .before .before .fresh-band .kept .0 ∙ l .inv .1
-    , ap (λ (z : ℕ). endOf (l .at + z) rest) w ∙ end-turn (s .args .t2) (s .args .n) (l .i) (l .at) k (omega arith) ∙ l .inv .2
-    , ap (λ (z : List ℕ). sets z (l .at + (6 * c .before .before .before .before .before .band-nodes .result + 4 * c .before .before .before .before .band-blocks .result)) (freshBands rest)) (c .before .before .fresh-band .ensures)
-    ∙ own-turn (l .state) _ b rest (l .at) _ _ (next-band (s .args .t2) (s .args .n) (l .i) k (omega arith)) (c .before .before .before .before .before .band-nodes .ensures) (c .before .before .before .before .band-blocks .ensures)
-    ∙ l .inv .3 )
+    let w : 6 * c .before .before .before .before .before .band-nodes .result + 4 * c .before .before .before .before .band-blocks .result ≡ bandLength b = omega (arith, band-length b, c .before .before .before .before .before .band-nodes .ensures, c .before .before .before .before .band-blocks .ensures) in (
+      omega arith,
+      c .before .before .fresh-band .kept .0 ∙ l .inv .1,
+      ap (λ (z : ℕ). endOf (l .at + z) rest) w ∙ end-turn (s .args .t2) (s .args .n) (l .i) (l .at) k (omega arith) ∙ l .inv .2,
+      ap (λ (z : List ℕ). sets z (l .at + (6 * c .before .before .before .before .before .band-nodes .result + 4 * c .before .before .before .before .band-blocks .result)) (freshBands rest)) (c .before .before .fresh-band .ensures)
+          ∙ own-turn (l .state) _ b rest (l .at) _ _ (next-band (s .args .t2) (s .args .n) (l .i) k (omega arith)) (c .before .before .before .before .before .band-nodes .ensures) (c .before .before .before .before .band-blocks .ensures)
+          ∙ l .inv .3,
+    )
 
 same-length : tie.Need-same-length Inv-loop μ-loop
 same-length c = c .before .loop .inv .1

@@ -1,7 +1,7 @@
 -- `t2start::put_bands` meets its contract.
 use native.Mathlib.Omega.{arith}
-use mathlib.Core.Path.{_≡_, refl, sym, ap, _∙_}
-use mathlib.Core.List.{List, _∷_, []}
+use mathlib.Core.Path.{_≡_, refl, ap, _∙_}
+use mathlib.Core.List.{List}
 use Prim.Native.Nat.{ℕ, _+_, _-_, _*_, _≤_}
 use lib.ListN.{length, take, drop}
 use lib.Seq.{sets}
@@ -35,16 +35,17 @@ loop-less : tie.Need-loop-less Inv-loop μ-loop
 loop-less c = omega arith
 
 loop-again : tie.Need-loop-again Inv-loop μ-loop
-loop-again c = 
+loop-again c =
     let s = c .before .before .before .before .before .before .before .before .args in
     let l = c .before .before .before .before .before .before .loop in
-    let rest : List ℕ = bandWords (drop (l .i + 1) (take (s .n) (s .bands))) (3 - (l .i + 1)) in
-    ( omega arith
-    , omega arith
-    , c .before .before .put-band .kept .0 ∙ l .inv .2
-    , ap (λ (z : List ℕ). sets z (l .at + 3) rest) (c .before .before .put-band .ensures)
-    ∙ put-turn (l .state) (take (s .n) (s .bands)) (l .i) (l .at) _ (omega arith) (c .before .before .before .before .used-band .ensures)
-    ∙ l .inv .3 )
+    let rest : List ℕ = bandWords (drop (l .i + 1) (take (s .n) (s .bands))) (3 - (l .i + 1)) in (
+      omega arith,
+      omega arith,
+      c .before .before .put-band .kept .0 ∙ l .inv .2,
+      ap (λ (z : List ℕ). sets z (l .at + 3) rest) (c .before .before .put-band .ensures)
+          ∙ put-turn (l .state) (take (s .n) (s .bands)) (l .i) (l .at) _ (omega arith) (c .before .before .before .before .used-band .ensures)
+          ∙ l .inv .3,
+    )
 
 same-length : tie.Need-same-length Inv-loop μ-loop
 same-length c = c .before .loop .inv .2

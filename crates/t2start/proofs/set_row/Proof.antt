@@ -5,7 +5,7 @@ use mathlib.Core.Path.{_≡_, refl, sym, ap, _∙_, subst}
 use mathlib.Core.List.{List}
 use Prim.Native.Nat.{ℕ, _+_, _-_, _≤_}
 use lib.Dec.{ltb}
-use lib.ListN.{length, getD, drop, drop-of-length-le}
+use lib.ListN.{length, drop, drop-of-length-le}
 use Rattle.tgt.specs.Path.{PathIn}
 use Rattle.t2start.specs.Parts.{setRow}
 use Rattle.t2start.proofs.Laws.ZeroPlanes.{none-at, column-turn}
@@ -31,7 +31,7 @@ sub-zero : tie.Need-sub-zero Inv-loop μ-loop
 sub-zero c = let s = c .before .before .before .before .before in let l = c .before .before .loop in ltb-false (s .args .most) _ (none-at (λ p. ltb (s .args .most) p) (s .args .planes .now) (l .x) (omega arith) (s .pre .1))
 
 opj-tgt-setvalue-requires : tie.Need-opj-tgt-setvalue-requires Inv-loop μ-loop
-opj-tgt-setvalue-requires c κs = 
+opj-tgt-setvalue-requires c κs =
     let s = c .before .before .before .before .before .before in
     let l = c .before .before .before .loop in
     subst (λ (k : ℕ). PathIn k (s .args .base) (s .args .row .now) (s .args .depth) (l .x)) (sym (l .inv .1)) (s .pre .0 (l .x) (omega arith))
@@ -43,14 +43,15 @@ loop-less : tie.Need-loop-less Inv-loop μ-loop
 loop-less c = omega arith
 
 loop-again : tie.Need-loop-again Inv-loop μ-loop
-loop-again c = 
+loop-again c =
     let s = c .before .before .before .before .before .before .before .before .before .args in
-    let l = c .before .before .before .before .before .before .loop in
-    ( omega arith
-    , c .before .before .opj-tgt-setvalue .kept .0 ∙ l .inv .1
-    , ap (λ (z : List ℕ). setRow (s .base) (s .row .now) (s .depth) (s .most) (l .x + 1) (drop (l .x + 1) (s .planes .now)) z) (c .before .before .opj-tgt-setvalue .ensures)
-    ∙ column-turn (s .base) (s .row .now) (s .depth) (s .most) (l .x) (s .planes .now) (l .state) (omega arith)
-    ∙ l .inv .2 )
+    let l = c .before .before .before .before .before .before .loop in (
+      omega arith,
+      c .before .before .opj-tgt-setvalue .kept .0 ∙ l .inv .1,
+      ap (λ (z : List ℕ). setRow (s .base) (s .row .now) (s .depth) (s .most) (l .x + 1) (drop (l .x + 1) (s .planes .now)) z) (c .before .before .opj-tgt-setvalue .ensures)
+          ∙ column-turn (s .base) (s .row .now) (s .depth) (s .most) (l .x) (s .planes .now) (l .state) (omega arith)
+          ∙ l .inv .2,
+    )
 
 same-length : tie.Need-same-length Inv-loop μ-loop
 same-length c = c .before .loop .inv .1

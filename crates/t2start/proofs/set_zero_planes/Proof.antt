@@ -8,7 +8,7 @@ use Prim.Native.Nat.{ℕ, _+_, _-_, _*_, _≤_, _<_}
 use lib.ListN.{length, getD, take, drop, length-take, drop-of-length-le}
 use Rattle.t800.specs.declared.Band.{Band}
 use Rattle.t800.specs.Base.{sum}
-use Rattle.t800.specs.State.{blocksIn, bandLength, blocksAt, blocks, endOf, stateLength}
+use Rattle.t800.specs.State.{blocksIn, blocksAt, blocks, endOf, stateLength}
 use Rattle.t800.specs.Start.{setZeroPlanes}
 use Rattle.tcd.specs.Geometry.{noBand}
 use Rattle.tcd.proofs.Laws.Bands.{next-band, sides-of-first, end-turn, length-blocks, blocks-turn}
@@ -32,7 +32,7 @@ abbrev μ-loop : tie.MeasureT-loop
 
 loop-holds : tie.Need-loop-holds Inv-loop μ-loop
 unfolding stateLength blocks
-loop-holds c = 
+loop-holds c =
     let s = c .before .before in
     let bs : List Band = take (s .args .n) (s .args .t1) in
     (omega arith, refl, sym (s .pre .2), omega (arith, s .pre .3, length-blocks bs), deep-is bs (s .args .planes .now) ∙ s .pre .4, refl)
@@ -47,7 +47,7 @@ band-blocks-requires : tie.Need-band-blocks-requires Inv-loop μ-loop
 band-blocks-requires c κs = tt
 
 add-to : tie.Need-add-to Inv-loop μ-loop
-add-to c = 
+add-to c =
     let s = c .before .before .before .before .before .before in
     let l = c .before .before .before .loop in
     let g : length (s .args .t1) ≡ 3 = search needs in
@@ -58,7 +58,7 @@ add-to c =
     omega (arith, e, f, l .inv .3, c .band-blocks .ensures)
 
 mul-set-band : tie.Need-mul-set-band Inv-loop μ-loop
-mul-set-band c = 
+mul-set-band c =
     let s = c .before .before .before .before .before .before .before in
     let l = c .before .before .before .before .loop in
     let g : length (s .args .t1) ≡ 3 = search needs in
@@ -72,7 +72,7 @@ sub-set-band : tie.Need-sub-set-band Inv-loop μ-loop
 sub-set-band c = omega arith
 
 part-set-band-start : tie.Need-part-set-band-start Inv-loop μ-loop
-part-set-band-start c = 
+part-set-band-start c =
     let s = c .before .before .before .before .before .before .before in
     let l = c .before .before .before .before .loop in
     let g : length (s .args .t1) ≡ 3 = search needs in
@@ -83,7 +83,7 @@ part-set-band-start c =
     omega (arith, e, f, l .inv .3, c .before .band-blocks .ensures)
 
 part-set-band-end : tie.Need-part-set-band-end Inv-loop μ-loop
-part-set-band-end c = 
+part-set-band-end c =
     let s = c .before .before .before .before .before .before .before in
     let l = c .before .before .before .before .loop in
     let g : length (s .args .t1) ≡ 3 = search needs in
@@ -94,7 +94,7 @@ part-set-band-end c =
     omega (arith, e, f, l .inv .3, c .before .band-blocks .ensures)
 
 set-band-requires : tie.Need-set-band-requires Inv-loop μ-loop
-set-band-requires c κs = 
+set-band-requires c κs =
     let s = c .before .before .before .before .before .before .before .before in
     let l = c .before .before .before .before .before .loop in
     let g : length (s .args .t1) ≡ 3 = search needs in
@@ -102,14 +102,15 @@ set-band-requires c κs =
     let b : Band = getD (s .args .t1) (l .i) noBand in
     let e = blocks-turn (s .args .t1) (s .args .n) (l .i) (l .from) k (omega arith) in
     let q = c .before .before .band-blocks .ensures in
-    let to : ℕ = l .from + c .before .before .band-blocks .result in
-    ( sides-of-first (s .args .t1) (s .args .n) (l .i) k (omega arith) (s .pre .1)
-    , omega (arith, l .inv .1, band-inside (s .args .t1) (s .args .n) (l .i) (l .at) _ k (omega arith) (l .inv .2))
-    , part-length (s .args .planes .now) (l .from) to (omega arith) (omega (arith, e, q, l .inv .3)) ∙ omega (arith, q)
-    , shallow-turn _ b _ (s .args .planes .now) (l .from) to (next-band (s .args .t1) (s .args .n) (l .i) k (omega arith)) (ap (λ (m : ℕ). l .from + m) q) (l .inv .4) .0 )
+    let to : ℕ = l .from + c .before .before .band-blocks .result in (
+      sides-of-first (s .args .t1) (s .args .n) (l .i) k (omega arith) (s .pre .1),
+      omega (arith, l .inv .1, band-inside (s .args .t1) (s .args .n) (l .i) (l .at) _ k (omega arith) (l .inv .2)),
+      part-length (s .args .planes .now) (l .from) to (omega arith) (omega (arith, e, q, l .inv .3)) ∙ omega (arith, q),
+      shallow-turn _ b _ (s .args .planes .now) (l .from) to (next-band (s .args .t1) (s .args .n) (l .i) k (omega arith)) (ap (λ (m : ℕ). l .from + m) q) (l .inv .4) .0,
+    )
 
 band-length-requires : tie.Need-band-length-requires Inv-loop μ-loop
-band-length-requires c κs = 
+band-length-requires c κs =
     let s = c .before .before .before .before .before .before .before .before .before .before .before in
     let l = c .before .before .before .before .before .before .before .before .loop in
     let g : length (s .args .t1) ≡ 3 = search needs in
@@ -118,7 +119,7 @@ band-length-requires c κs =
     sides-of-first (s .args .t1) (s .args .n) (l .i) k (omega arith) (s .pre .1)
 
 add-at : tie.Need-add-at Inv-loop μ-loop
-add-at c = 
+add-at c =
     let s = c .before .before .before .before .before .before .before .before .before .before .before .before in
     let l = c .before .before .before .before .before .before .before .before .before .loop in
     let g : length (s .args .t1) ≡ 3 = search needs in
@@ -134,7 +135,7 @@ loop-less : tie.Need-loop-less Inv-loop μ-loop
 loop-less c = omega arith
 
 loop-again : tie.Need-loop-again Inv-loop μ-loop
-loop-again c = 
+loop-again c =
     let s = c .before .before .before .before .before .before .before .before .before .before .before .before in
     let l = c .before .before .before .before .before .before .before .before .before .loop in
     let g : length (s .args .t1) ≡ 3 = search needs in
@@ -145,15 +146,16 @@ loop-again c =
     let to : ℕ = l .from + c .before .before .before .before .before .before .band-blocks .result in
     let rest : List Band = drop (l .i + 1) (take (s .args .n) (s .args .t1)) in
     let next = next-band (s .args .t1) (s .args .n) (l .i) k (omega arith) in
-    let r : to ≡ l .from + blocksIn b = ap (λ (m : ℕ). l .from + m) q in
-    ( omega arith
-    , c .before .before .before .set-band .kept .0 ∙ l .inv .1
-    , ap (λ (z : ℕ). endOf (l .at + z) rest) (c .band-length .ensures) ∙ end-turn (s .args .t1) (s .args .n) (l .i) (l .at) k (omega arith) ∙ l .inv .2
-    , omega (arith, e, q, l .inv .3)
-    , shallow-turn _ b rest (s .args .planes .now) (l .from) to next r (l .inv .4) .1
-    , ap (λ (z : ℕ). setZeroPlanes (blocksAt (l .at + z) rest) (drop to (s .args .planes .now)) (c .before .before .before .set-band .last .0)) (c .band-length .ensures)
-    ∙ band-turn _ b rest (l .at) (s .args .planes .now) (l .state) (c .before .before .before .set-band .last .0) (l .from) to next r (c .before .before .before .set-band .ensures)
-    ∙ l .inv .5 )
+    let r : to ≡ l .from + blocksIn b = ap (λ (m : ℕ). l .from + m) q in (
+      omega arith,
+      c .before .before .before .set-band .kept .0 ∙ l .inv .1,
+      ap (λ (z : ℕ). endOf (l .at + z) rest) (c .band-length .ensures) ∙ end-turn (s .args .t1) (s .args .n) (l .i) (l .at) k (omega arith) ∙ l .inv .2,
+      omega (arith, e, q, l .inv .3),
+      shallow-turn _ b rest (s .args .planes .now) (l .from) to next r (l .inv .4) .1,
+      ap (λ (z : ℕ). setZeroPlanes (blocksAt (l .at + z) rest) (drop to (s .args .planes .now)) (c .before .before .before .set-band .last .0)) (c .band-length .ensures)
+          ∙ band-turn _ b rest (l .at) (s .args .planes .now) (l .state) (c .before .before .before .set-band .last .0) (l .from) to next r (c .before .before .before .set-band .ensures)
+          ∙ l .inv .5,
+    )
 
 same-length : tie.Need-same-length Inv-loop μ-loop
 same-length c = c .before .loop .inv .1

@@ -1,5 +1,4 @@
 -- `t2start::start_writer` meets its contract.
-use mathlib.Core.Path.{_≡_}
 use Rattle.t800.specs.State.{writer}
 use Rattle.t2start.proofs.Laws.Checks.{start-refused, start-set, writer-begun}
 use borrow.Author.Needs.{needs}

@@ -1,5 +1,5 @@
 -- `t2start::too_deep` meets its contract.
-use mathlib.Core.Path.{_≡_, _∙_, ap, sym}
+use mathlib.Core.Path.{_∙_, sym}
 use borrow.Author.Needs.{needs}
 use Rattle.t2start.proofs.too_deep.Statement.{statement}
 use Rattle.t2start.proofs.too_deep.Tie as tie

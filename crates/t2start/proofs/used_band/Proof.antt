@@ -1,7 +1,7 @@
 -- `t2start::used_band` meets its contract.
 use native.Mathlib.Omega.{arith}
-use mathlib.Core.Path.{_≡_, sym}
-use lib.ListN.{length, take, length-take, List·getD-eq-default}
+use mathlib.Core.Path.{sym}
+use lib.ListN.{take, length-take, List·getD-eq-default}
 use lib.Seq.{getD-take}
 use Rattle.tcd.specs.Geometry.{noBand}
 use borrow.Author.Needs.{needs}

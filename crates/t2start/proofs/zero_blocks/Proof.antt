@@ -1,5 +1,4 @@
 -- `t2start::zero_blocks` meets its contract.
-use mathlib.Core.Path.{_≡_}
 use Rattle.t2start.proofs.Laws.FreshParts.{blocks-wiped}
 use borrow.Author.Needs.{needs}
 use Rattle.t2start.proofs.zero_blocks.Statement.{statement}
