@@ -286,9 +286,9 @@ pub fn start_writer(
 ) -> u32
     ensures { λ r. ⌜ record { answer = r; state = now (state .exit) } ≡ start writer count bands style (now (planes .entry)) (now (state .entry)) ⌝ }
 {
-    let refused = begin(WRITER, count, bands, style, planes, state);
-    if refused != 0 {
-        return refused;
+    let answer = begin(WRITER, count, bands, style, planes, state);
+    if answer != 0 {
+        return answer;
     }
     set_zero_planes(bands, count as usize, planes, state);
     0
