@@ -51,36 +51,7 @@ fresh-band-requires c κs =
     let e = band-inside (s .args .t2) (s .args .n) (l .i) (l .at) _ (omega (arith, s .pre .0)) (omega arith) (l .inv .2) in
     omega (arith, e, q, c .before .band-blocks .ensures, c .before .before .band-nodes .ensures, l .inv .1)
 
-mul-words : tie.Need-mul-words Inv-loop μ-loop
-mul-words c =
-    let s = c .before .before .before .before .before .before .before .before .before .before in
-    let l = c .before .before .before .before .before .before .before .before .loop in
-    let g : length (s .args .t2) ≡ 3 = search needs in
-    let q = band-length (getD (s .args .t2) (l .i) noBand) in
-    let e = band-inside (s .args .t2) (s .args .n) (l .i) (l .at) _ (omega (arith, s .pre .0)) (omega arith) (l .inv .2) in
-    let f : length (s .args .state .now) < 0x1_0000_0000_0000_0000 = search needs in
-    omega (arith, e, q, f, c .before .before .before .before .band-blocks .ensures, c .before .before .before .before .before .band-nodes .ensures)
-
-mul-words-2 : tie.Need-mul-words-2 Inv-loop μ-loop
-mul-words-2 c =
-    let s = c .before .before .before .before .before .before .before .before .before .before in
-    let l = c .before .before .before .before .before .before .before .before .loop in
-    let g : length (s .args .t2) ≡ 3 = search needs in
-    let q = band-length (getD (s .args .t2) (l .i) noBand) in
-    let e = band-inside (s .args .t2) (s .args .n) (l .i) (l .at) _ (omega (arith, s .pre .0)) (omega arith) (l .inv .2) in
-    let f : length (s .args .state .now) < 0x1_0000_0000_0000_0000 = search needs in
-    omega (arith, e, q, f, c .before .before .before .before .band-blocks .ensures, c .before .before .before .before .before .band-nodes .ensures)
-
-add-words : tie.Need-add-words Inv-loop μ-loop
-add-words c =
-    let s = c .before .before .before .before .before .before .before .before .before .before in
-    let l = c .before .before .before .before .before .before .before .before .loop in
-    let g : length (s .args .t2) ≡ 3 = search needs in
-    let q = band-length (getD (s .args .t2) (l .i) noBand) in
-    let e = band-inside (s .args .t2) (s .args .n) (l .i) (l .at) _ (omega (arith, s .pre .0)) (omega arith) (l .inv .2) in
-    let f : length (s .args .state .now) < 0x1_0000_0000_0000_0000 = search needs in
-    omega (arith, e, q, f, c .before .before .before .before .band-blocks .ensures, c .before .before .before .before .before .band-nodes .ensures)
-
+-- the others fit since this does
 add-at : tie.Need-add-at Inv-loop μ-loop
 add-at c =
     let s = c .before .before .before .before .before .before .before .before .before .before in
@@ -90,6 +61,15 @@ add-at c =
     let e = band-inside (s .args .t2) (s .args .n) (l .i) (l .at) _ (omega (arith, s .pre .0)) (omega arith) (l .inv .2) in
     let f : length (s .args .state .now) < 0x1_0000_0000_0000_0000 = search needs in
     omega (arith, e, q, f, c .before .before .before .before .band-blocks .ensures, c .before .before .before .before .before .band-nodes .ensures)
+
+mul-words : tie.Need-mul-words Inv-loop μ-loop
+mul-words c = omega (arith, add-at c)
+
+mul-words-2 : tie.Need-mul-words-2 Inv-loop μ-loop
+mul-words-2 c = omega (arith, add-at c)
+
+add-words : tie.Need-add-words Inv-loop μ-loop
+add-words c = omega (arith, add-at c)
 
 add-i : tie.Need-add-i Inv-loop μ-loop
 add-i c = omega (arith, c .before .before .before .before .before .before .before .before .before .before .pre .0)

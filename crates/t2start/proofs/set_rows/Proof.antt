@@ -27,17 +27,14 @@ Inv-loop state₀ at nodes band tree depth planes base across down from₀ y₀ 
 abbrev μ-loop : tie.MeasureT-loop
 μ-loop state₀ at nodes band tree depth planes base across down from₀ y₀ state from y = band .down - y
 
-mul-base : tie.Need-mul-base Inv-loop μ-loop
-mul-base c =
-    let s = c .before .before in
-    let f : length (s .args .state .now) < 0x1_0000_0000_0000_0000 = search needs in
-    omega (arith, f, s .pre .1, s .pre .4, band-length (s .args .band))
-
 add-base : tie.Need-add-base Inv-loop μ-loop
 add-base c =
     let s = c .before .before in
     let f : length (s .args .state .now) < 0x1_0000_0000_0000_0000 = search needs in
     omega (arith, f, s .pre .1, s .pre .4, band-length (s .args .band))
+
+mul-base : tie.Need-mul-base Inv-loop μ-loop
+mul-base c = omega (arith, add-base c)
 
 cast-across : tie.Need-cast-across Inv-loop μ-loop
 cast-across c = search needs
@@ -65,25 +62,6 @@ add-to c =
     let f : length (s .args .planes .now) * 4 < 0x1_0000_0000_0000_0000 = search needs in
     omega (arith, e, f, s .pre .5)
 
-mul-set-row : tie.Need-mul-set-row Inv-loop μ-loop
-mul-set-row c =
-    let s = c .before .before .before .before .before .before .before .before .before in
-    let l = c .before .before .before .before .loop in
-    let e = row-inside (s .args .band) (l .y) (l .from) (omega arith) (l .inv .1) in
-    let f : length (s .args .planes .now) * 4 < 0x1_0000_0000_0000_0000 = search needs in
-    omega (arith, e, f, s .pre .5)
-
-sub-set-row : tie.Need-sub-set-row Inv-loop μ-loop
-sub-set-row c = omega arith
-
-part-set-row-start : tie.Need-part-set-row-start Inv-loop μ-loop
-part-set-row-start c =
-    let s = c .before .before .before .before .before .before .before .before .before in
-    let l = c .before .before .before .before .loop in
-    let e = row-inside (s .args .band) (l .y) (l .from) (omega arith) (l .inv .1) in
-    let f : length (s .args .planes .now) * 4 < 0x1_0000_0000_0000_0000 = search needs in
-    omega (arith, e, f, s .pre .5)
-
 part-set-row-end : tie.Need-part-set-row-end Inv-loop μ-loop
 part-set-row-end c =
     let s = c .before .before .before .before .before .before .before .before .before in
@@ -91,6 +69,15 @@ part-set-row-end c =
     let e = row-inside (s .args .band) (l .y) (l .from) (omega arith) (l .inv .1) in
     let f : length (s .args .planes .now) * 4 < 0x1_0000_0000_0000_0000 = search needs in
     omega (arith, e, f, s .pre .5)
+
+mul-set-row : tie.Need-mul-set-row Inv-loop μ-loop
+mul-set-row c = omega (arith, part-set-row-end c)
+
+sub-set-row : tie.Need-sub-set-row Inv-loop μ-loop
+sub-set-row c = omega arith
+
+part-set-row-start : tie.Need-part-set-row-start Inv-loop μ-loop
+part-set-row-start c = omega (arith, part-set-row-end c)
 
 set-row-requires : tie.Need-set-row-requires Inv-loop μ-loop
 set-row-requires c κs =

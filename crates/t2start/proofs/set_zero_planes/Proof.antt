@@ -57,31 +57,6 @@ add-to c =
     let f : length (s .args .planes .now) * 4 < 0x1_0000_0000_0000_0000 = search needs in
     omega (arith, e, f, l .inv .3, c .band-blocks .ensures)
 
-mul-set-band : tie.Need-mul-set-band Inv-loop μ-loop
-mul-set-band c =
-    let s = c .before .before .before .before .before .before .before in
-    let l = c .before .before .before .before .loop in
-    let g : length (s .args .t1) ≡ 3 = search needs in
-    let k : s .args .n ≤ length (s .args .t1) = omega (arith, s .pre .0) in
-    let b : Band = getD (s .args .t1) (l .i) noBand in
-    let e = blocks-turn (s .args .t1) (s .args .n) (l .i) (l .from) k (omega arith) in
-    let f : length (s .args .planes .now) * 4 < 0x1_0000_0000_0000_0000 = search needs in
-    omega (arith, e, f, l .inv .3, c .before .band-blocks .ensures)
-
-sub-set-band : tie.Need-sub-set-band Inv-loop μ-loop
-sub-set-band c = omega arith
-
-part-set-band-start : tie.Need-part-set-band-start Inv-loop μ-loop
-part-set-band-start c =
-    let s = c .before .before .before .before .before .before .before in
-    let l = c .before .before .before .before .loop in
-    let g : length (s .args .t1) ≡ 3 = search needs in
-    let k : s .args .n ≤ length (s .args .t1) = omega (arith, s .pre .0) in
-    let b : Band = getD (s .args .t1) (l .i) noBand in
-    let e = blocks-turn (s .args .t1) (s .args .n) (l .i) (l .from) k (omega arith) in
-    let f : length (s .args .planes .now) * 4 < 0x1_0000_0000_0000_0000 = search needs in
-    omega (arith, e, f, l .inv .3, c .before .band-blocks .ensures)
-
 part-set-band-end : tie.Need-part-set-band-end Inv-loop μ-loop
 part-set-band-end c =
     let s = c .before .before .before .before .before .before .before in
@@ -92,6 +67,15 @@ part-set-band-end c =
     let e = blocks-turn (s .args .t1) (s .args .n) (l .i) (l .from) k (omega arith) in
     let f : length (s .args .planes .now) * 4 < 0x1_0000_0000_0000_0000 = search needs in
     omega (arith, e, f, l .inv .3, c .before .band-blocks .ensures)
+
+mul-set-band : tie.Need-mul-set-band Inv-loop μ-loop
+mul-set-band c = omega (arith, part-set-band-end c)
+
+sub-set-band : tie.Need-sub-set-band Inv-loop μ-loop
+sub-set-band c = omega arith
+
+part-set-band-start : tie.Need-part-set-band-start Inv-loop μ-loop
+part-set-band-start c = omega (arith, part-set-band-end c)
 
 set-band-requires : tie.Need-set-band-requires Inv-loop μ-loop
 set-band-requires c κs =
