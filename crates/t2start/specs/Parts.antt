@@ -15,11 +15,14 @@ unfoldable pub planesWanted : ℕ → List Band → ℕ
 unfolding writer
 planesWanted r bs = cond (eqb r writer) (length (blocks bs)) 0
 
+abbrev pub answered : ℕ → List ℕ → StartResult
+answered why ws = record { answer = why; state = ws }
+
 -- a start before zero planes are set
 unfoldable pub begun : ℕ → ℕ → List Band → ℕ → List ℕ → List ℕ → StartResult
 begun r n given s planes lent =
     let why = startRefusal r n given s planes lent in
-    record { answer = why; state = cond (eqb why 0) (freshState r s (take n given)) lent }
+    answered why (cond (eqb why 0) (freshState r s (take n given)) lent)
 
 -- the leaves of a row from column x on, in a tree at `base` of a band with m planes; ps are the blocks' planes
 unfoldable pub setRow : ℕ → List ℕ → ℕ → ℕ → ℕ → List ℕ → List ℕ → List ℕ

@@ -17,7 +17,7 @@ use Rattle.t800.proofs.Laws.FreshState.{fresh-length}
 use Rattle.t800.proofs.Laws.Accepted.{StartAccepted, start-accepted}
 use Rattle.tcd.specs.Geometry.{AllUpTo64}
 use Rattle.tcd.proofs.Laws.Bands.{shape-not-refused}
-use Rattle.t2start.specs.Parts.{begun, planesWanted}
+use Rattle.t2start.specs.Parts.{answered, begun, planesWanted}
 use Rattle.t2start.proofs.Laws.ZeroPlanes.{set-none}
 
 abbrev pub wrongList : ℕ → List Band → List ℕ → List ℕ → Bool
@@ -73,13 +73,13 @@ module _ (r n : ℕ) (given : List Band) (s : ℕ) (planes lent : List ℕ) wher
       let h = shape-not-refused n given (A .shape) in
       (h .1, h .2, A .lent-length)
 
-  pub begun-refused : (why : ℕ) → why ≡ startRefusal r n given s planes lent → why ≢ 0 → _≡_ {A = StartResult} (record { answer = why; state = lent }) (begun r n given s planes lent)
+  pub begun-refused : (why : ℕ) → why ≡ startRefusal r n given s planes lent → why ≢ 0 → answered why lent ≡ begun r n given s planes lent
   unfolding begun
   begun-refused why e h =
       let q : lent ≡ cond (eqb (startRefusal r n given s planes lent) 0) (freshState r s (take n given)) lent = sym (if-false _ _ _ (ne-eqb _ 0 (λ z. h (e ∙ z)))) in
       λ i. record { answer = e i; state = q i }
 
-  pub begun-fresh : (ws : List ℕ) → startRefusal r n given s planes lent ≡ 0 → ws ≡ freshState r s (take n given) → _≡_ {A = StartResult} (record { answer = 0; state = ws }) (begun r n given s planes lent)
+  pub begun-fresh : (ws : List ℕ) → startRefusal r n given s planes lent ≡ 0 → ws ≡ freshState r s (take n given) → answered 0 ws ≡ begun r n given s planes lent
   unfolding begun
   begun-fresh ws e f =
       let q : ws ≡ cond (eqb (startRefusal r n given s planes lent) 0) (freshState r s (take n given)) lent = f ∙ sym (if-true _ _ _ (eq-eqb _ 0 e)) in
@@ -92,10 +92,10 @@ module _ (r n : ℕ) (given : List Band) (s : ℕ) (planes lent : List ℕ) wher
   unfolding begun
   answer-is = refl
 
-  pub begun-answer : (why : ℕ) (ws : List ℕ) → _≡_ {A = StartResult} (record { answer = why; state = ws }) (begun r n given s planes lent) → why ≡ startRefusal r n given s planes lent
+  pub begun-answer : (why : ℕ) (ws : List ℕ) → answered why ws ≡ begun r n given s planes lent → why ≡ startRefusal r n given s planes lent
   begun-answer why ws e = ap (λ (z : StartResult). z .answer) e ∙ answer-is
 
-  begun-state : (why : ℕ) (ws : List ℕ) → _≡_ {A = StartResult} (record { answer = why; state = ws }) (begun r n given s planes lent) → why ≡ 0 → ws ≡ freshState r s (take n given)
+  begun-state : (why : ℕ) (ws : List ℕ) → answered why ws ≡ begun r n given s planes lent → why ≡ 0 → ws ≡ freshState r s (take n given)
   unfolding begun
   begun-state why ws e z = ap (λ (k : StartResult). k .state) e ∙ if-true _ _ _ (eq-eqb (startRefusal r n given s planes lent) 0 (sym (begun-answer why ws e) ∙ z))
 
@@ -106,11 +106,11 @@ module _ (r n : ℕ) (given : List Band) (s : ℕ) (planes lent : List ℕ) wher
       let q : begun r n given s planes lent .state ≡ start r n given s planes lent .state = if-false _ _ _ t ∙ sym (if-false _ _ _ t) in
       λ i. record { answer = startRefusal r n given s planes lent; state = q i }
 
-  pub start-refused : (why : ℕ) (ws : List ℕ) → _≡_ {A = StartResult} (record { answer = why; state = ws }) (begun r n given s planes lent) → why ≢ 0 → _≡_ {A = StartResult} (record { answer = why; state = ws }) (start r n given s planes lent)
+  pub start-refused : (why : ℕ) (ws : List ℕ) → answered why ws ≡ begun r n given s planes lent → why ≢ 0 → answered why ws ≡ start r n given s planes lent
   start-refused why ws e h = e ∙ refused-too (λ z. h (begun-answer why ws e ∙ z))
 
-  pub start-set : (why : ℕ) (ws vs : List ℕ) → _≡_ {A = StartResult} (record { answer = why; state = ws }) (begun r n given s planes lent) → why ≡ 0
-      → vs ≡ setZeroPlanes (blocks (take n given)) planes ws → _≡_ {A = StartResult} (record { answer = 0; state = vs }) (start r n given s planes lent)
+  pub start-set : (why : ℕ) (ws vs : List ℕ) → answered why ws ≡ begun r n given s planes lent → why ≡ 0
+      → vs ≡ setZeroPlanes (blocks (take n given)) planes ws → answered 0 vs ≡ start r n given s planes lent
   unfolding start
   start-set why ws vs e z f =
       let a : 0 ≡ startRefusal r n given s planes lent = sym z ∙ begun-answer why ws e in
@@ -119,7 +119,7 @@ module _ (r n : ℕ) (given : List Band) (s : ℕ) (planes lent : List ℕ) wher
 
 -- what a writer's zero planes are set in
 pub writer-begun : (n : ℕ) (given : List Band) (s : ℕ) (planes lent : List ℕ) (why : ℕ) (ws : List ℕ)
-    → _≡_ {A = StartResult} (record { answer = why; state = ws }) (begun writer n given s planes lent) → why ≡ 0
+    → answered why ws ≡ begun writer n given s planes lent → why ≡ 0
     → (n ≤ 3) × AllUpTo64 (take n given) × (length ws ≡ stateLength (take n given)) × (length planes ≡ length (blocks (take n given))) × (blockTooDeep (blocks (take n given)) planes ≡ false)
 unfolding writer stateLength
 writer-begun n given s planes lent why ws e z =
