@@ -1,0 +1,5 @@
+pub mod Segments
+pub mod Lists
+pub mod BlocksLeft
+pub mod ScratchLength
+pub mod RefusalParts
