@@ -1,12 +1,12 @@
 // What turns a packet away before it is written (t2.rs): refusals 5, 6, 3, 7, 8 and 9, a block's segments one by one, and the widths of their length fields.
 ghost use mathlib.Core.Path.{_≡_};
 ghost use mathlib.Core.Bool.{cond, true, false};
-ghost use Prim.Native.Nat.{_+_, _-_, _*_, _^_, _≤_};
+ghost use Prim.Native.Nat.{_+_, _-_, _*_, _≤_};
 ghost use lib.ListN.{length, take, drop};
 ghost use lib.Dec.{ltb, eqb};
 ghost use Rattle.t800.specs.Base.{any, sum};
 ghost use Rattle.t800.specs.Segments.{segmentsOf, width, bitLength, increment};
-ghost use Rattle.t800.specs.State.{writer, blocks, bands, blocksFrom, blocksIn, bandLength, stateLength, bandCount};
+ghost use Rattle.t800.specs.State.{writer, blocks, blocksFrom, blocksIn, bandLength, stateLength};
 ghost use Rattle.t800.specs.Ranges.{validState};
 ghost use Rattle.t800.specs.WriteHeader.{segmentTooLong, fieldTooWide};
 ghost use Rattle.t800.specs.Packet.{wrongLists};

@@ -25,7 +25,7 @@ use Rattle.t2check.specs.Refusals.{contributionRefusal, measureRefusalFo
 
 -- ---- the lists
 
-pub lists-right : (p : Contribution) (n : ℕ) → wrongLists p n ≡ false → (length (p .counts) ≡ n) × PassesLeft (p .counts) (p .lengths) (p .marks)
+pub lists-right : (p : Contribution) (n : ℕ) → wrongLists p n ≡ false → (length (p .counts) ≡ n) × (length (p .lengths) ≡ sum (p .counts)) × (length (p .marks) ≡ sum (p .counts))
 unfolding wrongLists
 lists-right p n h =
     let a : Bool = not (eqb (length (p .counts)) n) in
@@ -34,7 +34,10 @@ lists-right p n h =
     let ab : (a || b) ≡ false = or-left (a || b) c h in
     let l = eqb-true (length (p .lengths)) (sum (p .counts)) (not-false (eqb (length (p .lengths)) (sum (p .counts))) (or-right a b ab)) in
     let m = eqb-true (length (p .marks)) (sum (p .counts)) (not-false (eqb (length (p .marks)) (sum (p .counts))) (or-right (a || b) c h)) in
-    (eqb-true (length (p .counts)) n (not-false (eqb (length (p .counts)) n) (or-left a b ab)), (omega arith, omega arith))
+    (eqb-true (length (p .counts)) n (not-false (eqb (length (p .counts)) n) (or-left a b ab)), l, m)
+
+pub passes-left : (p : Contribution) (n : ℕ) → wrongLists p n ≡ false → PassesLeft (p .counts) (p .lengths) (p .marks)
+passes-left p n h = let r = lists-right p n h in (omega (arith, r .1), omega (arith, r .1, r .2))
 
 -- ---- what a valid state says
 
@@ -63,6 +66,10 @@ blocks-in-up-to (b ∷ bs) h = let r = blocks-in-up-to bs (h .1) in let a = area
 
 pub blocks-up-to-12288 : (n : ℕ) (bs : List Band) → n ≤ 3 → AllUpTo64 (take n bs) → length (blocks (take n bs)) ≤ 12288
 blocks-up-to-12288 n bs h s = omega (arith, length-blocks (take n bs), blocks-in-up-to (take n bs) s, length-take n bs)
+
+pub blocks-of-valid : (ws : List ℕ) (n : ℕ) → validState writer ws n ≡ true → length (blocks (bands ws)) ≤ 12288
+unfolding bands
+blocks-of-valid ws n v = let k = valid-state writer ws n v in blocks-up-to-12288 (bandCount ws) (threeBands ws) (k .three-bands) (k .sides)
 
 -- ---- in order
 

@@ -176,3 +176,7 @@ halvings-up-to (suc k) (suc f) n h =
 pub log-up-to-31 : (n : ℕ) → n < 2 ^ 32 → floorLog2 n ≤ 31
 unfolding floorLog2
 log-up-to-31 n h = halvings-up-to 31 n n h
+
+pub length-up-to-31-bits : (bytes : ℕ) → bytes < 2 ^ 31 → bitLength bytes ≤ 31
+unfolding bitLength floorLog2
+length-up-to-31-bits bytes h = omega (arith, halvings-up-to 30 bytes bytes h)

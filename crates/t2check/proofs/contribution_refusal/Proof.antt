@@ -11,7 +11,7 @@ use Rattle.t800.specs.WriteHeader.{fieldTooWide}
 use Rattle.t800.specs.Packet.{wrongLists}
 use Rattle.t800.specs.declared.Band.{Band}
 use Rattle.t2check.specs.Refusals.{contribution}
-use Rattle.t2check.proofs.Laws.RefusalParts.{lists-right, first-words, bands-are, sides-are, length-is, blocks-up-to-12288, contribution-parts}
+use Rattle.t2check.proofs.Laws.RefusalParts.{lists-right, passes-left, first-words, bands-are, sides-are, length-is, blocks-up-to-12288, contribution-parts}
 use Rattle.t2check.proofs.contribution_refusal.Statement.{statement}
 use Rattle.t2check.proofs.contribution_refusal.Tie as tie
 
@@ -60,8 +60,8 @@ segment-too-long-requires : tie.Need-segment-too-long-requires
 segment-too-long-requires c κs =
     let s = c .before .before .before .before .before .before .before .before .before .before .before in
     let v = c .before .before .before .before .before .before .bands-of in
-    let r = lists-right (contribution (s .args .counts .now) (s .args .lengths .now) (s .args .marks .now)) _ (sym (c .before .before .before .wrong-lists .ensures) ∙ c .before .before .if1 .left) in
-    r .1
+    let w = sym (c .before .before .before .wrong-lists .ensures) ∙ c .before .before .if1 .left in
+    passes-left (contribution (s .args .counts .now) (s .args .lengths .now) (s .args .marks .now)) _ w
 
 returns-3 : tie.Need-returns-3
 returns-3 c =
@@ -74,9 +74,9 @@ field-too-wide-requires : tie.Need-field-too-wide-requires
 field-too-wide-requires c κs =
     let s = c .before .before .before .before .before .before .before .before .before .before .before .before .before in
     let v = c .before .before .before .before .before .before .before .before .bands-of in
-    let r = lists-right (contribution (s .args .counts .now) (s .args .lengths .now) (s .args .marks .now)) _ (sym (c .before .before .before .before .before .wrong-lists .ensures) ∙ c .before .before .before .before .if1 .left) in
+    let w = sym (c .before .before .before .before .before .wrong-lists .ensures) ∙ c .before .before .before .before .if1 .left in
     let k = sides-are (s .args .state .now) (length (s .args .state .now)) (s .pre) (getD (s .args .state .now) 1 0) (v .result) refl (v .ensures) in
-    (k .0, k .1, length-is (s .args .state .now) (length (s .args .state .now)) (s .pre) (getD (s .args .state .now) 1 0) (v .result) refl (v .ensures), r .0 ∙ c .before .before .before .before .before .before .num-blocks .ensures, r .1, sym (c .before .segment-too-long .ensures) ∙ c .if3 .left)
+    (k .0, k .1, length-is (s .args .state .now) (length (s .args .state .now)) (s .pre) (getD (s .args .state .now) 1 0) (v .result) refl (v .ensures), lists-right (contribution (s .args .counts .now) (s .args .lengths .now) (s .args .marks .now)) _ w .0 ∙ c .before .before .before .before .before .before .num-blocks .ensures, passes-left (contribution (s .args .counts .now) (s .args .lengths .now) (s .args .marks .now)) _ w, sym (c .before .segment-too-long .ensures) ∙ c .if3 .left)
 
 returns-4 : tie.Need-returns-4
 returns-4 c =
