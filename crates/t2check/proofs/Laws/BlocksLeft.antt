@@ -9,7 +9,7 @@ use lib.Seq.{drop-drop}
 use lib.Dec.{eqb}
 use Rattle.t800.specs.declared.Band.{Band}
 use Rattle.t800.specs.Base.{sum}
-use Rattle.t800.specs.Segments.{Segment, segmentsOf}
+use Rattle.t800.specs.Segments.{segmentsOf}
 use Rattle.t800.specs.State.{Block, blocksIn, bandNodes, bandLength, blocksFrom, blocksAt}
 use Rattle.t800.specs.WriteHeader.{isNew, lengthBitsBefore, segmentTooLong, fieldTooWide}
 use Rattle.t800.proofs.Laws.Tests.{or-left, or-right}

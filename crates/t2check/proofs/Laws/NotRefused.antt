@@ -1,21 +1,20 @@
 -- What a packet says that none of 5, 6, 3, 7, 8 and 9 turns away: of its lists, its counts, and its segments one by one.
-use mathlib.Core.Path.{_≡_, refl, sym, ap, _∙_, subst}
+use mathlib.Core.Path.{_≡_, sym, ap, _∙_}
 use mathlib.Core.Logic.{_≢_}
-use mathlib.Core.Bool.{Bool, true, false, cond, not}
+use mathlib.Core.Bool.{true, false, not}
 use mathlib.Core.List.{List, [], _∷_}
-use Prim.Native.Nat.{ℕ, zero, suc, _+_, _*_, _^_, _≤_, _<_, max}
+use Prim.Native.Nat.{ℕ, zero, suc, _*_, _^_, _≤_}
 use native.Mathlib.Omega.{arith}
 use lib.ListN.{length, getD}
 use lib.Dec.{ltb, leb, eqb}
 use borrow.Author.Tests.{not-false, eqb-false, ltb-false, leb-false}
 use Rattle.t800.specs.Base.{any, sum}
-use Rattle.t800.specs.Segments.{Segment, width, bitLength, increment}
+use Rattle.t800.specs.Segments.{Segment, width, increment}
 use Rattle.t800.specs.State.{notYetIncluded, writer, layer, bands, blocks}
 use Rattle.t800.specs.Ranges.{validState}
 use Rattle.t800.specs.WriteHeader.{Contribution, segmentTooLong, fieldTooWide}
 use Rattle.t800.specs.Packet.{wrongLists, measureRefusal}
 use Rattle.t800.proofs.Laws.Tests.{or-left, or-right, not-refused}
-use Rattle.tcdstate.proofs.Laws.ValidStates.{valid-state}
 use Rattle.t2check.specs.Refusals.{anyTooLong, anyTooWide, contributionRefusal, measureRefusalFor}
 use Rattle.t2check.proofs.Laws.ScratchLength.{refusal-by-scratch-length}
 use Rattle.t2check.proofs.Laws.Segments.{length-up-to-31-bits}

@@ -1,8 +1,8 @@
 -- The refusals of measuring from what the code has found: each law takes a value for each part, so that a part that is known decides.
-use mathlib.Core.Path.{_≡_, refl, sym, ap, _∙_, subst}
+use mathlib.Core.Path.{_≡_, sym, ap, _∙_, subst}
 use mathlib.Core.Bool.{Bool, true, false, cond, not, _||_}
 use mathlib.Core.List.{List, [], _∷_, map}
-use Prim.Native.Nat.{ℕ, _+_, _*_, _≤_}
+use Prim.Native.Nat.{ℕ, _*_, _≤_}
 use native.Mathlib.Omega.{arith}
 use lib.ListN.{length, take, length-take}
 use lib.Dec.{ltb, eqb}
@@ -20,7 +20,7 @@ use Rattle.tcd.proofs.Laws.TreeLevels.{area-up-to-4096}
 use Rattle.tcd.proofs.Laws.Bands.{length-blocks}
 use Rattle.tcdstate.specs.Parts.{threeBands}
 use Rattle.tcdstate.proofs.Laws.RangeParts.{first-bands}
-use Rattle.tcdstate.proofs.Laws.ValidStates.{ValidState, valid-state}
+use Rattle.tcdstate.proofs.Laws.ValidStates.{valid-state}
 use Rattle.t2check.specs.Refusals.{contributionRefusal, measureRefusalFor, PassesLeft}
 
 -- ---- the lists
