@@ -1,21 +1,21 @@
 -- What a packet says that none of 5, 6, 3, 7, 8 and 9 turns away: of its lists, its counts, and its segments one by one.
 use mathlib.Core.Path.{_≡_, sym, ap, _∙_}
 use mathlib.Core.Logic.{_≢_}
-use mathlib.Core.Bool.{true, false, not}
+use mathlib.Core.Bool.{Bool, true, false, not}
 use mathlib.Core.List.{List, [], _∷_}
 use Prim.Native.Nat.{ℕ, zero, suc, _*_, _^_, _≤_}
 use native.Mathlib.Omega.{arith}
-use lib.ListN.{length, getD}
+use lib.ListN.{length, getD, take, drop}
 use lib.Dec.{ltb, leb, eqb}
 use borrow.Author.Tests.{not-false, eqb-false, ltb-false, leb-false}
 use Rattle.t800.specs.Base.{any, sum}
-use Rattle.t800.specs.Segments.{Segment, width, increment}
-use Rattle.t800.specs.State.{notYetIncluded, writer, layer, bands, blocks}
+use Rattle.t800.specs.Segments.{Segment, segmentsOf, width, increment}
+use Rattle.t800.specs.State.{Block, notYetIncluded, writer, layer, bands, blocks}
 use Rattle.t800.specs.Ranges.{validState}
-use Rattle.t800.specs.WriteHeader.{Contribution, segmentTooLong, fieldTooWide}
+use Rattle.t800.specs.WriteHeader.{Contribution, lengthBitsBefore, segmentTooLong, fieldTooWide}
 use Rattle.t800.specs.Packet.{wrongLists, measureRefusal}
 use Rattle.t800.proofs.Laws.Tests.{or-left, or-right, not-refused}
-use Rattle.t2check.specs.Refusals.{anyTooLong, anyTooWide, contributionRefusal, measureRefusalFor}
+use Rattle.t2check.specs.Refusals.{anyTooLong, anyTooWide, blockTooWide, contributionRefusal, measureRefusalFor}
 use Rattle.t2check.proofs.Laws.ScratchLength.{refusal-by-scratch-length}
 use Rattle.t2check.proofs.Laws.Segments.{length-up-to-31-bits}
 use Rattle.t2check.proofs.Laws.RefusalParts.{lists-right, blocks-of-valid}
@@ -92,3 +92,21 @@ increment-up-to-31 lb (s ∷ ss) h =
     let r = increment-up-to-31 lb ss (or-right (leb (2 ^ 31) (s .bytes)) (anyTooLong ss) h) in
     let b = length-up-to-31-bits (s .bytes) (leb-false (2 ^ 31) (s .bytes) (or-left (leb (2 ^ 31) (s .bytes)) (anyTooLong ss) h)) in
     omega arith
+
+-- ---- block by block
+
+pub none-long-first : (c : ℕ) (cs ls ms : List ℕ) → segmentTooLong (c ∷ cs) ls ms ≡ false
+    → (anyTooLong (segmentsOf (take c ls) (take c ms)) ≡ false) × (segmentTooLong cs (drop c ls) (drop c ms) ≡ false)
+unfolding segmentTooLong
+none-long-first c cs ls ms h =
+    let here : Bool = anyTooLong (segmentsOf (take c ls) (take c ms)) in
+    let rest : Bool = segmentTooLong cs (drop c ls) (drop c ms) in
+    (or-left here rest h, or-right here rest h)
+
+pub none-wide-first : (ws : List ℕ) (k : Block) (ks : List Block) (c : ℕ) (cs ls ms : List ℕ) → fieldTooWide ws (k ∷ ks) (c ∷ cs) ls ms ≡ false
+    → (blockTooWide (lengthBitsBefore ws k) (segmentsOf (take c ls) (take c ms)) ≡ false) × (fieldTooWide ws ks cs (drop c ls) (drop c ms) ≡ false)
+unfolding fieldTooWide
+none-wide-first ws k ks c cs ls ms h =
+    let here : Bool = blockTooWide (lengthBitsBefore ws k) (segmentsOf (take c ls) (take c ms)) in
+    let rest : Bool = fieldTooWide ws ks cs (drop c ls) (drop c ms) in
+    (or-left here rest h, or-right here rest h)
