@@ -53,4 +53,16 @@ returns-2 c =
     rw z at (l .inv .1)
 
 pub any-count-over-164-spec : {M : Type 1} → statement M
-any-count-over-164-spec = tie.close (tie.spec Inv-loop μ-loop loop-holds mul-if1 shared-slice-read-if1 returns add-i loop-less loop-again returns-2)
+any-count-over-164-spec =
+    tie.close
+    (tie.spec
+    Inv-loop
+    μ-loop
+    loop-holds
+    mul-if1
+    shared-slice-read-if1
+    returns
+    add-i
+    loop-less
+    loop-again
+    returns-2)

@@ -61,8 +61,10 @@ loop-again : tie.Need-loop-again Inv-loop μ-loop
 loop-again c =
     let s = c .before .before .before .before .before .before .before .before in
     let l = c .before .before .before .before .before .loop in
-    let n = next-segment (s .args .lengths .now) (s .args .marks .now) (l .at) _ _ (omega arith) (omega arith) (c .before .before .before .segment-at .ensures) in
-    (n .enough, sym (any-later (λ (z : Segment). ltb 32 (width (s .args .length-bits) (z .passes))) _ _ _ (n .is) (ap (λ (k : ℕ). ltb 32 k) (sym (c .before .before .field-width .ensures)) ∙ le-ltb _ _ (c .before .if1 .left))) ∙ l .inv .1)
+    let n = next-segment (s .args .lengths .now) (s .args .marks .now) (l .at) _ _ (omega arith) (omega arith) (c .before .before .before .segment-at .ensures) in (
+      n .enough,
+      sym (any-later (λ (z : Segment). ltb 32 (width (s .args .length-bits) (z .passes))) _ _ _ (n .is) (ap (λ (k : ℕ). ltb 32 k) (sym (c .before .before .field-width .ensures)) ∙ le-ltb _ _ (c .before .if1 .left))) ∙ l .inv .1,
+    )
 
 returns-2 : tie.Need-returns-2 Inv-loop μ-loop
 unfolding any
@@ -72,4 +74,17 @@ returns-2 c =
     sym (ap (λ (z : List Segment). anyTooWide (s .args .length-bits) z) (no-segment-left (s .args .lengths .now) (s .args .marks .now) (l .at) (omega arith))) ∙ l .inv .1
 
 pub any-field-too-wide-spec : {M : Type 1} → statement M
-any-field-too-wide-spec = tie.close (tie.spec Inv-loop μ-loop loop-holds segment-at-requires field-width-requires returns cast-at add-at loop-less loop-again returns-2)
+any-field-too-wide-spec =
+    tie.close
+    (tie.spec
+    Inv-loop
+    μ-loop
+    loop-holds
+    segment-at-requires
+    field-width-requires
+    returns
+    cast-at
+    add-at
+    loop-less
+    loop-again
+    returns-2)

@@ -69,4 +69,16 @@ returns-2 c =
     sym (ap (λ (z : List Segment). anyTooLong z) (no-segment-left (s .args .lengths .now) (s .args .marks .now) (l .at) (omega arith))) ∙ l .inv .1
 
 pub any-segment-too-long-spec : {M : Type 1} → statement M
-any-segment-too-long-spec = tie.close (tie.spec Inv-loop μ-loop loop-holds segment-at-requires returns cast-at add-at loop-less loop-again returns-2)
+any-segment-too-long-spec =
+    tie.close
+    (tie.spec
+    Inv-loop
+    μ-loop
+    loop-holds
+    segment-at-requires
+    returns
+    cast-at
+    add-at
+    loop-less
+    loop-again
+    returns-2)

@@ -26,8 +26,12 @@ add-first c =
 
 blocks-too-wide-requires : tie.Need-blocks-too-wide-requires
 blocks-too-wide-requires c κs =
-    let s = c .before .before .before .before .before .before in
-    (omega (arith, c .before .band-nodes .ensures, c .band-blocks .ensures, band-length (s .args .band), s .pre .1), omega (arith, c .band-blocks .ensures, s .pre .2), s .pre .3, s .pre .4)
+    let s = c .before .before .before .before .before .before in (
+      omega (arith, c .before .band-nodes .ensures, c .band-blocks .ensures, band-length (s .args .band), s .pre .1),
+      omega (arith, c .band-blocks .ensures, s .pre .2),
+      s .pre .3,
+      s .pre .4,
+    )
 
 returns : tie.Need-returns
 returns c =
@@ -35,4 +39,12 @@ returns c =
     c .blocks-too-wide .ensures ∙ wide-band (s .args .state .now) (s .args .at) (s .args .band) _ _ (s .args .counts .now) (s .args .lengths .now) (s .args .marks .now) (ap (λ (k : ℕ). s .args .at + 6 * k) (c .before .before .band-nodes .ensures)) (c .before .band-blocks .ensures)
 
 pub band-too-wide-spec : {M : Type 1} → statement M
-band-too-wide-spec = tie.close (tie.spec band-nodes-requires band-blocks-requires mul-first add-first blocks-too-wide-requires returns)
+band-too-wide-spec =
+    tie.close
+    (tie.spec
+    band-nodes-requires
+    band-blocks-requires
+    mul-first
+    add-first
+    blocks-too-wide-requires
+    returns)

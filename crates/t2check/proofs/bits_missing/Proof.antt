@@ -26,4 +26,13 @@ returns-2 : tie.Need-returns-2
 returns-2 c = omega (arith, c .before .field-width .ensures, c .before .before .bit-length .ensures)
 
 pub bits-missing-spec : {M : Type 1} → statement M
-bits-missing-spec = tie.close (tie.spec bit-length-requires field-width-requires cast-if1 returns cast-result sub-result returns-2)
+bits-missing-spec =
+    tie.close
+    (tie.spec
+    bit-length-requires
+    field-width-requires
+    cast-if1
+    returns
+    cast-result
+    sub-result
+    returns-2)

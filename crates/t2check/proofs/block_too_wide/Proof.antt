@@ -30,4 +30,13 @@ returns c =
     block-wide-parts _ _ _ (segmentsOf (s .args .lengths .now) (s .args .marks .now)) _ (c .before .before .length-bits-before .ensures) (c .before .segment-increment .ensures) (c .any-field-too-wide .ensures)
 
 pub block-too-wide-spec : {M : Type 1} → statement M
-block-too-wide-spec = tie.close (tie.spec length-bits-before-requires segment-increment-requires cast-any-field-too-wide cast-any-field-too-wide-2 add-any-field-too-wide any-field-too-wide-requires returns)
+block-too-wide-spec =
+    tie.close
+    (tie.spec
+    length-bits-before-requires
+    segment-increment-requires
+    cast-any-field-too-wide
+    cast-any-field-too-wide-2
+    add-any-field-too-wide
+    any-field-too-wide-requires
+    returns)

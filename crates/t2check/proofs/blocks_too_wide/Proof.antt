@@ -21,8 +21,13 @@ abbrev μ-loop : tie.MeasureT-loop
 loop-holds : tie.Need-loop-holds Inv-loop μ-loop
 loop-holds c =
     let s = c .before .before .before .before in
-    let e : s .args .n - 0 ≡ s .args .n = omega arith in
-    (omega arith, omega arith, omega arith, s .pre .3, ap (λ (k : ℕ). wideFrom (s .args .state .now) (s .args .at) k (s .args .counts .now) (s .args .lengths .now) (s .args .marks .now)) e)
+    let e : s .args .n - 0 ≡ s .args .n = omega arith in (
+      omega arith,
+      omega arith,
+      omega arith,
+      s .pre .3,
+      ap (λ (k : ℕ). wideFrom (s .args .state .now) (s .args .at) k (s .args .counts .now) (s .args .lengths .now) (s .args .marks .now)) e,
+    )
 
 mul-count : tie.Need-mul-count Inv-loop μ-loop
 mul-count c = omega (arith, c .before .before .before .before .before .before .pre .1)
@@ -123,8 +128,10 @@ block-too-wide-requires : tie.Need-block-too-wide-requires Inv-loop μ-loop
 block-too-wide-requires c κs =
     let s = c .before .before .before .before .before .before .before .before .before .before .before in
     let l = c .before .before .before .before .before .before .loop in
-    let k = sum-turn (s .args .counts .now) (l .i) (omega (arith, s .pre .1)) in
-    (part-lists (s .args .lengths .now) (s .args .marks .now) (l .from) (l .from + getD (s .args .counts .now) (l .i) 0) _ refl (omega (arith, k, l .inv .2, s .pre .2 .0)) (s .pre .2 .1) (omega (arith, c .before .before .before .before .shared-slice-known5 .given (l .i))), none-long-here (s .args .counts .now) (s .args .lengths .now) (s .args .marks .now) (l .i) (l .from) (l .from + getD (s .args .counts .now) (l .i) 0) (omega (arith, s .pre .1)) refl (l .inv .3) .0)
+    let k = sum-turn (s .args .counts .now) (l .i) (omega (arith, s .pre .1)) in (
+      part-lists (s .args .lengths .now) (s .args .marks .now) (l .from) (l .from + getD (s .args .counts .now) (l .i) 0) _ refl (omega (arith, k, l .inv .2, s .pre .2 .0)) (s .pre .2 .1) (omega (arith, c .before .before .before .before .shared-slice-known5 .given (l .i))),
+      none-long-here (s .args .counts .now) (s .args .lengths .now) (s .args .marks .now) (l .i) (l .from) (l .from + getD (s .args .counts .now) (l .i) 0) (omega (arith, s .pre .1)) refl (l .inv .3) .0,
+    )
 
 returns : tie.Need-returns Inv-loop μ-loop
 returns c =
@@ -148,8 +155,13 @@ loop-again : tie.Need-loop-again Inv-loop μ-loop
 loop-again c =
     let s = c .before .before .before .before .before .before .before .before .before .before .before .before .before in
     let l = c .before .before .before .before .before .before .before .before .loop in
-    let k = sum-turn (s .args .counts .now) (l .i) (omega (arith, s .pre .1)) in
-    (omega arith, omega (arith, l .inv .1), omega (arith, k, l .inv .2), none-long-here (s .args .counts .now) (s .args .lengths .now) (s .args .marks .now) (l .i) (l .from) (l .from + getD (s .args .counts .now) (l .i) 0) (omega (arith, s .pre .1)) refl (l .inv .3) .1, sym (wide-turn (s .args .state .now) (s .args .counts .now) (s .args .lengths .now) (s .args .marks .now) (s .args .n) (l .i) (l .block) (l .from) (l .from + getD (s .args .counts .now) (l .i) 0) false (omega arith) (s .pre .1) refl (sym (c .if1 .left) ∙ c .before .block-too-wide .ensures)) ∙ l .inv .4)
+    let k = sum-turn (s .args .counts .now) (l .i) (omega (arith, s .pre .1)) in (
+      omega arith,
+      omega (arith, l .inv .1),
+      omega (arith, k, l .inv .2),
+      none-long-here (s .args .counts .now) (s .args .lengths .now) (s .args .marks .now) (l .i) (l .from) (l .from + getD (s .args .counts .now) (l .i) 0) (omega (arith, s .pre .1)) refl (l .inv .3) .1,
+      sym (wide-turn (s .args .state .now) (s .args .counts .now) (s .args .lengths .now) (s .args .marks .now) (s .args .n) (l .i) (l .block) (l .from) (l .from + getD (s .args .counts .now) (l .i) 0) false (omega arith) (s .pre .1) refl (sym (c .if1 .left) ∙ c .before .block-too-wide .ensures)) ∙ l .inv .4,
+    )
 
 returns-2 : tie.Need-returns-2 Inv-loop μ-loop
 returns-2 c =
@@ -158,4 +170,32 @@ returns-2 c =
     sym (wide-end (s .args .state .now) (s .args .counts .now) (s .args .lengths .now) (s .args .marks .now) (s .args .n) (l .i) (l .block) (l .from) (omega arith)) ∙ l .inv .4
 
 pub blocks-too-wide-spec : {M : Type 1} → statement M
-blocks-too-wide-spec = tie.close (tie.spec Inv-loop μ-loop loop-holds mul-count shared-slice-read-count cast-count add-to mul-so-far shared-slice-read-so-far add-length-bits mul-length-bits shared-slice-read-length-bits mul-block-too-wide sub-block-too-wide part-block-too-wide-start part-block-too-wide-end sub-block-too-wide-2 part-block-too-wide-start-2 part-block-too-wide-end-2 block-too-wide-requires returns add-block add-i loop-less loop-again returns-2)
+blocks-too-wide-spec =
+    tie.close
+    (tie.spec
+    Inv-loop
+    μ-loop
+    loop-holds
+    mul-count
+    shared-slice-read-count
+    cast-count
+    add-to
+    mul-so-far
+    shared-slice-read-so-far
+    add-length-bits
+    mul-length-bits
+    shared-slice-read-length-bits
+    mul-block-too-wide
+    sub-block-too-wide
+    part-block-too-wide-start
+    part-block-too-wide-end
+    sub-block-too-wide-2
+    part-block-too-wide-start-2
+    part-block-too-wide-end-2
+    block-too-wide-requires
+    returns
+    add-block
+    add-i
+    loop-less
+    loop-again
+    returns-2)

@@ -44,7 +44,9 @@ returns c =
     let s = c .before .before .before .before .before .before .before .before .before in
     let v = c .before .before .before .before .bands-of in
     let b = bands-are (s .args .state .now) (length (s .args .state .now)) (s .pre) (getD (s .args .state .now) 1 0) (v .result) refl (v .ensures) in
-    contribution-parts (s .args .state .now) (contribution (s .args .counts .now) (s .args .lengths .now) (s .args .marks .now)) true _ _ _ (sym (c .if1 .taken) ∙ c .before .wrong-lists .ensures ∙ ap (λ (k : ℕ). wrongLists (contribution (s .args .counts .now) (s .args .lengths .now) (s .args .marks .now)) k) (c .before .before .num-blocks .ensures ∙ ap (λ (z : List Band). length (blocks z)) b)) refl refl refl
+    let p = (contribution (s .args .counts .now) (s .args .lengths .now) (s .args .marks .now)) in
+    let w = sym (c .if1 .taken) ∙ c .before .wrong-lists .ensures ∙ ap (λ (k : ℕ). wrongLists p k) (c .before .before .num-blocks .ensures ∙ ap (λ (z : List Band). length (blocks z)) b) in
+    contribution-parts (s .args .state .now) p true _ _ _ w refl refl refl
 
 any-count-over-164-requires : tie.Need-any-count-over-164-requires
 any-count-over-164-requires c κs = search needs
@@ -54,12 +56,13 @@ returns-2 c =
     let s = c .before .before .before .before .before .before .before .before .before .before .before in
     let v = c .before .before .before .before .before .before .bands-of in
     let b = bands-are (s .args .state .now) (length (s .args .state .now)) (s .pre) (getD (s .args .state .now) 1 0) (v .result) refl (v .ensures) in
-    contribution-parts (s .args .state .now) (contribution (s .args .counts .now) (s .args .lengths .now) (s .args .marks .now)) false true _ _ (sym (c .before .before .if1 .left) ∙ c .before .before .before .wrong-lists .ensures ∙ ap (λ (k : ℕ). wrongLists (contribution (s .args .counts .now) (s .args .lengths .now) (s .args .marks .now)) k) (c .before .before .before .before .num-blocks .ensures ∙ ap (λ (z : List Band). length (blocks z)) b)) (sym (c .if2 .taken) ∙ c .before .any-count-over-164 .ensures) refl refl
+    let p = (contribution (s .args .counts .now) (s .args .lengths .now) (s .args .marks .now)) in
+    let w = sym (c .before .before .if1 .left) ∙ c .before .before .before .wrong-lists .ensures ∙ ap (λ (k : ℕ). wrongLists p k) (c .before .before .before .before .num-blocks .ensures ∙ ap (λ (z : List Band). length (blocks z)) b) in
+    contribution-parts (s .args .state .now) p false true _ _ w (sym (c .if2 .taken) ∙ c .before .any-count-over-164 .ensures) refl refl
 
 segment-too-long-requires : tie.Need-segment-too-long-requires
 segment-too-long-requires c κs =
     let s = c .before .before .before .before .before .before .before .before .before .before .before in
-    let v = c .before .before .before .before .before .before .bands-of in
     let w = sym (c .before .before .before .wrong-lists .ensures) ∙ c .before .before .if1 .left in
     passes-left (contribution (s .args .counts .now) (s .args .lengths .now) (s .args .marks .now)) _ w
 
@@ -68,29 +71,63 @@ returns-3 c =
     let s = c .before .before .before .before .before .before .before .before .before .before .before .before .before in
     let v = c .before .before .before .before .before .before .before .before .bands-of in
     let b = bands-are (s .args .state .now) (length (s .args .state .now)) (s .pre) (getD (s .args .state .now) 1 0) (v .result) refl (v .ensures) in
-    contribution-parts (s .args .state .now) (contribution (s .args .counts .now) (s .args .lengths .now) (s .args .marks .now)) false false true _ (sym (c .before .before .before .before .if1 .left) ∙ c .before .before .before .before .before .wrong-lists .ensures ∙ ap (λ (k : ℕ). wrongLists (contribution (s .args .counts .now) (s .args .lengths .now) (s .args .marks .now)) k) (c .before .before .before .before .before .before .num-blocks .ensures ∙ ap (λ (z : List Band). length (blocks z)) b)) (sym (c .before .before .if2 .left) ∙ c .before .before .before .any-count-over-164 .ensures) (sym (c .if3 .taken) ∙ c .before .segment-too-long .ensures) refl
+    let p = (contribution (s .args .counts .now) (s .args .lengths .now) (s .args .marks .now)) in
+    let w = sym (c .before .before .before .before .if1 .left) ∙ c .before .before .before .before .before .wrong-lists .ensures ∙ ap (λ (k : ℕ). wrongLists p k) (c .before .before .before .before .before .before .num-blocks .ensures ∙ ap (λ (z : List Band). length (blocks z)) b) in
+    let few = sym (c .before .before .if2 .left) ∙ c .before .before .before .any-count-over-164 .ensures in
+    contribution-parts (s .args .state .now) p false false true _ w few (sym (c .if3 .taken) ∙ c .before .segment-too-long .ensures) refl
 
 field-too-wide-requires : tie.Need-field-too-wide-requires
 field-too-wide-requires c κs =
     let s = c .before .before .before .before .before .before .before .before .before .before .before .before .before in
     let v = c .before .before .before .before .before .before .before .before .bands-of in
     let w = sym (c .before .before .before .before .before .wrong-lists .ensures) ∙ c .before .before .before .before .if1 .left in
-    let k = sides-are (s .args .state .now) (length (s .args .state .now)) (s .pre) (getD (s .args .state .now) 1 0) (v .result) refl (v .ensures) in
-    (k .0, k .1, length-is (s .args .state .now) (length (s .args .state .now)) (s .pre) (getD (s .args .state .now) 1 0) (v .result) refl (v .ensures), lists-right (contribution (s .args .counts .now) (s .args .lengths .now) (s .args .marks .now)) _ w .0 ∙ c .before .before .before .before .before .before .num-blocks .ensures, passes-left (contribution (s .args .counts .now) (s .args .lengths .now) (s .args .marks .now)) _ w, sym (c .before .segment-too-long .ensures) ∙ c .if3 .left)
+    let k = sides-are (s .args .state .now) (length (s .args .state .now)) (s .pre) (getD (s .args .state .now) 1 0) (v .result) refl (v .ensures) in (
+      k .0,
+      k .1,
+      length-is (s .args .state .now) (length (s .args .state .now)) (s .pre) (getD (s .args .state .now) 1 0) (v .result) refl (v .ensures),
+      lists-right (contribution (s .args .counts .now) (s .args .lengths .now) (s .args .marks .now)) _ w .0 ∙ c .before .before .before .before .before .before .num-blocks .ensures,
+      passes-left (contribution (s .args .counts .now) (s .args .lengths .now) (s .args .marks .now)) _ w,
+      sym (c .before .segment-too-long .ensures) ∙ c .if3 .left,
+    )
 
 returns-4 : tie.Need-returns-4
 returns-4 c =
     let s = c .before .before .before .before .before .before .before .before .before .before .before .before .before .before .before in
     let v = c .before .before .before .before .before .before .before .before .before .before .bands-of in
     let b = bands-are (s .args .state .now) (length (s .args .state .now)) (s .pre) (getD (s .args .state .now) 1 0) (v .result) refl (v .ensures) in
-    contribution-parts (s .args .state .now) (contribution (s .args .counts .now) (s .args .lengths .now) (s .args .marks .now)) false false false true (sym (c .before .before .before .before .before .before .if1 .left) ∙ c .before .before .before .before .before .before .before .wrong-lists .ensures ∙ ap (λ (k : ℕ). wrongLists (contribution (s .args .counts .now) (s .args .lengths .now) (s .args .marks .now)) k) (c .before .before .before .before .before .before .before .before .num-blocks .ensures ∙ ap (λ (z : List Band). length (blocks z)) b)) (sym (c .before .before .before .before .if2 .left) ∙ c .before .before .before .before .before .any-count-over-164 .ensures) (sym (c .before .before .if3 .left) ∙ c .before .before .before .segment-too-long .ensures) (sym (c .if4 .taken) ∙ c .before .field-too-wide .ensures ∙ ap (λ (z : List Band). fieldTooWide (s .args .state .now) (blocks z) (s .args .counts .now) (s .args .lengths .now) (s .args .marks .now)) b)
+    let p = (contribution (s .args .counts .now) (s .args .lengths .now) (s .args .marks .now)) in
+    let w = sym (c .before .before .before .before .before .before .if1 .left) ∙ c .before .before .before .before .before .before .before .wrong-lists .ensures ∙ ap (λ (k : ℕ). wrongLists p k) (c .before .before .before .before .before .before .before .before .num-blocks .ensures ∙ ap (λ (z : List Band). length (blocks z)) b) in
+    let few = sym (c .before .before .before .before .if2 .left) ∙ c .before .before .before .before .before .any-count-over-164 .ensures in
+    let short = sym (c .before .before .if3 .left) ∙ c .before .before .before .segment-too-long .ensures in
+    let wide = c .before .field-too-wide .ensures ∙ ap (λ (z : List Band). fieldTooWide (s .args .state .now) (blocks z) (s .args .counts .now) (s .args .lengths .now) (s .args .marks .now)) b in
+    contribution-parts (s .args .state .now) p false false false true w few short (sym (c .if4 .taken) ∙ wide)
 
 returns-5 : tie.Need-returns-5
 returns-5 c =
     let s = c .before .before .before .before .before .before .before .before .before .before .before .before .before .before .before in
     let v = c .before .before .before .before .before .before .before .before .before .before .bands-of in
     let b = bands-are (s .args .state .now) (length (s .args .state .now)) (s .pre) (getD (s .args .state .now) 1 0) (v .result) refl (v .ensures) in
-    contribution-parts (s .args .state .now) (contribution (s .args .counts .now) (s .args .lengths .now) (s .args .marks .now)) false false false false (sym (c .before .before .before .before .before .before .if1 .left) ∙ c .before .before .before .before .before .before .before .wrong-lists .ensures ∙ ap (λ (k : ℕ). wrongLists (contribution (s .args .counts .now) (s .args .lengths .now) (s .args .marks .now)) k) (c .before .before .before .before .before .before .before .before .num-blocks .ensures ∙ ap (λ (z : List Band). length (blocks z)) b)) (sym (c .before .before .before .before .if2 .left) ∙ c .before .before .before .before .before .any-count-over-164 .ensures) (sym (c .before .before .if3 .left) ∙ c .before .before .before .segment-too-long .ensures) (sym (c .if4 .left) ∙ c .before .field-too-wide .ensures ∙ ap (λ (z : List Band). fieldTooWide (s .args .state .now) (blocks z) (s .args .counts .now) (s .args .lengths .now) (s .args .marks .now)) b)
+    let p = (contribution (s .args .counts .now) (s .args .lengths .now) (s .args .marks .now)) in
+    let w = sym (c .before .before .before .before .before .before .if1 .left) ∙ c .before .before .before .before .before .before .before .wrong-lists .ensures ∙ ap (λ (k : ℕ). wrongLists p k) (c .before .before .before .before .before .before .before .before .num-blocks .ensures ∙ ap (λ (z : List Band). length (blocks z)) b) in
+    let few = sym (c .before .before .before .before .if2 .left) ∙ c .before .before .before .before .before .any-count-over-164 .ensures in
+    let short = sym (c .before .before .if3 .left) ∙ c .before .before .before .segment-too-long .ensures in
+    let wide = c .before .field-too-wide .ensures ∙ ap (λ (z : List Band). fieldTooWide (s .args .state .now) (blocks z) (s .args .counts .now) (s .args .lengths .now) (s .args .marks .now)) b in
+    contribution-parts (s .args .state .now) p false false false false w few short (sym (c .if4 .left) ∙ wide)
 
 pub contribution-refusal-spec : {M : Type 1} → statement M
-contribution-refusal-spec = tie.close (tie.spec bands-of-requires shared-slice-read-n cast-n num-blocks-requires wrong-lists-requires returns any-count-over-164-requires returns-2 segment-too-long-requires returns-3 field-too-wide-requires returns-4 returns-5)
+contribution-refusal-spec =
+    tie.close
+    (tie.spec
+    bands-of-requires
+    shared-slice-read-n
+    cast-n
+    num-blocks-requires
+    wrong-lists-requires
+    returns
+    any-count-over-164-requires
+    returns-2
+    segment-too-long-requires
+    returns-3
+    field-too-wide-requires
+    returns-4
+    returns-5)

@@ -100,8 +100,13 @@ band-too-wide-requires c κs =
     let g : length (s .args .t2) ≡ 3 = search needs in
     let b : Band = getD (s .args .t2) (l .i) noBand in
     let q = blocks-turn (s .args .t2) (s .args .n) (l .i) (l .first) (omega arith) (omega arith) in
-    let r = of-rests (λ (x y z : List ℕ). (blocksIn b ≤ length x) × PassesLeft x y z × (segmentTooLong x y z ≡ false)) (s .args .counts .now) (s .args .lengths .now) (s .args .marks .now) (l .first) (l .from) (omega (arith, q, l .inv .2, length-drop (l .first) (s .args .counts .now)), passes-left-behind (s .args .counts .now) (s .args .lengths .now) (s .args .marks .now) (l .first) (l .from) (l .inv .3) (s .pre .4), l .inv .4) in
-    (sides-of-first (s .args .t2) (s .args .n) (l .i) (omega arith) (omega arith) (s .pre .1), omega (arith, end-turn (s .args .t2) (s .args .n) (l .i) (l .at) (omega arith) (omega arith), l .inv .1, end-after (l .at + bandLength b) (drop (l .i + 1) (take (s .args .n) (s .args .t2)))), r .0, r .1, r .2)
+    let r = of-rests (λ (x y z : List ℕ). (blocksIn b ≤ length x) × PassesLeft x y z × (segmentTooLong x y z ≡ false)) (s .args .counts .now) (s .args .lengths .now) (s .args .marks .now) (l .first) (l .from) (omega (arith, q, l .inv .2, length-drop (l .first) (s .args .counts .now)), passes-left-behind (s .args .counts .now) (s .args .lengths .now) (s .args .marks .now) (l .first) (l .from) (l .inv .3) (s .pre .4), l .inv .4) in (
+      sides-of-first (s .args .t2) (s .args .n) (l .i) (omega arith) (omega arith) (s .pre .1),
+      omega (arith, end-turn (s .args .t2) (s .args .n) (l .i) (l .at) (omega arith) (omega arith), l .inv .1, end-after (l .at + bandLength b) (drop (l .i + 1) (take (s .args .n) (s .args .t2)))),
+      r .0,
+      r .1,
+      r .2,
+    )
 
 returns : tie.Need-returns Inv-loop μ-loop
 returns c =
@@ -202,10 +207,18 @@ loop-again c =
     let g : length (s .args .t2) ≡ 3 = search needs in
     let b : Band = getD (s .args .t2) (l .i) noBand in
     let q = blocks-turn (s .args .t2) (s .args .n) (l .i) (l .first) (omega arith) (omega arith) in
+    let ls : List ℕ = drop (l .from + c .before .total .result) (s .args .lengths .now) in
+    let ms : List ℕ = drop (l .from + c .before .total .result) (s .args .marks .now) in
     let size = ap (λ (z : ℕ). l .first + z) (c .before .before .before .band-blocks .ensures) in
     let p = passes-here (s .args .counts .now) b (l .first) _ _ size (c .before .total .ensures) in
-    let rest : List Band = drop (l .i + 1) (take (s .args .n) (s .args .t2)) in
-    (omega arith, ap (λ (w : ℕ). endOf (l .at + w) rest) (c .band-length .ensures) ∙ end-turn (s .args .t2) (s .args .n) (l .i) (l .at) (omega arith) (omega arith) ∙ l .inv .1, omega (arith, c .before .before .before .band-blocks .ensures, q, l .inv .2), passes-behind-band (s .args .counts .now) (s .args .lengths .now) (s .args .marks .now) b (l .first) _ (l .from) _ size p (l .inv .3), none-long-behind-band (s .args .counts .now) (s .args .lengths .now) (s .args .marks .now) b (l .first) _ (l .from) _ size p (l .inv .4), ap (λ (w : ℕ). fieldTooWide (s .args .state .now) (blocksAt (l .at + w) rest) (drop (l .first + c .before .before .before .band-blocks .result) (s .args .counts .now)) (drop (l .from + c .before .total .result) (s .args .lengths .now)) (drop (l .from + c .before .total .result) (s .args .marks .now))) (c .band-length .ensures) ∙ sym (band-wide-turn (s .args .counts .now) (s .args .lengths .now) (s .args .marks .now) b (l .first) _ (l .from) _ size p (s .args .state .now) (l .at) _ _ false (next-band (s .args .t2) (s .args .n) (l .i) (omega arith) (omega arith)) (sym (c .before .before .before .before .if1 .left) ∙ c .before .before .before .before .before .band-too-wide .ensures ∙ on-rests (λ (x y z : List ℕ). fieldTooWide (s .args .state .now) (blocksFrom (l .at) b (blocksIn b) 0) x y z) (s .args .counts .now) (s .args .lengths .now) (s .args .marks .now) (l .first) (l .from))) ∙ l .inv .5)
+    let rest : List Band = drop (l .i + 1) (take (s .args .n) (s .args .t2)) in (
+      omega arith,
+      ap (λ (w : ℕ). endOf (l .at + w) rest) (c .band-length .ensures) ∙ end-turn (s .args .t2) (s .args .n) (l .i) (l .at) (omega arith) (omega arith) ∙ l .inv .1,
+      omega (arith, c .before .before .before .band-blocks .ensures, q, l .inv .2),
+      passes-behind-band (s .args .counts .now) (s .args .lengths .now) (s .args .marks .now) b (l .first) _ (l .from) _ size p (l .inv .3),
+      none-long-behind-band (s .args .counts .now) (s .args .lengths .now) (s .args .marks .now) b (l .first) _ (l .from) _ size p (l .inv .4),
+      ap (λ (w : ℕ). fieldTooWide (s .args .state .now) (blocksAt (l .at + w) rest) (drop (l .first + c .before .before .before .band-blocks .result) (s .args .counts .now)) ls ms) (c .band-length .ensures) ∙ sym (band-wide-turn (s .args .counts .now) (s .args .lengths .now) (s .args .marks .now) b (l .first) _ (l .from) _ size p (s .args .state .now) (l .at) _ _ false (next-band (s .args .t2) (s .args .n) (l .i) (omega arith) (omega arith)) (sym (c .before .before .before .before .if1 .left) ∙ c .before .before .before .before .before .band-too-wide .ensures ∙ on-rests (λ (x y z : List ℕ). fieldTooWide (s .args .state .now) (blocksFrom (l .at) b (blocksIn b) 0) x y z) (s .args .counts .now) (s .args .lengths .now) (s .args .marks .now) (l .first) (l .from))) ∙ l .inv .5,
+    )
 
 returns-2 : tie.Need-returns-2 Inv-loop μ-loop
 returns-2 c =
@@ -215,4 +228,38 @@ returns-2 c =
     sym (no-band-left (s .args .state .now) (l .at) (drop (l .first) (s .args .counts .now)) (drop (l .from) (s .args .lengths .now)) (drop (l .from) (s .args .marks .now))) ∙ ap (λ (k : List Band). fieldTooWide (s .args .state .now) (blocksAt (l .at) k) (drop (l .first) (s .args .counts .now)) (drop (l .from) (s .args .lengths .now)) (drop (l .from) (s .args .marks .now))) (sym z) ∙ l .inv .5
 
 pub field-too-wide-spec : {M : Type 1} → statement M
-field-too-wide-spec = tie.close (tie.spec Inv-loop μ-loop loop-holds mul-band array-copy-out-band mul-band-too-wide sub-band-too-wide part-band-too-wide-start part-band-too-wide-end mul-band-too-wide-2 sub-band-too-wide-2 part-band-too-wide-start-2 part-band-too-wide-end-2 sub-band-too-wide-3 part-band-too-wide-start-3 part-band-too-wide-end-3 band-too-wide-requires returns band-blocks-requires add-next mul-total sub-total part-total-start part-total-end total-requires add-from band-length-requires add-at add-i loop-less loop-again returns-2)
+field-too-wide-spec =
+    tie.close
+    (tie.spec
+    Inv-loop
+    μ-loop
+    loop-holds
+    mul-band
+    array-copy-out-band
+    mul-band-too-wide
+    sub-band-too-wide
+    part-band-too-wide-start
+    part-band-too-wide-end
+    mul-band-too-wide-2
+    sub-band-too-wide-2
+    part-band-too-wide-start-2
+    part-band-too-wide-end-2
+    sub-band-too-wide-3
+    part-band-too-wide-start-3
+    part-band-too-wide-end-3
+    band-too-wide-requires
+    returns
+    band-blocks-requires
+    add-next
+    mul-total
+    sub-total
+    part-total-start
+    part-total-end
+    total-requires
+    add-from
+    band-length-requires
+    add-at
+    add-i
+    loop-less
+    loop-again
+    returns-2)

@@ -44,4 +44,12 @@ returns-3 c =
     measure-parts (s .args .state .now) (s .args .scratch-len) (contribution (s .args .counts .now) (s .args .lengths .now) (s .args .marks .now)) true false _ (sym (not-false _ (c .before .before .before .if1 .left)) ∙ c .before .before .before .before .valid-state .ensures) (sym (ne-eqb _ _ (c .before .if2 .left))) (c .contribution-refusal .ensures)
 
 pub measure-refusal-spec : {M : Type 1} → statement M
-measure-refusal-spec = tie.close (tie.spec valid-state-requires returns shared-slice-read-if2 returns-2 contribution-refusal-requires returns-3)
+measure-refusal-spec =
+    tie.close
+    (tie.spec
+    valid-state-requires
+    returns
+    shared-slice-read-if2
+    returns-2
+    contribution-refusal-requires
+    returns-3)

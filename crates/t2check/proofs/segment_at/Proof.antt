@@ -52,8 +52,12 @@ loop-less c = omega arith
 loop-again : tie.Need-loop-again Inv-loop μ-loop
 loop-again c =
     let s = c .before .before .before .before .before in
-    let l = c .before .before .before .before .loop in
-    (omega arith, omega arith, omega (arith, c .before .before .shared-slice-known .given (l .i)), pass-stays (s .args .lengths .now) (s .args .marks .now) (l .i) (l .passes) (l .bytes) (omega arith) (s .pre .0 .0) (eq-eqb _ _ (c .if1 .left)) ∙ l .inv .3)
+    let l = c .before .before .before .before .loop in (
+      omega arith,
+      omega arith,
+      omega (arith, c .before .before .shared-slice-known .given (l .i)),
+      pass-stays (s .args .lengths .now) (s .args .marks .now) (l .i) (l .passes) (l .bytes) (omega arith) (s .pre .0 .0) (eq-eqb _ _ (c .if1 .left)) ∙ l .inv .3,
+    )
 
 returns-2 : tie.Need-returns-2 Inv-loop μ-loop
 returns-2 c =
@@ -62,4 +66,20 @@ returns-2 c =
     no-pass-left (s .args .lengths .now) (s .args .marks .now) (l .i) (l .passes) (l .bytes) (omega arith) ∙ l .inv .3
 
 pub segment-at-spec : {M : Type 1} → statement M
-segment-at-spec = tie.close (tie.spec Inv-loop μ-loop loop-holds mul-one shared-slice-read-one cast-one add-passes add-bytes shared-slice-read-if1 returns add-i loop-less loop-again returns-2)
+segment-at-spec =
+    tie.close
+    (tie.spec
+    Inv-loop
+    μ-loop
+    loop-holds
+    mul-one
+    shared-slice-read-one
+    cast-one
+    add-passes
+    add-bytes
+    shared-slice-read-if1
+    returns
+    add-i
+    loop-less
+    loop-again
+    returns-2)

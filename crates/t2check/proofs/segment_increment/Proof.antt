@@ -61,8 +61,11 @@ loop-again : tie.Need-loop-again Inv-loop μ-loop
 loop-again c =
     let s = c .before .before .before .before .before .before .before .before .before in
     let l = c .before .before .before .before .before .before .loop in
-    let n = next-segment (s .args .lengths .now) (s .args .marks .now) (l .at) _ _ (omega arith) (omega arith) (c .before .before .before .before .segment-at .ensures) in
-    (n .enough, omega (arith, c .before .opj-uint-max .ensures, c .before .before .bits-missing .ensures, increment-turn (s .args .length-bits) (l .most) _ _ _ (n .is), l .inv .1), first-not-long _ _ _ (n .is) (l .inv .2) .1)
+    let n = next-segment (s .args .lengths .now) (s .args .marks .now) (l .at) _ _ (omega arith) (omega arith) (c .before .before .before .before .segment-at .ensures) in (
+      n .enough,
+      omega (arith, c .before .opj-uint-max .ensures, c .before .before .bits-missing .ensures, increment-turn (s .args .length-bits) (l .most) _ _ _ (n .is), l .inv .1),
+      first-not-long _ _ _ (n .is) (l .inv .2) .1,
+    )
 
 returns : tie.Need-returns Inv-loop μ-loop
 unfolding increment
@@ -74,4 +77,18 @@ returns c =
     omega arith
 
 pub segment-increment-spec : {M : Type 1} → statement M
-segment-increment-spec = tie.close (tie.spec Inv-loop μ-loop loop-holds segment-at-requires cast-bytes bits-missing-requires opj-uint-max-requires cast-at add-at loop-less loop-again returns)
+segment-increment-spec =
+    tie.close
+    (tie.spec
+    Inv-loop
+    μ-loop
+    loop-holds
+    segment-at-requires
+    cast-bytes
+    bits-missing-requires
+    opj-uint-max-requires
+    cast-at
+    add-at
+    loop-less
+    loop-again
+    returns)

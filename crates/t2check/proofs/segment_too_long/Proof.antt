@@ -108,8 +108,11 @@ loop-again : tie.Need-loop-again Inv-loop μ-loop
 loop-again c =
     let s = c .before .before .before .before .before .before .before .before .before .before in
     let l = c .before .before .before .before .before .before .loop in
-    let k = sum-turn (s .args .counts .now) (l .i) (omega arith) in
-    (omega arith, omega (arith, k, l .inv .1), sym (long-turn (s .args .counts .now) (s .args .lengths .now) (s .args .marks .now) (l .i) (l .from) (l .from + getD (s .args .counts .now) (l .i) 0) false (omega arith) refl (sym (c .if1 .left) ∙ c .before .any-segment-too-long .ensures)) ∙ l .inv .2)
+    let k = sum-turn (s .args .counts .now) (l .i) (omega arith) in (
+      omega arith,
+      omega (arith, k, l .inv .1),
+      sym (long-turn (s .args .counts .now) (s .args .lengths .now) (s .args .marks .now) (l .i) (l .from) (l .from + getD (s .args .counts .now) (l .i) 0) false (omega arith) refl (sym (c .if1 .left) ∙ c .before .any-segment-too-long .ensures)) ∙ l .inv .2,
+    )
 
 returns-2 : tie.Need-returns-2 Inv-loop μ-loop
 returns-2 c =
@@ -118,4 +121,26 @@ returns-2 c =
     sym (long-end (s .args .counts .now) (s .args .lengths .now) (s .args .marks .now) (l .i) (l .from) (omega arith)) ∙ l .inv .2
 
 pub segment-too-long-spec : {M : Type 1} → statement M
-segment-too-long-spec = tie.close (tie.spec Inv-loop μ-loop loop-holds mul-count shared-slice-read-count cast-count add-to mul-any-segment-too-long sub-any-segment-too-long part-any-segment-too-long-start part-any-segment-too-long-end sub-any-segment-too-long-2 part-any-segment-too-long-start-2 part-any-segment-too-long-end-2 any-segment-too-long-requires returns add-i loop-less loop-again returns-2)
+segment-too-long-spec =
+    tie.close
+    (tie.spec
+    Inv-loop
+    μ-loop
+    loop-holds
+    mul-count
+    shared-slice-read-count
+    cast-count
+    add-to
+    mul-any-segment-too-long
+    sub-any-segment-too-long
+    part-any-segment-too-long-start
+    part-any-segment-too-long-end
+    sub-any-segment-too-long-2
+    part-any-segment-too-long-start-2
+    part-any-segment-too-long-end-2
+    any-segment-too-long-requires
+    returns
+    add-i
+    loop-less
+    loop-again
+    returns-2)

@@ -48,4 +48,17 @@ returns c =
     omega (arith, sum-end (s .list .now) (l .i) (omega arith), l .inv .2)
 
 pub total-spec : {M : Type 1} → statement M
-total-spec = tie.close (tie.spec Inv-loop μ-loop loop-holds mul-one shared-slice-read-one cast-one add-all add-i loop-less loop-again returns)
+total-spec =
+    tie.close
+    (tie.spec
+    Inv-loop
+    μ-loop
+    loop-holds
+    mul-one
+    shared-slice-read-one
+    cast-one
+    add-all
+    add-i
+    loop-less
+    loop-again
+    returns)
