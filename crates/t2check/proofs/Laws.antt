@@ -1,0 +1,6 @@
+pub mod Segments
+pub mod Lists
+pub mod BlocksLeft
+pub mod ScratchLength
+pub mod RefusalParts
+pub mod NotRefused

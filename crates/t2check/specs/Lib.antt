@@ -1,0 +1,2 @@
+pub mod FirstSegment
+pub mod Refusals

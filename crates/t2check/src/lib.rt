@@ -1,0 +1,342 @@
+// What turns a packet away before it is written (t2.rs): refusals 5, 6, 3, 7, 8 and 9, a block's segments one by one, and the widths of their length fields.
+ghost use mathlib.Core.Path.{_≡_};
+ghost use mathlib.Core.Bool.{cond, true, false};
+ghost use Prim.Native.Nat.{_+_, _-_, _*_, _≤_};
+ghost use lib.ListN.{length, take, drop};
+ghost use lib.Dec.{ltb, eqb};
+ghost use Rattle.t800.specs.Base.{any, sum};
+ghost use Rattle.t800.specs.Segments.{segmentsOf, width, bitLength, increment};
+ghost use Rattle.t800.specs.State.{writer, blocks, blocksFrom, blocksIn, bandLength, stateLength};
+ghost use Rattle.t800.specs.Ranges.{validState};
+ghost use Rattle.t800.specs.WriteHeader.{segmentTooLong, fieldTooWide};
+ghost use Rattle.t800.specs.Packet.{wrongLists};
+ghost use Rattle.tcd.specs.Geometry.{SidesUpTo64, AllUpTo64};
+ghost use Rattle.t2check.specs.FirstSegment.{segment, firstSegment, PassLists};
+ghost use Rattle.t2check.specs.Refusals.{contribution, anyTooLong, anyTooWide, blockTooWide, wideFrom, PassesLeft, contributionRefusal, measureRefusalFor};
+use t800::Band;
+
+// ---- the lists (3)
+
+fn total(list: &[u32]) -> u64
+    requires { ⌜ length (now list) ≤ 4294967296 ⌝ }
+    ensures { λ r. ⌜ r ≡ sum (now (list .entry)) ⌝ }
+{
+    let mut all: u64 = 0;
+    let mut i: usize = 0;
+    while i < list.len() {
+        let one = list[i] as u64;
+        all += one;
+        i += 1;
+    }
+    all
+}
+
+// The body's bytes.
+pub fn sum_lengths(lengths: &[u32]) -> u64
+    requires { ⌜ length (now lengths) ≤ 4294967296 ⌝ }
+    ensures { λ r. ⌜ r ≡ sum (now (lengths .entry)) ⌝ }
+{
+    total(lengths)
+}
+
+fn wrong_lists(blocks: usize, counts: &[u32], lengths: &[u32], marks: &[u8]) -> bool
+    requires { ⌜ blocks ≤ 12288 ⌝ }
+    ensures { λ r. ⌜ r ≡ wrongLists (contribution (now (counts .entry)) (now (lengths .entry)) (now (marks .entry))) blocks ⌝ }
+{
+    if counts.len() != blocks {
+        return true;
+    }
+    let passes = total(counts);
+    if lengths.len() as u64 != passes {
+        return true;
+    }
+    marks.len() as u64 != passes
+}
+
+// ---- the pass counts (7)
+
+fn any_count_over_164(counts: &[u32]) -> bool
+    ensures { λ r. ⌜ r ≡ any (λ c. ltb 164 c) (now (counts .entry)) ⌝ }
+{
+    let mut i: usize = 0;
+    while i < counts.len() {
+        if 164 < counts[i] {
+            return true;
+        }
+        i += 1;
+    }
+    false
+}
+
+// ---- one block's segments
+
+// Passes that one length field stands for.
+pub struct CodedSegment {
+    pub passes: u32,
+    pub bytes: u64,
+}
+
+// The segment that begins at a pass: up to the first terminated one, or the last.
+pub fn segment_at(lengths: &[u32], marks: &[u8], at: usize) -> CodedSegment
+    requires { ⌜ PassLists (now lengths) (now marks) × (at ≤ length (now lengths)) ⌝ }
+    ensures { λ r. ⌜ segment (r .passes) (r .bytes) ≡ firstSegment (drop at (now (lengths .entry))) (drop at (now (marks .entry))) ⌝ }
+{
+    let mut passes: u32 = 0;
+    let mut bytes: u64 = 0;
+    let mut i = at;
+    while i < lengths.len() {
+        let one = lengths[i] as u64;
+        passes += 1;
+        bytes += one;
+        if marks[i] != 0 {
+            return CodedSegment { passes, bytes };
+        }
+        i += 1;
+    }
+    CodedSegment { passes, bytes }
+}
+
+fn any_segment_too_long(lengths: &[u32], marks: &[u8]) -> bool
+    requires { ⌜ PassLists (now lengths) (now marks) ⌝ }
+    ensures { λ r. ⌜ r ≡ anyTooLong (segmentsOf (now (lengths .entry)) (now (marks .entry))) ⌝ }
+{
+    let mut at: usize = 0;
+    while at < lengths.len() {
+        let s = segment_at(lengths, marks, at);
+        if 0x8000_0000 <= s.bytes {
+            return true;
+        }
+        at += s.passes as usize;
+    }
+    false
+}
+
+// ---- widths
+
+// The sum of a block's length bits and an increment may pass 32 bits: nothing here asks how large they are.
+pub fn field_width(length_bits: u64, passes: u32) -> u64
+    requires { ⌜ «length_bits» ≤ 8589934592 ⌝ }
+    ensures { λ r. ⌜ r ≡ width «length_bits» passes ⌝ }
+{
+    let log = math::opj_uint_floorlog2(passes);
+    length_bits + log as u64
+}
+
+fn bit_length(bytes: u32) -> u32
+    ensures { λ r. ⌜ r ≡ bitLength bytes ⌝ }
+{
+    let log = math::opj_uint_floorlog2(bytes);
+    1 + log
+}
+
+// The bits by which a segment's length is wider than its field.
+fn bits_missing(bytes: u32, passes: u32, length_bits: u32) -> u32
+    ensures { λ r. ⌜ r ≡ bitLength bytes - width «length_bits» passes ⌝ }
+{
+    let bits = bit_length(bytes);
+    let given = field_width(length_bits as u64, passes);
+    if bits as u64 <= given {
+        return 0;
+    }
+    bits - given as u32
+}
+
+// The increment of a block's length bits.
+pub fn segment_increment(lengths: &[u32], marks: &[u8], length_bits: u32) -> u32
+    requires { ⌜ PassLists (now lengths) (now marks) × (anyTooLong (segmentsOf (now lengths) (now marks)) ≡ false) ⌝ }
+    ensures { λ r. ⌜ r ≡ increment «length_bits» (segmentsOf (now (lengths .entry)) (now (marks .entry))) ⌝ }
+{
+    let mut most: u32 = 0;
+    let mut at: usize = 0;
+    while at < lengths.len() {
+        let s = segment_at(lengths, marks, at);
+        let bytes = s.bytes as u32;
+        let missing = bits_missing(bytes, s.passes, length_bits);
+        most = math::opj_uint_max(most, missing);
+        at += s.passes as usize;
+    }
+    most
+}
+
+fn any_field_too_wide(lengths: &[u32], marks: &[u8], length_bits: u64) -> bool
+    requires { ⌜ PassLists (now lengths) (now marks) × («length_bits» ≤ 8589934592) ⌝ }
+    ensures { λ r. ⌜ r ≡ anyTooWide «length_bits» (segmentsOf (now (lengths .entry)) (now (marks .entry))) ⌝ }
+{
+    let mut at: usize = 0;
+    while at < lengths.len() {
+        let s = segment_at(lengths, marks, at);
+        if 32 < field_width(length_bits, s.passes) {
+            return true;
+        }
+        at += s.passes as usize;
+    }
+    false
+}
+
+// A block's length bits as the packet begins.
+pub fn length_bits_before(so_far: u32, length_bits: u32) -> u32
+    ensures { λ r. ⌜ r ≡ cond (eqb «so_far» 0) 3 «length_bits» ⌝ }
+{
+    if so_far == 0 { 3 } else { length_bits }
+}
+
+fn block_too_wide(so_far: u32, length_bits: u32, lengths: &[u32], marks: &[u8]) -> bool
+    requires { ⌜ PassLists (now lengths) (now marks) × (anyTooLong (segmentsOf (now lengths) (now marks)) ≡ false) ⌝ }
+    ensures { λ r. ⌜ r ≡ blockTooWide (cond (eqb «so_far» 0) 3 «length_bits») (segmentsOf (now (lengths .entry)) (now (marks .entry))) ⌝ }
+{
+    let before = length_bits_before(so_far, length_bits);
+    let more = segment_increment(lengths, marks, before);
+    any_field_too_wide(lengths, marks, before as u64 + more as u64)
+}
+
+// ---- all blocks' segments (8)
+
+fn segment_too_long(counts: &[u32], lengths: &[u32], marks: &[u8]) -> bool
+    requires { ⌜ PassesLeft (now counts) (now lengths) (now marks) ⌝ }
+    ensures { λ r. ⌜ r ≡ segmentTooLong (now (counts .entry)) (now (lengths .entry)) (now (marks .entry)) ⌝ }
+{
+    let mut from: usize = 0;
+    let mut i: usize = 0;
+    while i < counts.len() {
+        let count = counts[i] as usize;
+        let to = from + count;
+        if any_segment_too_long(&lengths[from..to], &marks[from..to]) {
+            return true;
+        }
+        from = to;
+        i += 1;
+    }
+    false
+}
+
+// ---- all blocks' widths (9)
+
+// n blocks whose words begin at `at`. The lists are those of these blocks and any behind them.
+fn blocks_too_wide(
+    state: &[u32],
+    at: usize,
+    n: usize,
+    counts: &[u32],
+    lengths: &[u32],
+    marks: &[u8],
+) -> bool
+    requires { ⌜ (at + 4 * n ≤ length (now state)) × (n ≤ length (now counts)) × PassesLeft (now counts) (now lengths) (now marks) × (segmentTooLong (now counts) (now lengths) (now marks) ≡ false) ⌝ }
+    ensures { λ r. ⌜ r ≡ wideFrom (now (state .entry)) at n (now (counts .entry)) (now (lengths .entry)) (now (marks .entry)) ⌝ }
+{
+    let mut block = at;
+    let mut from: usize = 0;
+    let mut i: usize = 0;
+    while i < n {
+        let count = counts[i] as usize;
+        let to = from + count;
+        let so_far = state[block];
+        let length_bits = state[block + 1];
+        if block_too_wide(so_far, length_bits, &lengths[from..to], &marks[from..to]) {
+            return true;
+        }
+        block += 4;
+        from = to;
+        i += 1;
+    }
+    false
+}
+
+fn band_too_wide(
+    state: &[u32],
+    at: usize,
+    band: Band,
+    counts: &[u32],
+    lengths: &[u32],
+    marks: &[u8],
+) -> bool
+    requires { ⌜ SidesUpTo64 band × (at + bandLength band ≤ length (now state)) × (blocksIn band ≤ length (now counts)) × PassesLeft (now counts) (now lengths) (now marks) × (segmentTooLong (now counts) (now lengths) (now marks) ≡ false) ⌝ }
+    ensures { λ r. ⌜ r ≡ fieldTooWide (now (state .entry)) (blocksFrom at band (blocksIn band) 0) (now (counts .entry)) (now (lengths .entry)) (now (marks .entry)) ⌝ }
+{
+    let nodes = tcd::band_nodes(band);
+    let size = tcd::band_blocks(band);
+    let first = at + 6 * nodes;
+    blocks_too_wide(state, first, size, counts, lengths, marks)
+}
+
+fn field_too_wide(
+    state: &[u32],
+    bands: [Band; 3],
+    n: usize,
+    counts: &[u32],
+    lengths: &[u32],
+    marks: &[u8],
+) -> bool
+    requires { ⌜ (n ≤ 3) × AllUpTo64 (take n bands) × (length (now state) ≡ stateLength (take n bands)) × (length (now counts) ≡ length (blocks (take n bands))) × PassesLeft (now counts) (now lengths) (now marks) × (segmentTooLong (now counts) (now lengths) (now marks) ≡ false) ⌝ }
+    ensures { λ r. ⌜ r ≡ fieldTooWide (now (state .entry)) (blocks (take n bands)) (now (counts .entry)) (now (lengths .entry)) (now (marks .entry)) ⌝ }
+{
+    let mut at: usize = 13;
+    let mut first: usize = 0;
+    let mut from: usize = 0;
+    let mut i: usize = 0;
+    while i < n {
+        let band = bands[i];
+        if band_too_wide(
+            state,
+            at,
+            band,
+            &counts[first..counts.len()],
+            &lengths[from..lengths.len()],
+            &marks[from..marks.len()],
+        ) {
+            return true;
+        }
+        let size = tcd::band_blocks(band);
+        let next = first + size;
+        let passes = total(&counts[first..next]);
+        from += passes as usize;
+        first = next;
+        let words = tcd::band_length(band);
+        at += words;
+        i += 1;
+    }
+    false
+}
+
+// ---- all of them
+
+// 3, 7, 8 and 9, of a state that 5 lets pass.
+fn contribution_refusal(state: &[u32], counts: &[u32], lengths: &[u32], marks: &[u8]) -> u32
+    requires { ⌜ validState writer (now state) (length (now state)) ≡ true ⌝ }
+    ensures { λ r. ⌜ r ≡ contributionRefusal (now (state .entry)) (contribution (now (counts .entry)) (now (lengths .entry)) (now (marks .entry))) ⌝ }
+{
+    let bands = tcdstate::bands_of(state);
+    let n = state[1] as usize;
+    let blocks = tcd::num_blocks(bands, n);
+    if wrong_lists(blocks, counts, lengths, marks) {
+        return 3;
+    }
+    if any_count_over_164(counts) {
+        return 7;
+    }
+    if segment_too_long(counts, lengths, marks) {
+        return 8;
+    }
+    if field_too_wide(state, bands, n, counts, lengths, marks) {
+        return 9;
+    }
+    0
+}
+
+// The refusal of measuring, or 0.
+pub fn measure_refusal(
+    state: &[u32],
+    scratch_len: usize,
+    counts: &[u32],
+    lengths: &[u32],
+    marks: &[u8],
+) -> u32
+    ensures { λ r. ⌜ r ≡ measureRefusalFor (now (state .entry)) «scratch_len» (contribution (now (counts .entry)) (now (lengths .entry)) (now (marks .entry))) ⌝ }
+{
+    if !tcdstate::valid_state(tcdstate::WRITER, state, scratch_len) {
+        return 5;
+    }
+    if state[3] == tcdstate::NOT_YET_INCLUDED {
+        return 6;
+    }
+    contribution_refusal(state, counts, lengths, marks)
+}
