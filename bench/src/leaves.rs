@@ -51,7 +51,7 @@ extern "C" {
     fn leafbench_raise(words: *mut u32, n: usize, src: *const u8, ns: usize, w: u32, h: u32) -> usize;
 }
 
-// ---- the crate's side, each as t2.rs calls it
+// ---- numbers: the crate's side
 
 #[inline(never)]
 fn crate_write(out: &mut [u8], values: &[u32], widths: &[u8]) -> usize {
@@ -76,6 +76,98 @@ fn crate_read(src: &[u8], values: &mut [u32], widths: &[u8]) -> usize {
         }
         opj_bio_inalign(&mut b);
         opj_bio_numbytes(&mut b) as usize
+    }
+}
+
+// ---- trees: some of one size, each at its own place
+
+// The bytes of some trees, each in its own part, and how many of them count.
+#[derive(Clone, PartialEq, Debug)]
+struct Bytes {
+    room: usize,
+    bytes: Vec<u8>,
+    len: Vec<usize>,
+}
+
+impl Bytes {
+    fn new(trees: usize, room: usize) -> Bytes {
+        Bytes { room, bytes: vec![0; trees * room], len: vec![0; trees] }
+    }
+    fn of(&self, tree: usize) -> &[u8] {
+        &self.bytes[tree * self.room..][..self.len[tree]]
+    }
+}
+
+// Words are value, low and known of each node, tree by tree. What `code` and `read` do is done threshold by threshold.
+trait Trees {
+    fn load(&mut self, words: &[u32]);
+    fn words(&self) -> Vec<u32>;
+    fn set(&mut self, values: &[u32]);
+    fn code(&mut self, thresholds: &[u32], out: &mut [Bytes]);
+    fn read(&mut self, thresholds: &[u32], src: &[Bytes], taken: &mut [usize]);
+    fn raise(&mut self, src: &Bytes, taken: &mut [usize]);
+}
+
+// ---- the crate's trees, each as t2.rs calls it
+
+struct CrateTrees {
+    trees: Vec<*mut opj_tgt_tree_t>,
+    leaves: u32,
+    nodes: usize,
+}
+
+impl CrateTrees {
+    fn new(trees: usize, side: u32) -> CrateTrees {
+        let create = |_| opj_tgt_create(side, side, &mut event::opj_event_mgr);
+        CrateTrees { trees: (0..trees).map(create).collect(), leaves: side * side, nodes: nodes(side, side) }
+    }
+}
+
+impl Drop for CrateTrees {
+    fn drop(&mut self) {
+        for t in &self.trees {
+            opj_tgt_destroy(*t);
+        }
+    }
+}
+
+impl Trees for CrateTrees {
+    fn load(&mut self, words: &[u32]) {
+        for (t, ws) in self.trees.iter().zip(words.chunks(3 * self.nodes)) {
+            for (i, k) in ws.chunks(3).enumerate() {
+                let node = unsafe { &mut *(**t).nodes.add(i) };
+                (node.value, node.low, node.known) = (k[0] as i32, k[1] as i32, k[2]);
+            }
+        }
+    }
+    fn words(&self) -> Vec<u32> {
+        let node = |t: *mut opj_tgt_tree_t, i: usize| unsafe { *(*t).nodes.add(i) };
+        let all = self.trees.iter().flat_map(|t| (0..self.nodes).map(move |i| node(*t, i)));
+        all.flat_map(|k| [k.value as u32, k.low as u32, k.known]).collect()
+    }
+    fn set(&mut self, values: &[u32]) {
+        for (t, vs) in self.trees.iter().zip(values.chunks(self.leaves as usize)) {
+            crate_set(*t, vs);
+        }
+    }
+    fn code(&mut self, thresholds: &[u32], out: &mut [Bytes]) {
+        for (top, o) in thresholds.iter().zip(out) {
+            for (i, part) in o.bytes.chunks_mut(o.room).enumerate() {
+                o.len[i] = crate_encode(self.trees[i], part, self.leaves, *top);
+            }
+        }
+    }
+    fn read(&mut self, thresholds: &[u32], src: &[Bytes], taken: &mut [usize]) {
+        for (top, s) in thresholds.iter().zip(src) {
+            for (i, t) in self.trees.iter().enumerate() {
+                taken[i] = crate_decode(*t, s.of(i), self.leaves, *top);
+            }
+        }
+    }
+    fn raise(&mut self, src: &Bytes, taken: &mut [usize]) {
+        for (i, t) in self.trees.iter().enumerate() {
+            taken[i] = crate_raise(*t, src.of(i), self.leaves);
+        }
     }
 }
 
@@ -128,6 +220,57 @@ fn crate_raise(t: *mut opj_tgt_tree_t, src: &[u8], leaves: u32) -> usize {
     }
 }
 
+// ---- our trees
+
+struct OurTrees {
+    words: Vec<u32>,
+    side: u32,
+    nodes: usize,
+}
+
+impl OurTrees {
+    fn new(trees: usize, side: u32) -> OurTrees {
+        let nodes = nodes(side, side);
+        OurTrees { words: vec![0; trees * 3 * nodes], side, nodes }
+    }
+}
+
+impl Trees for OurTrees {
+    fn load(&mut self, words: &[u32]) {
+        self.words.copy_from_slice(words);
+    }
+    fn words(&self) -> Vec<u32> {
+        self.words.clone()
+    }
+    fn set(&mut self, values: &[u32]) {
+        let leaves = (self.side * self.side) as usize;
+        for (ws, vs) in self.words.chunks_mut(3 * self.nodes).zip(values.chunks(leaves)) {
+            unsafe { leafbench_set(ws.as_mut_ptr(), ws.len(), self.side, self.side, vs.as_ptr(), vs.len()) };
+        }
+    }
+    fn code(&mut self, thresholds: &[u32], out: &mut [Bytes]) {
+        for (top, o) in thresholds.iter().zip(out) {
+            for (i, (ws, part)) in self.words.chunks_mut(3 * self.nodes).zip(o.bytes.chunks_mut(o.room)).enumerate() {
+                o.len[i] = unsafe { leafbench_encode(ws.as_mut_ptr(), ws.len(), part.as_mut_ptr(), part.len(), self.side, self.side, *top) };
+            }
+        }
+    }
+    fn read(&mut self, thresholds: &[u32], src: &[Bytes], taken: &mut [usize]) {
+        for (top, s) in thresholds.iter().zip(src) {
+            for (i, ws) in self.words.chunks_mut(3 * self.nodes).enumerate() {
+                let part = s.of(i);
+                taken[i] = unsafe { leafbench_decode(ws.as_mut_ptr(), ws.len(), part.as_ptr(), part.len(), self.side, self.side, *top) };
+            }
+        }
+    }
+    fn raise(&mut self, src: &Bytes, taken: &mut [usize]) {
+        for (i, ws) in self.words.chunks_mut(3 * self.nodes).enumerate() {
+            let part = src.of(i);
+            taken[i] = unsafe { leafbench_raise(ws.as_mut_ptr(), ws.len(), part.as_ptr(), part.len(), self.side, self.side) };
+        }
+    }
+}
+
 // ---- inputs
 
 struct Rng(u64);
@@ -141,42 +284,11 @@ impl Rng {
 }
 
 fn nodes(w: u32, h: u32) -> usize {
-    let (mut w, mut h, mut n) = (w, h, 0);
-    loop {
-        n += w * h;
-        if w * h <= 1 {
-            return n as usize;
-        }
-        w = (w + 1) / 2;
-        h = (h + 1) / 2;
-    }
+    let below = (w * h) as usize;
+    if below <= 1 { below } else { below + nodes((w + 1) / 2, (h + 1) / 2) }
 }
 
-fn fresh(n: usize) -> Vec<u32> {
-    (0..3 * n).map(|i| if i % 3 == 0 { 999 } else { 0 }).collect()
-}
-
-fn words_of(t: *mut opj_tgt_tree_t, n: usize) -> Vec<u32> {
-    (0..n)
-        .flat_map(|i| unsafe {
-            let k = *(*t).nodes.add(i);
-            [k.value as u32, k.low as u32, k.known]
-        })
-        .collect()
-}
-
-fn load(t: *mut opj_tgt_tree_t, words: &[u32]) {
-    for (i, k) in words.chunks(3).enumerate() {
-        unsafe {
-            let n = (*t).nodes.add(i);
-            (*n).value = k[0] as i32;
-            (*n).low = k[1] as i32;
-            (*n).known = k[2];
-        }
-    }
-}
-
-// Values and lows; `known` is the writer's alone.
+// Values and lows: `known` is the writer's alone, and the crate's reader sets it too.
 fn seen(words: &[u32]) -> Vec<u32> {
     words.chunks(3).flat_map(|k| [k[0], k[1]]).collect()
 }
@@ -188,110 +300,111 @@ struct Bench {
 }
 
 impl Bench {
-    // Interleaved rounds, best time a side; the preparations are not timed.
-    fn row(&self, name: &str, per: f64, mut pa: impl FnMut(), mut a: impl FnMut(), mut pb: impl FnMut(), mut b: impl FnMut()) {
+    // Rounds of the crate's side and ours in turn, the best time of each; `before` is not timed.
+    fn row(&self, name: &str, per: usize, mut before: impl FnMut(bool), mut run: impl FnMut(bool)) {
         if !name.contains(&self.pattern) {
             return;
         }
-        let (mut ta, mut tb) = (f64::MAX, f64::MAX);
+        let mut best = [f64::MAX; 2];
         let began = Instant::now();
         let mut rounds = 0;
         while rounds < 50 || (began.elapsed().as_millis() < 800 && rounds < 5000) {
-            pa();
-            let t = Instant::now();
-            a();
-            ta = ta.min(t.elapsed().as_nanos() as f64);
-            pb();
-            let t = Instant::now();
-            b();
-            tb = tb.min(t.elapsed().as_nanos() as f64);
+            for ours in [false, true] {
+                before(ours);
+                let t = Instant::now();
+                run(ours);
+                best[ours as usize] = best[ours as usize].min(t.elapsed().as_nanos() as f64);
+            }
             rounds += 1;
         }
-        println!("{:<44} crate {:8.2} ns   ours / crate {:.2}", name, ta / per, tb / ta);
+        println!("{:<52} {:8.2} ns   {:.2}", name, best[0] / per as f64, best[1] / best[0]);
     }
 
     fn bits(&self, rng: &mut Rng, top: u32) {
         let n = 20_000;
         let widths: Vec<u8> = (0..n).map(|_| 1 + rng.below(top) as u8).collect();
         let values: Vec<u32> = widths.iter().map(|w| (rng.below(u32::MAX) as u64 & ((1u64 << w) - 1)) as u32).collect();
-        let total: f64 = widths.iter().map(|w| *w as f64).sum();
-        let len = total as usize / 7 + 64;
-        let (mut x, mut y) = (vec![0u8; len], vec![0u8; len]);
-        let ours = |o: &mut [u8]| unsafe { leafbench_write(o.as_mut_ptr(), o.len(), values.as_ptr(), n, widths.as_ptr(), n) };
-        let size = crate_write(&mut x, &values, &widths);
-        assert_eq!(size, ours(&mut y), "bytes written");
-        assert_eq!(x, y, "written");
-        let src = x[..size].to_vec();
-        let (mut p, mut q) = (vec![0u32; n], vec![0u32; n]);
-        let take = |v: &mut [u32]| unsafe { leafbench_read(src.as_ptr(), src.len(), v.as_mut_ptr(), n, widths.as_ptr(), n) };
-        assert_eq!(crate_read(&src, &mut p, &widths), take(&mut q), "bytes read");
-        assert_eq!(p, values);
-        assert_eq!(q, values);
-        self.row(&format!("write widths 1 to {top}, a bit"), total, || (), || { crate_write(&mut x, &values, &widths); }, || (), || { ours(&mut y); });
-        self.row(&format!("read widths 1 to {top}, a bit"), total, || (), || { crate_read(&src, &mut p, &widths); }, || (), || { take(&mut q); });
+        let total: usize = widths.iter().map(|w| *w as usize).sum();
+        let mut out = vec![vec![0u8; total / 7 + 64]; 2];
+        let write = |ours: bool, out: &mut [u8]| match ours {
+            false => crate_write(out, &values, &widths),
+            true => unsafe { leafbench_write(out.as_mut_ptr(), out.len(), values.as_ptr(), n, widths.as_ptr(), n) },
+        };
+        let size = write(false, &mut out[0]);
+        assert_eq!(size, write(true, &mut out[1]), "bytes written");
+        assert_eq!(out[0], out[1], "written");
+        let src = out[0][..size].to_vec();
+        let mut got = vec![vec![0u32; n]; 2];
+        let read = |ours: bool, got: &mut [u32]| match ours {
+            false => crate_read(&src, got, &widths),
+            true => unsafe { leafbench_read(src.as_ptr(), src.len(), got.as_mut_ptr(), n, widths.as_ptr(), n) },
+        };
+        assert_eq!(read(false, &mut got[0]), read(true, &mut got[1]), "bytes read");
+        assert_eq!(got, [&values[..], &values[..]], "read");
+        let widths = if top == 1 { "width 1".to_string() } else { format!("widths 1 to {top}") };
+        self.row(&format!("write, {widths}, a bit"), total, |_| (), |ours| { write(ours, &mut out[ours as usize]); });
+        self.row(&format!("read, {widths}, a bit"), total, |_| (), |ours| { read(ours, &mut got[ours as usize]); });
     }
 
-    fn tree(&self, rng: &mut Rng, side: u32, what: &str, low: u32, high: u32, thresholds: &[u32]) {
-        let leaves = side * side;
-        let n = nodes(side, side);
-        let values: Vec<u32> = (0..leaves).map(|_| low + rng.below(high - low)).collect();
-        let mut mgr = event::opj_event_mgr;
-        let t = opj_tgt_create(side, side, &mut mgr);
-        let name = |verb: &str| format!("{verb} {side} x {side}, {what}, a leaf");
-        let empty = fresh(n);
-        let mut ours = empty.clone();
-        let set = |w: &mut Vec<u32>| unsafe { leafbench_set(w.as_mut_ptr(), w.len(), side, side, values.as_ptr(), values.len()) };
-        crate_set(t, &values);
-        set(&mut ours);
-        assert_eq!(words_of(t, n), ours, "set");
-        let started = ours.clone();
-        self.row(&name("set"), leaves as f64, || load(t, &empty), || crate_set(t, &values), || ours.copy_from_slice(&empty), || set(&mut ours));
-        // each threshold in turn, on the words that the last one left
-        let mut before = started.clone();
-        let mut input = empty.clone();
-        let (mut x, mut y) = (vec![0u8; 1 << 20], vec![0u8; 1 << 20]);
-        for top in thresholds {
-            let top = *top;
-            let encode = |w: &mut [u32], o: &mut [u8]| unsafe { leafbench_encode(w.as_mut_ptr(), w.len(), o.as_mut_ptr(), o.len(), side, side, top) };
-            load(t, &before);
-            ours.copy_from_slice(&before);
-            let size = crate_encode(t, &mut x, leaves, top);
-            assert_eq!(size, encode(&mut ours, &mut y), "bytes coded");
-            assert_eq!(x[..size], y[..size], "coded");
-            assert_eq!(words_of(t, n), ours, "words coded");
-            let after = ours.clone();
-            let src = x[..size].to_vec();
-            self.row(&name(&format!("code to {top}:")), leaves as f64, || load(t, &before), || { crate_encode(t, &mut x, leaves, top); }, || ours.copy_from_slice(&before), || { encode(&mut ours, &mut y); });
-            let decode = |w: &mut [u32]| unsafe { leafbench_decode(w.as_mut_ptr(), w.len(), src.as_ptr(), src.len(), side, side, top) };
-            load(t, &input);
-            ours.copy_from_slice(&input);
-            assert_eq!(crate_decode(t, &src, leaves, top), decode(&mut ours), "bytes read");
-            assert_eq!(seen(&words_of(t, n)), seen(&ours), "words read");
-            let read = ours.clone();
-            self.row(&name(&format!("read to {top}:")), leaves as f64, || load(t, &input), || { crate_decode(t, &src, leaves, top); }, || ours.copy_from_slice(&input), || { decode(&mut ours); });
-            if thresholds.len() == 1 {
-                let raise = |w: &mut [u32]| unsafe { leafbench_raise(w.as_mut_ptr(), w.len(), src.as_ptr(), src.len(), side, side) };
-                load(t, &empty);
-                ours.copy_from_slice(&empty);
-                assert_eq!(crate_raise(t, &src, leaves), raise(&mut ours), "bytes raised");
-                assert_eq!(seen(&words_of(t, n)), seen(&ours), "words raised");
-                self.row(&name("read by raising:"), leaves as f64, || load(t, &empty), || { crate_raise(t, &src, leaves); }, || ours.copy_from_slice(&empty), || { raise(&mut ours); });
-            }
-            before = after;
-            input = read;
+    // Values from `low` up to below `high`; coded and read threshold by threshold, on the words that the last one left.
+    fn trees(&self, rng: &mut Rng, side: u32, what: &str, low: u32, high: u32, thresholds: &[u32]) {
+        let leaves = (side * side) as usize;
+        let many = (1024 / leaves).max(1);
+        let values: Vec<u32> = (0..many * leaves).map(|_| low + rng.below(high - low)).collect();
+        let empty: Vec<u32> = (0..3 * many * nodes(side, side)).map(|i| if i % 3 == 0 { 999 } else { 0 }).collect();
+        let mut theirs = CrateTrees::new(many, side);
+        let mut ours = OurTrees::new(many, side);
+        let mut out = vec![vec![Bytes::new(many, 64 + 4 * leaves); thresholds.len()]; 2];
+        let mut taken = vec![vec![0; many]; 2];
+
+        theirs.load(&empty);
+        ours.load(&empty);
+        theirs.set(&values);
+        ours.set(&values);
+        let set = ours.words();
+        assert_eq!(theirs.words(), set, "words set");
+        theirs.code(thresholds, &mut out[0]);
+        ours.code(thresholds, &mut out[1]);
+        assert_eq!(out[0], out[1], "bytes coded");
+        assert_eq!(theirs.words(), ours.words(), "words coded");
+        let src = out[0].clone();
+        theirs.load(&empty);
+        ours.load(&empty);
+        theirs.read(thresholds, &src, &mut taken[0]);
+        ours.read(thresholds, &src, &mut taken[1]);
+        assert_eq!(taken[0], taken[1], "bytes read");
+        assert_eq!(seen(&theirs.words()), seen(&ours.words()), "words read");
+
+        let name = |verb: &str| format!("{verb}, {side} x {side}, {what}, a leaf");
+        let mut row = |verb: &str, steps: usize, before: &[u32], run: &mut dyn FnMut(&mut dyn Trees, usize)| {
+            let sides: [std::cell::RefCell<&mut dyn Trees>; 2] = [(&mut theirs as &mut dyn Trees).into(), (&mut ours as &mut dyn Trees).into()];
+            let side = |ours: bool| sides[ours as usize].borrow_mut();
+            self.row(&name(verb), steps * many * leaves, |o| side(o).load(before), |o| run(&mut **side(o), o as usize));
+        };
+        row("set", 1, &empty, &mut |t, _| t.set(&values));
+        row("code", thresholds.len(), &set, &mut |t, o| t.code(thresholds, &mut out[o]));
+        row("read", thresholds.len(), &empty, &mut |t, o| t.read(thresholds, &src, &mut taken[o]));
+        if thresholds.len() == 1 {
+            row("read by raising", 1, &empty, &mut |t, o| t.raise(&src[0], &mut taken[o]));
+            theirs.load(&empty);
+            ours.load(&empty);
+            theirs.raise(&src[0], &mut taken[0]);
+            ours.raise(&src[0], &mut taken[1]);
+            assert_eq!(taken[0], taken[1], "bytes raised");
+            assert_eq!(seen(&theirs.words()), seen(&ours.words()), "words raised");
         }
-        opj_tgt_destroy(t);
     }
 }
 
 fn main() {
     let bench = Bench { pattern: std::env::args().nth(1).unwrap_or_default() };
+    println!("{:<52} {:>11}   ours / crate's", "", "crate");
     let mut rng = Rng(0x2545_f491_4f6c_dd1d);
     for top in [1, 4, 12, 32] {
         bench.bits(&mut rng, top);
     }
     for side in [1, 8, 64] {
-        bench.tree(&mut rng, side, "inclusion layers 0 to 3", 0, 4, &[1, 2, 3, 4]);
-        bench.tree(&mut rng, side, "zero planes 4 to 11", 4, 12, &[999]);
+        bench.trees(&mut rng, side, "layers 0 to 3", 0, 4, &[1, 2, 3, 4]);
+        bench.trees(&mut rng, side, "zero planes 4 to 11", 4, 12, &[999]);
     }
 }
