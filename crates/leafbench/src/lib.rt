@@ -2,13 +2,16 @@
 ghost use mathlib.Core.Path.{_≡_};
 ghost use Prim.Native.Nat.{_+_, _-_, _*_, _/_, _≤_, _<_, min};
 ghost use lib.ListN.{length};
+ghost use Rattle.t800.specs.Bits.{bitsOf, readBits};
 ghost use Rattle.t800.specs.TagTree.{levels, nodes};
-ghost use Rattle.bio.specs.Writing.{output, FreeBitsClear};
+ghost use Rattle.bio.specs.Writing.{output, putBits, FreeBitsClear};
+ghost use Rattle.bio.specs.Reading.{decoded};
 ghost use Rattle.tgt.specs.Coding.{leafCoded};
 ghost use Rattle.tgt.specs.Reading.{pathRead};
 ghost use Rattle.leafbench.specs.Steps.{steps};
 ghost use Rattle.leafbench.specs.Numbers.{putNumber, written, writeAll, numbersRead, readNumber, allRead, readAll};
 ghost use Rattle.leafbench.specs.Trees.{setLeaf, codeLeaf, readLeaf, raiseLeaf, setOver, codeOver, readOver, raiseOver, RowIn, halved, TreeIn, isTree, set, setTree, coded, codeTree, read, readTree, raiseTree};
+use bio::Decoded;
 use t800::Bio;
 use t800::Level;
 
@@ -20,10 +23,21 @@ fn smaller(a: usize, b: usize) -> usize
     if a < b { a } else { b }
 }
 
-fn width(byte: u8) -> u32
-    ensures { λ r. ⌜ r ≡ min byte 32 ⌝ }
+fn wide(byte: u8) -> u32
+    ensures { λ r. ⌜ r ≡ byte ⌝ }
 {
-    if byte < 32 { byte as u32 } else { 32 }
+    byte as u32
+}
+
+fn write_number(out: &mut [u8], b: Bio, v: u32, width: u8) -> Bio
+    requires { ⌜ FreeBitsClear b ⌝ }
+    ensures { λ r. ⌜ output (now (out .exit)) r ≡ putBits (output (now (out .entry)) b) (bitsOf (min width 32) v) ⌝ }
+{
+    let n = wide(width);
+    if n < 32 {
+        return bio::opj_bio_write(out, b, v, n);
+    }
+    bio::opj_bio_write(out, b, v, 32)
 }
 
 fn write_numbers(out: &mut [u8], b: Bio, values: &[u32], widths: &[u8], n: usize) -> Bio
@@ -33,7 +47,7 @@ fn write_numbers(out: &mut [u8], b: Bio, values: &[u32], widths: &[u8], n: usize
     let mut bio = b;
     let mut i: usize = 0;
     while i < n {
-        bio = bio::opj_bio_write(out, bio, values[i], width(widths[i]));
+        bio = write_number(out, bio, values[i], widths[i]);
         i += 1;
     }
     bio
@@ -50,6 +64,17 @@ pub extern "C" fn leafbench_write(out: &mut [u8], values: &[u32], widths: &[u8])
     end.bp
 }
 
+fn read_number(src: &[u8], b: Bio, width: u8) -> Decoded
+    requires { ⌜ b .ct ≤ 8 ⌝ }
+    ensures { λ r. ⌜ decoded r ≡ readBits (now (src .entry)) (min width 32) b ⌝ }
+{
+    let n = wide(width);
+    if n < 32 {
+        return bio::opj_bio_read(src, b, n);
+    }
+    bio::opj_bio_read(src, b, 32)
+}
+
 fn read_numbers(src: &[u8], b: Bio, values: &mut [u32], widths: &[u8], n: usize) -> Bio
     requires { ⌜ (b .ct ≤ 8) × (n ≤ length (now values)) × (n ≤ length (now widths)) ⌝ }
     ensures { λ r. ⌜ numbersRead (now (values .exit)) r ≡ steps (readNumber (now (src .entry)) (now (widths .entry))) n 0 (numbersRead (now (values .entry)) b) ⌝ }
@@ -57,7 +82,7 @@ fn read_numbers(src: &[u8], b: Bio, values: &mut [u32], widths: &[u8], n: usize)
     let mut bio = b;
     let mut i: usize = 0;
     while i < n {
-        let r = bio::opj_bio_read(src, bio, width(widths[i]));
+        let r = read_number(src, bio, widths[i]);
         values[i] = r.value;
         bio = r.bio;
         i += 1;

@@ -27,20 +27,17 @@ abbrev μ-loop : tie.MeasureT-loop
 loop-holds : tie.Need-loop-holds Inv-loop μ-loop
 loop-holds c = let s = c .before .before .before in (s .pre .0, refl, omega arith, steps-all (readNumber (s .args .src .now) (s .args .widths .now)) (s .args .n) (numbersRead (s .args .values .now) (s .args .b)))
 
-shared-slice-read-width : tie.Need-shared-slice-read-width Inv-loop μ-loop
-shared-slice-read-width c = omega (arith, c .before .before .before .before .before .before .pre .2)
+shared-slice-read-read-number : tie.Need-shared-slice-read-read-number Inv-loop μ-loop
+shared-slice-read-read-number c = omega (arith, c .before .before .before .before .before .before .pre .2)
 
-width-requires : tie.Need-width-requires Inv-loop μ-loop
-width-requires c κs = search needs
-
-opj-bio-read-requires : tie.Need-opj-bio-read-requires Inv-loop μ-loop
-opj-bio-read-requires c κs = (c .before .before .before .loop .inv .0, omega (arith, c .width .ensures))
+read-number-requires : tie.Need-read-number-requires Inv-loop μ-loop
+read-number-requires c κs = c .before .before .loop .inv .0
 
 mul-values : tie.Need-mul-values Inv-loop μ-loop
 mul-values c = search needs
 
 slice-write-values : tie.Need-slice-write-values Inv-loop μ-loop
-slice-write-values c = omega (arith, c .before .before .before .before .before .before .before .before .pre .1, c .before .before .before .before .loop .inv .1)
+slice-write-values c = omega (arith, c .before .before .before .before .before .before .before .pre .1, c .before .before .before .loop .inv .1)
 
 add-i : tie.Need-add-i Inv-loop μ-loop
 add-i c = omega arith
@@ -49,19 +46,19 @@ loop-less : tie.Need-loop-less Inv-loop μ-loop
 loop-less c = omega arith
 
 loop-again : tie.Need-loop-again Inv-loop μ-loop
-loop-again c = let s = c .before .before .before .before .before .before .before .before .before in
-    let l = c .before .before .before .before .before .loop in
-    let r = c .before .opj-bio-read in
+loop-again c = let s = c .before .before .before .before .before .before .before .before in
+    let l = c .before .before .before .before .loop in
+    let r = c .before .read-number in
     let src = s .args .src .now in
     let ws = s .args .widths .now in
     let before = numbersRead (l .values) (l .bio) in
     let after = numbersRead (set (l .values) (l .i) (r .result .value)) (r .result .bio) in
-    let d : decoded (r .result) ≡ readBits src (widthAt ws (l .i)) (l .bio) = r .ensures ∙ ap (λ (n : ℕ). readBits src n (l .bio)) (c .before .before .width .ensures) in
+    let d : decoded (r .result) ≡ readBits src (widthAt ws (l .i)) (l .bio) = r .ensures in
     let e : after ≡ readNumber src ws (l .i) before = ap (λ (k : Decoded). numbersRead (set (l .values) (l .i) (k .value)) (k .bio)) d in (
       subst (λ (k : Decoded). k .bio .ct ≤ 8) (sym d) (readBits-ct src (widthAt ws (l .i)) (l .bio) (l .inv .0)),
       length-set (l .values) (l .i) (r .result .value) ∙ l .inv .1,
       omega arith,
-      steps-turn (readNumber src ws) (s .args .n) (l .i) before after (c .before .before .before .before .loop-test .taken) e ∙ l .inv .3,
+      steps-turn (readNumber src ws) (s .args .n) (l .i) before after (c .before .before .before .loop-test .taken) e ∙ l .inv .3,
     )
 
 same-length : tie.Need-same-length Inv-loop μ-loop
@@ -77,9 +74,8 @@ read-numbers-spec =
     Inv-loop
     μ-loop
     loop-holds
-    shared-slice-read-width
-    width-requires
-    opj-bio-read-requires
+    shared-slice-read-read-number
+    read-number-requires
     mul-values
     slice-write-values
     add-i

@@ -6,7 +6,7 @@ use Prim.Native.Nat.{ℕ, _-_, _≤_}
 use native.Mathlib.Omega.{arith}
 use lib.ListN.{length, getD}
 use Rattle.t800.specs.Bits.{bitsOf}
-use Rattle.bio.specs.Writing.{Output, output, putBits, FreeBitsClear}
+use Rattle.bio.specs.Writing.{Output, output, FreeBitsClear}
 use Rattle.bio.proofs.Laws.FreeBits.{putBits-clear}
 use Rattle.leafbench.specs.Steps.{steps}
 use Rattle.leafbench.specs.Numbers.{widthAt, putNumber}
@@ -27,20 +27,17 @@ abbrev μ-loop : tie.MeasureT-loop
 loop-holds : tie.Need-loop-holds Inv-loop μ-loop
 loop-holds c = let s = c .before .before .before in (s .pre .0, refl, omega arith, steps-all (putNumber (s .args .values .now) (s .args .widths .now)) (s .args .n) (output (s .args .out .now) (s .args .b)))
 
-mul-opj-bio-write : tie.Need-mul-opj-bio-write Inv-loop μ-loop
-mul-opj-bio-write c = search needs
+mul-write-number : tie.Need-mul-write-number Inv-loop μ-loop
+mul-write-number c = search needs
 
-shared-slice-read-opj-bio-write : tie.Need-shared-slice-read-opj-bio-write Inv-loop μ-loop
-shared-slice-read-opj-bio-write c = omega (arith, c .before .before .before .before .before .before .before .pre .1)
+shared-slice-read-write-number : tie.Need-shared-slice-read-write-number Inv-loop μ-loop
+shared-slice-read-write-number c = omega (arith, c .before .before .before .before .before .before .before .pre .1)
 
-shared-slice-read-width : tie.Need-shared-slice-read-width Inv-loop μ-loop
-shared-slice-read-width c = omega (arith, c .before .before .before .before .before .before .before .before .pre .2)
+shared-slice-read-write-number-2 : tie.Need-shared-slice-read-write-number-2 Inv-loop μ-loop
+shared-slice-read-write-number-2 c = omega (arith, c .before .before .before .before .before .before .before .before .pre .2)
 
-width-requires : tie.Need-width-requires Inv-loop μ-loop
-width-requires c κs = search needs
-
-opj-bio-write-requires : tie.Need-opj-bio-write-requires Inv-loop μ-loop
-opj-bio-write-requires c κs = (c .before .before .before .before .before .loop .inv .0, omega (arith, c .width .ensures))
+write-number-requires : tie.Need-write-number-requires Inv-loop μ-loop
+write-number-requires c κs = c .before .before .before .before .loop .inv .0
 
 add-i : tie.Need-add-i Inv-loop μ-loop
 add-i c = omega arith
@@ -49,17 +46,17 @@ loop-less : tie.Need-loop-less Inv-loop μ-loop
 loop-less c = omega arith
 
 loop-again : tie.Need-loop-again Inv-loop μ-loop
-loop-again c = let s = c .before .before .before .before .before .before .before .before .before .before .before .before in
-    let l = c .before .before .before .before .before .before .before .before .loop in
-    let r = c .before .before .opj-bio-write in
+loop-again c = let s = c .before .before .before .before .before .before .before .before .before .before .before in
+    let l = c .before .before .before .before .before .before .before .loop in
+    let r = c .before .before .write-number in
     let vs = s .args .values .now in
     let ws = s .args .widths .now in
     let o = output (l .out) (l .bio) in
-    let e : output (r .last .0) (r .result) ≡ putNumber vs ws (l .i) o = r .ensures ∙ ap (λ (n : ℕ). putBits o (bitsOf n (getD vs (l .i) 0))) (c .before .before .before .width .ensures) in (
+    let e : output (r .last .0) (r .result) ≡ putNumber vs ws (l .i) o = r .ensures in (
       subst FreeBitsClear (sym (ap (λ (k : Output). k .bio) e)) (putBits-clear o (bitsOf (widthAt ws (l .i)) (getD vs (l .i) 0)) (l .inv .0)),
       r .kept .0 ∙ l .inv .1,
       omega arith,
-      steps-turn (putNumber vs ws) (s .args .n) (l .i) o (output (r .last .0) (r .result)) (c .before .before .before .before .before .before .before .loop-test .taken) e ∙ l .inv .3,
+      steps-turn (putNumber vs ws) (s .args .n) (l .i) o (output (r .last .0) (r .result)) (c .before .before .before .before .before .before .loop-test .taken) e ∙ l .inv .3,
     )
 
 same-length : tie.Need-same-length Inv-loop μ-loop
@@ -75,11 +72,10 @@ write-numbers-spec =
     Inv-loop
     μ-loop
     loop-holds
-    mul-opj-bio-write
-    shared-slice-read-opj-bio-write
-    shared-slice-read-width
-    width-requires
-    opj-bio-write-requires
+    mul-write-number
+    shared-slice-read-write-number
+    shared-slice-read-write-number-2
+    write-number-requires
     add-i
     loop-less
     loop-again
