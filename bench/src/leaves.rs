@@ -288,11 +288,6 @@ fn nodes(w: u32, h: u32) -> usize {
     if below <= 1 { below } else { below + nodes((w + 1) / 2, (h + 1) / 2) }
 }
 
-// Values and lows: `known` is the writer's alone, and the crate's reader sets it too.
-fn seen(words: &[u32]) -> Vec<u32> {
-    words.chunks(3).flat_map(|k| [k[0], k[1]]).collect()
-}
-
 // ---- rows
 
 struct Bench {
@@ -348,8 +343,10 @@ impl Bench {
 
     // Values from `low` up to below `high`; coded and read threshold by threshold, on the words that the last one left.
     fn trees(&self, rng: &mut Rng, side: u32, what: &str, low: u32, high: u32, thresholds: &[u32]) {
+        let raising = thresholds.len() == 1;
         let leaves = (side * side) as usize;
-        let many = (1024 / leaves).max(1);
+        // as many leaves in a round as keep a processor from learning their branches by heart
+        let many = 16384 / leaves;
         let values: Vec<u32> = (0..many * leaves).map(|_| low + rng.below(high - low)).collect();
         let empty: Vec<u32> = (0..3 * many * nodes(side, side)).map(|i| if i % 3 == 0 { 999 } else { 0 }).collect();
         let mut theirs = CrateTrees::new(many, side);
@@ -373,7 +370,15 @@ impl Bench {
         theirs.read(thresholds, &src, &mut taken[0]);
         ours.read(thresholds, &src, &mut taken[1]);
         assert_eq!(taken[0], taken[1], "bytes read");
-        assert_eq!(seen(&theirs.words()), seen(&ours.words()), "words read");
+        assert_eq!(theirs.words(), ours.words(), "words read");
+        if raising {
+            theirs.load(&empty);
+            ours.load(&empty);
+            theirs.raise(&src[0], &mut taken[0]);
+            ours.raise(&src[0], &mut taken[1]);
+            assert_eq!(taken[0], taken[1], "bytes read by raising");
+            assert_eq!(theirs.words(), ours.words(), "words read by raising");
+        }
 
         let name = |verb: &str| format!("{verb}, {side} x {side}, {what}, a leaf");
         let mut row = |verb: &str, steps: usize, before: &[u32], run: &mut dyn FnMut(&mut dyn Trees, usize)| {
@@ -384,14 +389,8 @@ impl Bench {
         row("set", 1, &empty, &mut |t, _| t.set(&values));
         row("code", thresholds.len(), &set, &mut |t, o| t.code(thresholds, &mut out[o]));
         row("read", thresholds.len(), &empty, &mut |t, o| t.read(thresholds, &src, &mut taken[o]));
-        if thresholds.len() == 1 {
+        if raising {
             row("read by raising", 1, &empty, &mut |t, o| t.raise(&src[0], &mut taken[o]));
-            theirs.load(&empty);
-            ours.load(&empty);
-            theirs.raise(&src[0], &mut taken[0]);
-            ours.raise(&src[0], &mut taken[1]);
-            assert_eq!(taken[0], taken[1], "bytes raised");
-            assert_eq!(seen(&theirs.words()), seen(&ours.words()), "words raised");
         }
     }
 }
