@@ -5,7 +5,6 @@ use mathlib.Core.Bool.{Bool, cond, _&&_}
 use mathlib.Core.List.{List, [], _∷_, reverse}
 use lib.Dec.{leb, eqb}
 use lib.ListN.{length, getD, take}
-use Rattle.t800.specs.declared.Bio.{Bio}
 use Rattle.t800.specs.declared.Level.{Level}
 use Rattle.t800.specs.Bits.{bioAt, bytesTaken}
 use Rattle.t800.specs.TagTree.{PathRead, levels, nodes, pathToRoot, setValue, codePath, readPath}

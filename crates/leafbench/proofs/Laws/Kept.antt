@@ -1,8 +1,7 @@
 -- What the loops keep: free bits are clear, at most eight bits are held, and the place is at most one behind the input's end.
-use mathlib.Core.Path.{_≡_}
 use mathlib.Core.List.{List, reverse}
 use Prim.Native.Nat.{ℕ, _+_, _≤_}
-use lib.ListN.{length, getD}
+use lib.ListN.{length}
 use Rattle.t800.specs.TagTree.{PathRead, pathToRoot, codePath}
 use Rattle.bio.specs.Writing.{FreeBitsClear}
 use Rattle.bio.proofs.Laws.FreeBits.{putBits-clear}

@@ -1,12 +1,11 @@
 -- The leaves of a row, by column and by number.
 use mathlib.Core.Path.{_≡_, sym, ap, _∙_}
 use mathlib.Core.List.{List, reverse}
-use Prim.Native.Nat.{ℕ, _+_, _*_, _≤_, _<_}
+use Prim.Native.Nat.{ℕ, _+_, _*_, _<_}
 use native.Mathlib.Omega.{arith}
-use lib.ListN.{length, getD}
+use lib.ListN.{getD}
 use Rattle.t800.specs.declared.Level.{Level}
-use Rattle.t800.specs.TagTree.{PathRead, nodes, pathToRoot, setValue, codePath, readPath}
-use Rattle.t800.specs.State.{Block}
+use Rattle.t800.specs.TagTree.{PathRead, pathToRoot, setValue, codePath, readPath}
 use Rattle.t800.specs.ReadHeader.{readZeroPlanesFrom}
 use Rattle.tgt.specs.Path.{rowOver, pathOver, SmallLevels}
 use Rattle.tgt.specs.Coding.{LeafCoded, putCoded}
@@ -56,9 +55,6 @@ module _ (size w h : ℕ) (ls : List Level) (depth : ℕ) (t : TreeIn size w h l
           steps-same (readOver src row depth threshold) (readLeaf src w h threshold) (y * w) w 0 r
           (λ x l b. ap (λ (ns : List ℕ). readPath src 0 threshold (reverse ns) 0 (b .words) (b .bio)) (path x (omega arith)))
           ∙ ap (λ (n : ℕ). steps (readLeaf src w h threshold) w n r) first-is
-
-      block : (n : ℕ) (ns : List ℕ) → Block
-      block n ns = record { inclTree = 0; zeroTree = 0; leaf = n; path = ns; at = 0; planes = 0 }
 
       pub raise-row-is : (r : PathRead) → steps (raiseOver src row depth) w 0 r ≡ steps (raiseLeaf src w h) w (y * w) r
       raise-row-is r =

@@ -15,7 +15,7 @@ use Rattle.bio.specs.Reading.{alignedAt}
 use Rattle.tgt.specs.Coding.{LeafCoded, leafCoded}
 use Rattle.tgt.specs.Reading.{pathRead}
 use Rattle.leafbench.specs.Steps.{steps}
-use Rattle.leafbench.specs.Trees.{codeLeaf, isTree, coded, flushed, codeTree, Read, read, taken}
+use Rattle.leafbench.specs.Trees.{codeLeaf, isTree, coded, flushed, codeTree, read, taken}
 use Rattle.leafbench.proofs.Laws.Steps.{steps-keep}
 
 pub code-whole : (w h t : ℕ) (ws bytes : List ℕ) (b : Bio) (k : LeafCoded) (o : Output) → isTree (length ws) w h ≡ true → b ≡ emptyAt 0
