@@ -267,8 +267,30 @@ fn runs_on(b: Bio, left: u32) -> bool
     held(b) == 0
 }
 
+// One bit: a 0 raises low, a 1 is the value.
+fn seek_one(src: &[u8], b: Bio, value: u32, low: u32) -> NodeRead
+    requires { ⌜ (b .ct ≤ 8) × (low < value) ⌝ }
+    ensures { λ r. ⌜ nodeRead r ≡ readNode (now (src .entry)) 1 value low b ⌝ }
+{
+    let r = bio::opj_bio_getbit(src, b);
+    let bio = r.bio;
+    if r.value == 0 {
+        let raised = low + 1;
+        return NodeRead {
+            value,
+            low: raised,
+            bio,
+        };
+    }
+    NodeRead {
+        value: low,
+        low,
+        bio,
+    }
+}
+
 // Low rises over zeros, by `left` at most; a 1 is the value. A held word of zeros is passed over at once.
-fn seek(src: &[u8], b: Bio, value: u32, low: u32, left: u32) -> NodeRead
+fn seek_chunks(src: &[u8], b: Bio, value: u32, low: u32, left: u32) -> NodeRead
     requires { ⌜ (b .ct ≤ 8) × (low + left ≤ value) ⌝ }
     ensures { λ r. ⌜ nodeRead r ≡ readNode (now (src .entry)) left value low b ⌝ }
 {
@@ -296,6 +318,17 @@ fn seek(src: &[u8], b: Bio, value: u32, low: u32, left: u32) -> NodeRead
         low: reached,
         bio: behind,
     }
+}
+
+// Mostly the threshold lies one above low.
+fn seek(src: &[u8], b: Bio, value: u32, low: u32, left: u32) -> NodeRead
+    requires { ⌜ (b .ct ≤ 8) × (low + left ≤ value) ⌝ }
+    ensures { λ r. ⌜ nodeRead r ≡ readNode (now (src .entry)) left value low b ⌝ }
+{
+    if left == 1 {
+        return seek_one(src, b, value, low);
+    }
+    seek_chunks(src, b, value, low, left)
 }
 
 fn decode_node(words: &mut [u32], src: &[u8], b: Bio, at: usize, low: u32, threshold: u32) -> Behind

@@ -205,3 +205,18 @@ module _ (b : Bio) (few : b .ct ≤ 8) where
       let g = at-most m (r .2) (r .3) in
       let e : b .ct - m ≡ leadingZeros 32 h - (32 - b .ct) = omega (arith, r .1) in
       (omega (arith, r .1), subst (LeadingZeros b) e (leading m (r .2) (r .3)))
+
+-- ---- one bit
+
+module _ (src : List ℕ) (v l : ℕ) (b : Bio) (g : Decoded) (under : l < v) (got : g ≡ getBit src b) where
+  pub one-raises : g .value ≡ 0 → seen v (l + 1) (g .bio) ≡ readNode src 1 v l b
+  unfolding readNode
+  one-raises z =
+      ap (λ (k : Decoded). seen v (l + 1) (k .bio)) got
+      ∙ sym (if-lt l v _ _ under ∙ if-eq (getBit src b .value) 0 _ _ (sym (ap (λ (k : Decoded). k .value) got) ∙ z))
+
+  pub one-reaches : (g .value ≡ 0 → ⊥) → seen l l (g .bio) ≡ readNode src 1 v l b
+  unfolding readNode
+  one-reaches z =
+      ap (λ (k : Decoded). seen l l (k .bio)) got
+      ∙ sym (if-lt l v _ _ under ∙ if-ne (getBit src b .value) 0 _ _ (λ e. z (ap (λ (k : Decoded). k .value) got ∙ e)))
