@@ -1,15 +1,11 @@
 -- `tgt::seek_chunks` meets its contract. The invariant: the bits that are left, read from the present place, give the whole.
 -- Assumes nothing.
 use mathlib.Core.Path.{_≡_, refl, sym, ap, _∙_, subst}
-use mathlib.Core.Bool.{Bool, true, false, true≢false}
-use Prim.Native.Nat.{ℕ, _+_, _-_, _*_, _/_, _%_, _^_, _≤_, _<_}
+use Prim.Native.Nat.{_+_, _-_, _*_, _≤_}
 use native.Mathlib.Omega.{arith}
-use lib.Dec.{eqb, ltb}
-use mir.Facts.{and-yes}
-use borrow.Author.Tests.{lt-ltb, eq-eqb}
 use Rattle.t800.specs.declared.Bio.{Bio}
 use Rattle.t800.specs.TagTree.{readNode}
-use Rattle.tgt.specs.Reading.{bioOf, LeadingZeros, seen}
+use Rattle.tgt.specs.Reading.{seen}
 use Rattle.tgt.proofs.Laws.Seeking.{byteIn-ct, runs-on-is, not-on, seek-turn, seek-end, seek-one}
 use borrow.Author.Needs.{needs}
 use Rattle.tgt.proofs.seek_chunks.Statement.{statement}
