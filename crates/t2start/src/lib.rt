@@ -15,10 +15,10 @@ ghost use Rattle.tcd.specs.Geometry.{noBand, padded, SidesUpTo64, AllUpTo64};
 ghost use Rattle.t2start.specs.Parts.{begun, planesWanted, setRow, RowIn};
 use t800::Band;
 use t800::Level;
-use tcd::Style;
 use tcd::NOT_YET_INCLUDED;
 use tcd::NOT_YET_PLANES;
 use tcd::READER;
+use tcd::Style;
 use tcd::WRITER;
 
 // ---- the checks
