@@ -1,0 +1,3 @@
+pub mod FirstSegment
+pub mod Passes
+pub mod OneBlock
