@@ -20,9 +20,9 @@ coded ws o = record { words = ws; output = o }
 abbrev pub blockAt : ℕ → Block
 blockAt at = record { inclTree = 0; zeroTree = 0; leaf = 0; path = []; at = at; planes = 0 }
 
--- a block in a row that begins with these nodes on each level
+-- a block in a row that begins with these nodes on each level; its leaf's number and its planes don't count
 abbrev pub blockOver : Place → List ℕ → Block
-blockOver p row = record { inclTree = p .incl; zeroTree = p .zero; leaf = getD row 0 0 + p .x; path = pathOver row (p .depth) (p .x); at = p .at; planes = 0 }
+blockOver p row = record { inclTree = p .incl; zeroTree = p .zero; leaf = 0; path = pathOver row (p .depth) (p .x); at = p .at; planes = 0 }
 
 -- length bits as the packet begins, of a block with so many passes so far
 abbrev pub bitsBefore : ℕ → ℕ → ℕ

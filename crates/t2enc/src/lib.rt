@@ -1,7 +1,7 @@
 // The coding of a packet header (opj_t2_encode_packet of t2.rs): a block's lengths, its passes, the block, a band's blocks.
 ghost use mathlib.Core.Path.{_≡_};
 ghost use mathlib.Core.Bool.{false, cond};
-ghost use Prim.Native.Nat.{_+_, _-_, _^_, _<_, _≤_};
+ghost use Prim.Native.Nat.{_+_, _-_, _*_, _^_, _<_, _≤_};
 ghost use lib.Dec.{T, ltb};
 ghost use lib.ListN.{length, drop, getD};
 ghost use Rattle.t800.specs.WriteHeader.{lengthBitsBefore, codeInclusion, codeZeroPlanes, codePasses, codeBlock};
@@ -11,6 +11,7 @@ ghost use Rattle.t2codes.specs.PassTable.{isPassTable};
 ghost use Rattle.t2enc.specs.Lengths.{segment, firstSegment, tooWide, BlockPasses, lengthsPut, putLengths};
 ghost use Rattle.tgt.specs.Coding.{leafCoded, putCoded};
 ghost use Rattle.t2enc.specs.Blocks.{blockAt, blockOver, PassesFit, BlockIn};
+ghost use Rattle.t2enc.specs.Runs.{running, codeNext, codeAll, placeAt, rowBlocks, NextFits, AllFit, RowIn, setNext, setAll};
 use t800::Bio;
 
 // A segment's passes in this layer, and their bytes.
@@ -32,6 +33,13 @@ struct Place {
     depth: usize,
     x: usize,
     at: usize,
+}
+
+// Where the bits stand, and how many blocks and passes of the caller's lists are behind.
+struct Run {
+    bio: Bio,
+    block: usize,
+    pass: usize,
 }
 
 // ---- lengths
@@ -232,4 +240,131 @@ fn code_block(
     }
     let planes = code_zero_planes(words, out, told, p, row);
     code_passes(codes, words, out, planes, p.at, count, lengths, marks)
+}
+
+// ---- a row of blocks
+
+fn place_at(p: Place, i: usize) -> Place
+    requires { ⌜ (p .x + i < 2 ^ 32) × (p .at + 4 * i < 2 ^ 63) ⌝ }
+    ensures { λ r. ⌜ r ≡ placeAt p i ⌝ }
+{
+    Place {
+        incl: p.incl,
+        zero: p.zero,
+        depth: p.depth,
+        x: p.x + i,
+        at: p.at + 4 * i,
+    }
+}
+
+fn code_next(
+    codes: &[u32; 328],
+    words: &mut [u32],
+    out: &mut [u8],
+    r: Run,
+    p: Place,
+    row: &[usize; 7],
+    layer: u32,
+    counts: &[u32],
+    lengths: &[u32],
+    marks: &[u8],
+) -> Run
+    requires { ⌜ (T (isPassTable (now codes))) × (FreeBitsClear (r .bio)) × (BlockIn (length (now words)) p (now row)) × (layer < 999) × (NextFits (now counts) (now lengths) (now marks) (now words) (p .at) (r .block) (r .pass)) ⌝ }
+    ensures { λ s. ⌜ running (now (words .exit)) (now (out .exit)) s ≡ codeNext layer (now (counts .entry)) (now (lengths .entry)) (now (marks .entry)) (blockOver p (now (row .entry))) (running (now (words .entry)) (now (out .entry)) r) ⌝ }
+{
+    let block = r.block;
+    let next = block + 1;
+    let from = r.pass;
+    let count = counts[block];
+    let to = from + count as usize;
+    let bio = code_block(
+        codes,
+        words,
+        out,
+        r.bio,
+        p,
+        row,
+        layer,
+        count,
+        &lengths[from..to],
+        &marks[from..to],
+    );
+    Run {
+        bio,
+        block: next,
+        pass: to,
+    }
+}
+
+// n blocks.
+fn code_row(
+    codes: &[u32; 328],
+    words: &mut [u32],
+    out: &mut [u8],
+    r: Run,
+    p: Place,
+    n: usize,
+    row: &[usize; 7],
+    layer: u32,
+    counts: &[u32],
+    lengths: &[u32],
+    marks: &[u8],
+) -> Run
+    requires { ⌜ (T (isPassTable (now codes))) × (FreeBitsClear (r .bio)) × (RowIn (length (now words)) p (now row) n) × (layer < 999) × (AllFit (now counts) (now lengths) (now marks) (now words) (rowBlocks p (now row) n 0) (r .block) (r .pass)) ⌝ }
+    ensures { λ s. ⌜ running (now (words .exit)) (now (out .exit)) s ≡ codeAll layer (now (counts .entry)) (now (lengths .entry)) (now (marks .entry)) (rowBlocks p (now (row .entry)) n 0) (running (now (words .entry)) (now (out .entry)) r) ⌝ }
+{
+    let mut run = r;
+    let mut i: usize = 0;
+    while i < n {
+        let place = place_at(p, i);
+        run = code_next(
+            codes,
+            words,
+            out,
+            run,
+            place,
+            row,
+            layer,
+            counts,
+            lengths,
+            marks,
+        );
+        i += 1;
+    }
+    run
+}
+
+fn set_next(words: &mut [u32], p: Place, row: &[usize; 7], layer: u32, count: u32)
+    requires { ⌜ BlockIn (length (now words)) p (now row) ⌝ }
+    ensures { λ _. ⌜ now (words .exit) ≡ setNext layer (blockOver p (now (row .entry))) count (now (words .entry)) ⌝ }
+{
+    let at = p.at;
+    if words[at] != 0 {
+        return;
+    }
+    if count == 0 {
+        return;
+    }
+    tgt::opj_tgt_setvalue(words, p.incl, row, p.depth, p.x, layer);
+}
+
+// n blocks, of which the first has count number `block`.
+fn set_row(
+    words: &mut [u32],
+    p: Place,
+    n: usize,
+    row: &[usize; 7],
+    layer: u32,
+    counts: &[u32],
+    block: usize,
+)
+    requires { ⌜ (RowIn (length (now words)) p (now row) n) × (block + n ≤ length (now counts)) ⌝ }
+    ensures { λ _. ⌜ now (words .exit) ≡ setAll layer (now (counts .entry)) (rowBlocks p (now (row .entry)) n 0) block (now (words .entry)) ⌝ }
+{
+    let mut i: usize = 0;
+    while i < n {
+        let place = place_at(p, i);
+        set_next(words, place, row, layer, counts[block + i]);
+        i += 1;
+    }
 }

@@ -6,7 +6,7 @@ use mathlib.Core.List.{List, [], _∷_, _++_, reverse, reverseAux}
 use Prim.Native.Nat.{ℕ, zero, suc, _+_, _-_, _*_, _/_, _^_, _≤_, _<_}
 use native.Mathlib.Nat.{zero-add, suc-add}
 use native.Mathlib.Omega.{arith}
-use lib.Dec.{ltb}
+use lib.Dec.{eqb, ltb}
 use lib.ListN.{length, getD, take, drop, set}
 use lib.Pow.{shr-shr}
 use lib.Seq.{drop-set-lt}
@@ -21,8 +21,7 @@ use Rattle.bio.specs.Writing.{Output, putBits, FreeBitsClear}
 use Rattle.bio.proofs.Laws.FreeBits.{putBits-append, putBits-clear}
 use Rattle.tgt.specs.Path.{nodesOver, pathOver, PathIn}
 use Rattle.tgt.specs.Coding.{LeafCoded, putCoded}
-use Rattle.t2enc.specs.declared.Place.{Place}
-use Rattle.t2enc.specs.Blocks.{blockOver, coded, PassesFit}
+use Rattle.t2enc.specs.Blocks.{coded, PassesFit}
 
 -- ---- branches
 
@@ -48,7 +47,7 @@ module _ (ws : List ℕ) (k : Block) where
 pub path-wider : (m n base : ℕ) (row : List ℕ) (depth x : ℕ) → m ≤ n → PathIn m base row depth x → PathIn n base row depth x
 path-wider m n base row depth x h p = record { some = p .some; atMostSeven = p .atMostSeven; long = p .long; inside = λ i l. omega (arith, p .inside i l) }
 
-abbrev Before : ℕ → ℕ → List ℕ → Type 0
+abbrev pub Before : ℕ → ℕ → List ℕ → Type 0
 Before q base ns = All (λ n. base + 3 * n + 2 < q) ns
 
 nodes-before : (q base : ℕ) (row : List ℕ) (depth x : ℕ) → ((i : ℕ) → i < depth → base + 3 * (getD row i 0 + x / 2 ^ i) + 2 < q) → Before q base (nodesOver (take depth row) x)
@@ -62,7 +61,7 @@ onto-before : (q base : ℕ) (js ks : List ℕ) → Before q base js → Before 
 onto-before q base [] ks h g = g
 onto-before q base (j ∷ js) ks h g = onto-before q base js (j ∷ ks) (h .1) (h .0, g)
 
-path-before : (q base : ℕ) (row : List ℕ) (depth x : ℕ) → PathIn q base row depth x → Before q base (reverse (pathOver row depth x))
+pub path-before : (q base : ℕ) (row : List ℕ) (depth x : ℕ) → PathIn q base row depth x → Before q base (reverse (pathOver row depth x))
 path-before q base row depth x p = onto-before q base (pathOver row depth x) [] (nodes-before q base row depth x (p .inside)) tt
 
 -- coding it leaves what stands from q on
@@ -72,16 +71,32 @@ path-keeps q base t [] l ws h = refl
 path-keeps q base t (n ∷ ns) l ws h =
     path-keeps q base t ns _ _ (h .1) ∙ drop-set-lt q _ (base + 3 * n + 2) _ (h .0) ∙ drop-set-lt q ws (base + 3 * n + 1) _ (omega (arith, h .0))
 
-module _ (p : Place) (row ws : List ℕ) where
-  pub incl-keeps : (q t c : ℕ) → PathIn q (p .incl) row (p .depth) (p .x) → drop q (codeInclusion t (blockOver p row) c ws .words) ≡ drop q ws
-  unfolding codeInclusion
-  incl-keeps q t c h =
-      either (λ (k : Coded). drop q (k .words) ≡ drop q ws) (isNew ws (blockOver p row)) _ _ (path-keeps q (p .incl) (t + 1) _ 0 ws (path-before q (p .incl) row (p .depth) (p .x) h)) refl
+-- both trees' paths, and the block's own words
+pub record BlockBefore (q : ℕ) (k : Block) : Type 0 where
+  pub incl : Before q (k .inclTree) (reverse (k .path))
+  pub zero : Before q (k .zeroTree) (reverse (k .path))
+  pub own : k .at + 4 ≤ q
 
-  pub planes-keep : (q : ℕ) → PathIn q (p .zero) row (p .depth) (p .x) → drop q (codeZeroPlanes (blockOver p row) ws .words) ≡ drop q ws
+module _ (q : ℕ) (k : Block) (ws : List ℕ) where
+  pub incl-keeps : (t c : ℕ) → Before q (k .inclTree) (reverse (k .path)) → drop q (codeInclusion t k c ws .words) ≡ drop q ws
+  unfolding codeInclusion
+  incl-keeps t c h = either (λ (d : Coded). drop q (d .words) ≡ drop q ws) (isNew ws k) _ _ (path-keeps q (k .inclTree) (t + 1) _ 0 ws h) refl
+
+  pub planes-keep : Before q (k .zeroTree) (reverse (k .path)) → drop q (codeZeroPlanes k ws .words) ≡ drop q ws
   unfolding codeZeroPlanes
-  planes-keep q h =
-      either (λ (k : Coded). drop q (k .words) ≡ drop q ws) (isNew ws (blockOver p row)) _ _ (path-keeps q (p .zero) notYetPlanes _ 0 ws (path-before q (p .zero) row (p .depth) (p .x) h)) refl
+  planes-keep h = either (λ (d : Coded). drop q (d .words) ≡ drop q ws) (isNew ws k) _ _ (path-keeps q (k .zeroTree) notYetPlanes _ 0 ws h) refl
+
+  passes-keep : (c : ℕ) (segments : List Segment) → k .at + 4 ≤ q → drop q (codePasses k c segments ws .words) ≡ drop q ws
+  unfolding codePasses
+  passes-keep c segments h = drop-set-lt q _ (k .at + 1) _ (omega arith) ∙ drop-set-lt q ws (k .at) _ (omega arith)
+
+pub block-keeps : (q t c : ℕ) (k : Block) (segments : List Segment) (ws : List ℕ) → BlockBefore q k → drop q (codeBlock t k c segments ws .words) ≡ drop q ws
+unfolding codeBlock
+block-keeps q t c k segments ws b =
+    let i : Coded = codeInclusion t k c ws in
+    let z : Coded = codeZeroPlanes k (i .words) in
+    let e = incl-keeps q k ws t c (b .incl) in
+    either (λ (d : Coded). drop q (d .words) ≡ drop q ws) (eqb c 0) _ _ e (passes-keep q k (z .words) c segments (b .own) ∙ planes-keep q k (i .words) (b .zero) ∙ e)
 
 -- ---- the words of the block itself
 
@@ -95,8 +110,8 @@ same-word q i ws vs e h =
     let s : q + (i - q) ≡ i = omega arith in
     subst (λ (k : ℕ). getD ws k 0 ≡ getD vs k 0) s (sym (getD-drop q (i - q) ws) ∙ ap (λ (l : List ℕ). getD l (i - q) 0) e ∙ getD-drop q (i - q) vs)
 
-pub still-fit : (q c : ℕ) (ws vs ls ms : List ℕ) → drop q ws ≡ drop q vs → PassesFit (getD vs q 0) (getD vs (q + 1) 0) c ls ms → PassesFit (getD ws q 0) (getD ws (q + 1) 0) c ls ms
-still-fit q c ws vs ls ms e h = rw (same-word q q ws vs e (omega arith), same-word q (q + 1) ws vs e (omega arith)) h
+pub still-fit : (q at c : ℕ) (ws vs ls ms : List ℕ) → drop q ws ≡ drop q vs → q ≤ at → PassesFit (getD vs at 0) (getD vs (at + 1) 0) c ls ms → PassesFit (getD ws at 0) (getD ws (at + 1) 0) c ls ms
+still-fit q at c ws vs ls ms e h f = rw (same-word q at ws vs e h, same-word q (at + 1) ws vs e (omega arith)) f
 
 -- ---- together
 

@@ -10,7 +10,7 @@ use Rattle.bio.specs.Writing.{Output, output, putBits}
 use Rattle.tgt.specs.Coding.{LeafCoded, leafCoded, putCoded}
 use Rattle.t2enc.specs.Blocks.{blockOver, coded, BlockIn}
 use Rattle.t2enc.proofs.Laws.Passes.{same-passes}
-use Rattle.t2enc.proofs.Laws.OneBlock.{incl-keeps, planes-keep, still-fit, coded-clear, block-absent, block-is}
+use Rattle.t2enc.proofs.Laws.OneBlock.{path-before, incl-keeps, planes-keep, still-fit, coded-clear, block-absent, block-is}
 use Rattle.t2enc.proofs.code_block.Statement.{statement}
 use Rattle.t2enc.proofs.code_block.Tie as tie
 
@@ -41,15 +41,16 @@ code-passes-requires c κs =
     let row = s .args .row .now in
     let i = c .before .before .before .before .before .before .before .before .before .before .before .before .before .before .code-inclusion in
     let z = c .before .before .before .before .before .before .code-zero-planes in
-    let k = ap (λ (x : LeafCoded). drop (p .at) (x .words)) (z .ensures)
-    ∙ planes-keep p row (i .last .0) (p .at) (s .pre .2 .zero)
+    let k = blockOver p row in
+    let e = ap (λ (x : LeafCoded). drop (p .at) (x .words)) (z .ensures)
+    ∙ planes-keep (p .at) k (i .last .0) (path-before (p .at) (p .zero) row (p .depth) (p .x) (s .pre .2 .zero))
     ∙ ap (λ (x : LeafCoded). drop (p .at) (x .words)) (i .ensures)
-    ∙ incl-keeps p row (s .args .words .now) (p .at) (s .args .layer) (s .args .count) (s .pre .2 .incl) in (
+    ∙ incl-keeps (p .at) k (s .args .words .now) (s .args .layer) (s .args .count) (path-before (p .at) (p .incl) row (p .depth) (p .x) (s .pre .2 .incl)) in (
       s .pre .0,
       coded-clear _ _ _ (z .ensures) (coded-clear _ _ _ (i .ensures) (s .pre .1)),
       subst (λ (n : ℕ). p .at + 3 < n) (sym (z .kept .0 ∙ i .kept .0)) (s .pre .2 .inside),
       omega (arith, c .before .before .before .before .before .before .before .before .before .if1 .left),
-      still-fit (p .at) (s .args .count) (z .last .0) (s .args .words .now) _ _ k (s .pre .4),
+      still-fit (p .at) (p .at) (s .args .count) (z .last .0) (s .args .words .now) _ _ e (omega arith) (s .pre .4),
     )
 
 same-length-3 : tie.Need-same-length-3
