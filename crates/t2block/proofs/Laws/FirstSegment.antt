@@ -1,7 +1,7 @@
 -- A block's segments one by one: the first and those behind it, and what the tests of refusals 8 and 9 say of each.
 use mathlib.Core.Path.{_≡_, refl, sym, ap, _∙_, subst}
-use mathlib.Core.Bool.{Bool, true, false, cond, not, _||_}
-use mathlib.Core.List.{List, [], _∷_, _++_}
+use mathlib.Core.Bool.{Bool, true, false, cond}
+use mathlib.Core.List.{List, [], _∷_}
 use Prim.Native.Nat.{ℕ, zero, suc, _+_, _-_, _/_, _^_, _≤_, _<_, max}
 use native.Mathlib.Numerals.{add-one}
 use native.Mathlib.Omega.{arith}
@@ -13,7 +13,7 @@ use Rattle.t800.specs.Base.{any, halvings, floorLog2}
 use Rattle.t800.specs.Bits.{bitsOf}
 use Rattle.t800.specs.Segments.{Segment, segmentsFrom, segmentsOf, width, bitLength, increment, lengthFields}
 use Rattle.t800.proofs.Laws.Tests.{either, if-eq, if-ne, or-left, or-right}
-use Rattle.bio.specs.Writing.{Output, output, putBits}
+use Rattle.bio.specs.Writing.{Output, putBits}
 use Rattle.bio.proofs.Laws.FreeBits.{putBits-append}
 use Rattle.t2block.specs.Lengths.{segmentIs, firstSegment, tooLong, tooWide, BlockPasses}
 

@@ -7,10 +7,9 @@ use Prim.Native.Nat.{ℕ, zero, suc, _+_, _-_, _*_, _/_, _^_, _≤_, _<_}
 use native.Mathlib.Nat.{zero-add, suc-add}
 use native.Mathlib.Omega.{arith}
 use lib.Dec.{eqb, ltb}
-use lib.ListN.{length, getD, take, drop, set}
+use lib.ListN.{getD, take, drop}
 use lib.Pow.{shr-shr}
 use lib.Seq.{drop-set-lt}
-use Rattle.t800.specs.declared.Bio.{Bio}
 use Rattle.t800.specs.Segments.{Segment}
 use Rattle.t800.specs.State.{Block, notYetPlanes}
 use Rattle.t800.specs.TagTree.{Coded, codePath}

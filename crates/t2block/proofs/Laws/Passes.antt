@@ -1,6 +1,6 @@
 -- The parts of a block's passes make t800's.
 use mathlib.Core.Path.{_≡_, refl, sym, ap, _∙_}
-use mathlib.Core.List.{List, [], _∷_, _++_}
+use mathlib.Core.List.{List, _++_}
 use Prim.Native.Nat.{ℕ, _+_}
 use lib.ListN.{getD, set}
 use Rattle.t800.specs.PassCount.{passBits}
@@ -9,7 +9,7 @@ use Rattle.t800.specs.State.{Block}
 use Rattle.t800.specs.WriteHeader.{isNew, lengthBitsBefore, codePasses}
 use Rattle.bio.specs.Writing.{Output, putBits}
 use Rattle.bio.proofs.Laws.FreeBits.{putBits-append}
-use Rattle.tgt.specs.Coding.{LeafCoded, putCoded}
+use Rattle.tgt.specs.Coding.{putCoded}
 use Rattle.t2block.specs.Lengths.{Lengths, putLengths}
 use Rattle.t2block.specs.Blocks.{blockAt, coded}
 

@@ -1,20 +1,19 @@
 -- Blocks one after another along a row: one more, and what is left then.
-use mathlib.Core.Path.{_≡_, refl, sym, ap, _∙_, subst}
-use mathlib.Core.List.{List, [], _∷_, _++_, reverse}
+use mathlib.Core.Path.{_≡_, sym, ap, _∙_, subst}
+use mathlib.Core.List.{List, [], _∷_}
 use Prim.Native.Nat.{ℕ, zero, suc, _+_, _-_, _*_, _≤_, _<_}
 use native.Mathlib.Omega.{arith}
-use lib.ListN.{length, getD, take, drop}
+use lib.ListN.{getD, take, drop}
 use Rattle.t800.specs.Segments.{segmentsOf}
 use Rattle.t800.specs.State.{Block}
-use Rattle.t800.specs.TagTree.{Coded}
 use Rattle.t800.specs.WriteHeader.{codeBlock}
-use Rattle.bio.specs.Writing.{Output, putBits, FreeBitsClear}
+use Rattle.bio.specs.Writing.{FreeBitsClear}
 use Rattle.bio.proofs.Laws.FreeBits.{putBits-clear}
 use Rattle.tgt.specs.Coding.{LeafCoded, putCoded}
 use Rattle.t2block.specs.declared.Place.{Place}
-use Rattle.t2block.specs.Blocks.{blockOver, BlockIn, PassesFit}
-use Rattle.t2block.specs.Runs.{Running, behindCoded, codeNext, codeAll, placeAt, rowBlocks, NextFits, AllFit, RowIn, setNext, setAll}
-use Rattle.t2block.proofs.Laws.OneBlock.{Before, path-before, path-wider, BlockBefore, block-keeps, still-fit}
+use Rattle.t2block.specs.Blocks.{blockOver, BlockIn}
+use Rattle.t2block.specs.Runs.{Running, codeNext, codeAll, placeAt, rowBlocks, NextFits, AllFit, RowIn, setNext, setAll}
+use Rattle.t2block.proofs.Laws.OneBlock.{path-before, path-wider, BlockBefore, block-keeps, still-fit}
 
 abbrev pub AllBlocks : (Block → Type 0) → List Block → Type 0
 AllBlocks P [] = Unit {0}

@@ -1,14 +1,12 @@
 -- `t2block::code_block` meets its contract.
-use mathlib.Core.Path.{_≡_, refl, sym, ap, _∙_, subst}
-use mathlib.Core.List.{List}
-use Prim.Native.Nat.{ℕ, _+_, _<_, _≤_}
+use mathlib.Core.Path.{sym, ap, _∙_, subst}
+use Prim.Native.Nat.{ℕ, _+_, _<_}
 use native.Mathlib.Omega.{arith}
-use lib.ListN.{length, drop}
+use lib.ListN.{drop}
 use Rattle.t800.specs.Segments.{segmentsOf}
-use Rattle.t800.specs.WriteHeader.{codeInclusion, codeZeroPlanes}
-use Rattle.bio.specs.Writing.{Output, output, putBits}
-use Rattle.tgt.specs.Coding.{LeafCoded, leafCoded, putCoded}
-use Rattle.t2block.specs.Blocks.{blockOver, coded, BlockIn}
+use Rattle.bio.specs.Writing.{output}
+use Rattle.tgt.specs.Coding.{LeafCoded, putCoded}
+use Rattle.t2block.specs.Blocks.{blockOver, BlockIn}
 use Rattle.t2block.proofs.Laws.Passes.{same-passes}
 use Rattle.t2block.proofs.Laws.OneBlock.{path-before, incl-keeps, planes-keep, still-fit, coded-clear, block-absent, block-is}
 use Rattle.t2block.proofs.code_block.Statement.{statement}

@@ -1,13 +1,12 @@
 -- `t2block::code_inclusion` meets its contract.
-use mathlib.Core.Path.{_≡_, refl, sym, ap, _∙_, subst}
-use mathlib.Core.Bool.{cond}
-use Prim.Native.Nat.{ℕ, _+_, _≤_}
+use mathlib.Core.Path.{sym, ap, _∙_, subst}
+use Prim.Native.Nat.{ℕ, _≤_}
 use native.Mathlib.Omega.{arith}
 use lib.Dec.{ltb}
 use lib.ListN.{length}
 use borrow.Author.Needs.{needs}
 use Rattle.t800.proofs.Laws.Tests.{either}
-use Rattle.bio.specs.Writing.{Output, output, putBit, putBits}
+use Rattle.bio.specs.Writing.{output, putBit, putBits}
 use Rattle.tgt.specs.Coding.{putCoded}
 use Rattle.t2block.specs.Blocks.{blockOver, coded}
 use Rattle.t2block.proofs.Laws.OneBlock.{incl-new, incl-old, path-wider}

@@ -1,9 +1,8 @@
 -- `t2block::code_next` meets its contract.
-use mathlib.Core.Path.{_≡_, refl, sym, ap, _∙_, subst}
-use mathlib.Core.List.{List}
-use Prim.Native.Nat.{ℕ, _+_, _-_, _<_, _≤_}
+use mathlib.Core.Path.{_≡_, sym, subst}
+use Prim.Native.Nat.{ℕ, _+_, _-_}
 use native.Mathlib.Omega.{arith}
-use lib.ListN.{length, drop, take, getD}
+use lib.ListN.{drop, take, getD}
 use borrow.Author.Needs.{needs}
 use Rattle.t2block.specs.Blocks.{blockOver, PassesFit}
 use Rattle.t2block.specs.Runs.{running}

@@ -1,15 +1,14 @@
 -- `t2block::code_passes` meets its contract.
-use mathlib.Core.Path.{_≡_, refl, sym, ap, _∙_, subst}
+use mathlib.Core.Path.{_≡_, sym, subst}
 use mathlib.Core.Bool.{false}
-use Prim.Native.Nat.{ℕ, _+_, _-_, _≤_}
+use Prim.Native.Nat.{ℕ, _+_, _≤_}
 use native.Mathlib.Omega.{arith}
 use lib.ListN.{length-set}
 use borrow.Author.Needs.{needs}
-use Rattle.t800.specs.Segments.{Segment, segmentsOf, increment}
+use Rattle.t800.specs.Segments.{segmentsOf, increment}
 use Rattle.t800.specs.WriteHeader.{isNew, lengthBitsBefore}
-use Rattle.bio.specs.Writing.{Output, output, putBits, FreeBitsClear}
-use Rattle.t2block.specs.Lengths.{tooWide, lengthsPut}
-use Rattle.t2block.specs.Blocks.{PassesFit}
+use Rattle.bio.specs.Writing.{output}
+use Rattle.t2block.specs.Lengths.{tooWide}
 use Rattle.t2block.proofs.Laws.Passes.{passes-are}
 use Rattle.t2block.proofs.code_passes.Statement.{statement}
 use Rattle.t2block.proofs.code_passes.Tie as tie

@@ -1,14 +1,14 @@
 -- `t2block::code_row` meets its contract.
 use mathlib.Core.Path.{_≡_, refl, sym, ap, _∙_, subst}
-use mathlib.Core.List.{List, []}
-use Prim.Native.Nat.{ℕ, _+_, _-_, _*_, _<_, _≤_}
+use mathlib.Core.List.{List}
+use Prim.Native.Nat.{ℕ, _-_, _≤_}
 use native.Mathlib.Omega.{arith}
 use lib.ListN.{length}
 use Rattle.t800.specs.State.{Block}
-use Rattle.bio.specs.Writing.{Output, FreeBitsClear}
+use Rattle.bio.specs.Writing.{FreeBitsClear}
 use Rattle.t2block.specs.declared.Place.{Place}
 use Rattle.t2block.specs.Blocks.{blockOver, BlockIn}
-use Rattle.t2block.specs.Runs.{Running, running, codeNext, codeAll, placeAt, rowBlocks, NextFits, AllFit, RowIn}
+use Rattle.t2block.specs.Runs.{Running, running, codeNext, codeAll, rowBlocks, NextFits, AllFit, RowIn}
 use Rattle.t2block.proofs.Laws.Rows.{next-clear, block-in, fits-now, fits-then, codes-then, row-end}
 use Rattle.t2block.proofs.code_row.Statement.{statement}
 use Rattle.t2block.proofs.code_row.Tie as tie

@@ -1,12 +1,11 @@
 -- `t2block::code_zero_planes` meets its contract.
-use mathlib.Core.Path.{_≡_, refl, sym, ap, _∙_, subst}
-use Prim.Native.Nat.{ℕ, _+_, _≤_}
+use mathlib.Core.Path.{ap, _∙_}
 use native.Mathlib.Omega.{arith}
 use lib.ListN.{length}
 use borrow.Author.Needs.{needs}
-use Rattle.bio.specs.Writing.{Output, output, putBits}
+use Rattle.bio.specs.Writing.{output, putBits}
 use Rattle.tgt.specs.Coding.{putCoded}
-use Rattle.t2block.specs.Blocks.{blockOver, coded}
+use Rattle.t2block.specs.Blocks.{blockOver}
 use Rattle.t2block.proofs.Laws.OneBlock.{planes-new, planes-old, path-wider}
 use Rattle.t2block.proofs.code_zero_planes.Statement.{statement}
 use Rattle.t2block.proofs.code_zero_planes.Tie as tie

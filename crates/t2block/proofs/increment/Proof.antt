@@ -1,12 +1,11 @@
 -- `t2block::increment` meets its contract.
-use mathlib.Core.Path.{_≡_, refl, sym, ap, _∙_}
+use mathlib.Core.Path.{_≡_, refl, ap, _∙_}
 use mathlib.Core.Bool.{false}
-use mathlib.Core.List.{List, [], _∷_}
 use Prim.Native.Nat.{ℕ, _+_, _-_, _≤_, max}
 use native.Mathlib.Omega.{arith}
 use lib.ListN.{length, drop}
 use borrow.Author.Needs.{needs}
-use Rattle.t800.specs.Segments.{Segment, segmentsOf, increment}
+use Rattle.t800.specs.Segments.{segmentsOf, increment}
 use Rattle.t2block.specs.Lengths.{segment, tooLong}
 use Rattle.t2block.proofs.Laws.FirstSegment.{begins, segments-end, increment-turn}
 use Rattle.t2block.proofs.increment.Statement.{statement}

@@ -1,9 +1,7 @@
 -- `t2block::lacking` meets its contract.
-use mathlib.Core.Path.{_≡_, _∙_, ap, sym}
-use Prim.Native.Nat.{ℕ, _+_, _-_}
 use native.Mathlib.Omega.{arith}
 use borrow.Author.Needs.{needs}
-use Rattle.t800.specs.Segments.{bitLength, width}
+use Rattle.t800.specs.Segments.{bitLength}
 use Rattle.t2block.proofs.Laws.FirstSegment.{log-small}
 use Rattle.t2block.proofs.lacking.Statement.{statement}
 use Rattle.t2block.proofs.lacking.Tie as tie

@@ -1,11 +1,10 @@
 -- `t2block::put_lengths` meets its contract.
-use mathlib.Core.Path.{_≡_, refl, sym, ap, _∙_, subst}
+use mathlib.Core.Path.{_≡_, sym, ap, _∙_, subst}
 use mathlib.Core.Bool.{false}
-use Prim.Native.Nat.{ℕ, _+_, _-_, _≤_}
+use Prim.Native.Nat.{ℕ, _+_}
 use native.Mathlib.Omega.{arith}
-use borrow.Author.Needs.{needs}
-use Rattle.t800.specs.Segments.{Segment, segmentsOf}
-use Rattle.bio.specs.Writing.{Output, output, putBits, FreeBitsClear}
+use Rattle.t800.specs.Segments.{segmentsOf}
+use Rattle.bio.specs.Writing.{Output, output, FreeBitsClear}
 use Rattle.bio.proofs.Laws.FreeBits.{putBits-clear}
 use Rattle.t2block.specs.Lengths.{tooWide}
 use Rattle.t2block.proofs.Laws.FirstSegment.{few-bits}

@@ -1,7 +1,7 @@
 -- Coding and setting with places that run on are t800's coding and setting of what is left of the lists.
-use mathlib.Core.Path.{_≡_, refl, sym, ap, _∙_, subst}
-use mathlib.Core.List.{List, [], _∷_, _++_}
-use Prim.Native.Nat.{ℕ, zero, suc, _+_, _≤_, _<_}
+use mathlib.Core.Path.{_≡_, refl, sym, ap, _∙_}
+use mathlib.Core.List.{List, [], _∷_}
+use Prim.Native.Nat.{ℕ, _+_, _≤_, _<_}
 use native.Mathlib.Numerals.{add-one}
 use native.Mathlib.Omega.{arith}
 use lib.ListN.{length, getD, take, drop}
@@ -12,7 +12,7 @@ use Rattle.t800.specs.TagTree.{Coded}
 use Rattle.t800.specs.WriteHeader.{setNewBlocks, codeBlock, codeBlocks}
 use Rattle.bio.specs.Writing.{Output, putBits}
 use Rattle.bio.proofs.Laws.FreeBits.{putBits-append}
-use Rattle.tgt.specs.Coding.{LeafCoded, putCoded}
+use Rattle.tgt.specs.Coding.{putCoded}
 use Rattle.t2block.specs.Blocks.{coded}
 use Rattle.t2block.specs.Runs.{Running, codeNext, codeAll, setNext, setAll}
 

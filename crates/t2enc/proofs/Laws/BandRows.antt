@@ -1,13 +1,12 @@
 -- A band row by row: its blocks are t800's, and what is left behind a row.
 use mathlib.Core.Path.{_≡_, refl, sym, ap, _∙_, subst}
-use mathlib.Core.List.{List, [], _∷_, _++_, reverse}
+use mathlib.Core.List.{List, [], _∷_, _++_}
 use Prim.Native.Nat.{ℕ, zero, suc, _+_, _-_, _*_, _≤_, _<_}
 use native.Mathlib.Nat.{mul-le-mul, le-refl, zero-add, suc-add}
 use native.Mathlib.Omega.{arith}
 use lib.ListN.{length, getD, drop}
 use Rattle.t800.specs.declared.Band.{Band}
-use Rattle.t800.specs.declared.Level.{Level}
-use Rattle.t800.specs.TagTree.{levels, nodes, pathToRoot}
+use Rattle.t800.specs.TagTree.{levels, pathToRoot}
 use Rattle.t800.specs.State.{Block, blockOf, blocksIn, bandNodes, bandLength, blocksFrom}
 use Rattle.t800.specs.WriteHeader.{isNew, lengthBitsBefore, codeInclusion, codeZeroPlanes, codePasses, codeBlock}
 use Rattle.bio.specs.Writing.{FreeBitsClear}
@@ -17,7 +16,7 @@ use Rattle.tgt.proofs.Laws.Path as tgt
 use Rattle.t2block.specs.declared.Place.{Place}
 use Rattle.t2block.specs.Blocks.{blockOver}
 use Rattle.t2block.specs.Runs.{Running, codeNext, codeAll, placeAt, rowBlocks, NextFits, AllFit, RowIn, setNext, setAll}
-use Rattle.t2block.proofs.Laws.OneBlock.{Before, path-before, path-wider, BlockBefore}
+use Rattle.t2block.proofs.Laws.OneBlock.{path-before, path-wider, BlockBefore}
 use Rattle.t2block.proofs.Laws.Rows.{AllBlocks, From, next-clear, next-keeps, all-still-fit}
 use Rattle.t2enc.specs.Bands.{gridOf, rowPlace, bandBlocks, BandIn}
 

@@ -3,13 +3,13 @@
 use mathlib.Core.Path.{_≡_, refl, sym, ap, _∙_, subst}
 use mathlib.Core.Bool.{Bool, true, false, cond, _&&_}
 use mathlib.Core.List.{List, [], _∷_, _++_, reverse}
-use Prim.Native.Nat.{ℕ, zero, suc, _+_, _-_, _*_, _≤_, _<_, max}
+use Prim.Native.Nat.{ℕ, zero, _+_, _-_, _*_, _≤_, _<_, max}
 use native.Mathlib.Nat.{zero-add, suc-add}
 use native.Mathlib.Omega.{arith}
 use lib.Dec.{eqb, ltb}
 use lib.ListN.{length, getD, take, drop, set, List·getD-append, length-set, take-append-drop, length-take}
 use lib.Seq.{set-append-left, getD-append-add}
-use Rattle.t800.specs.Segments.{Segment, increment, lengthFields, commaBits, segmentsOf}
+use Rattle.t800.specs.Segments.{Segment, increment, lengthFields, commaBits}
 use Rattle.t800.specs.PassCount.{passBits}
 use Rattle.t800.specs.State.{Block, notYetPlanes}
 use Rattle.t800.specs.TagTree.{Coded, codePath, setValue, lowAfter, nodeBits, knownAfter}

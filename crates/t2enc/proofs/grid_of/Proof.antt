@@ -1,7 +1,5 @@
 -- `t2enc::grid_of` meets its contract.
-use mathlib.Core.Path.{_≡_}
 use borrow.Author.Needs.{needs}
-use Rattle.t2enc.specs.declared.Grid.{Grid}
 use Rattle.t2enc.proofs.grid_of.Statement.{statement}
 use Rattle.t2enc.proofs.grid_of.Tie as tie
 
