@@ -1,0 +1,4 @@
+pub mod FirstSegment
+pub mod Passes
+pub mod OneBlock
+pub mod Rows

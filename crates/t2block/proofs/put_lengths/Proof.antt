@@ -1,0 +1,55 @@
+-- `t2block::put_lengths` meets its contract.
+use mathlib.Core.Path.{_≡_, sym, ap, _∙_, subst}
+use mathlib.Core.Bool.{false}
+use Prim.Native.Nat.{ℕ, _+_}
+use native.Mathlib.Omega.{arith}
+use Rattle.t800.specs.Segments.{segmentsOf}
+use Rattle.bio.specs.Writing.{Output, output, FreeBitsClear}
+use Rattle.bio.proofs.Laws.FreeBits.{putBits-clear}
+use Rattle.t2block.specs.Lengths.{tooWide}
+use Rattle.t2block.proofs.Laws.FirstSegment.{few-bits}
+use Rattle.t2block.proofs.Laws.Passes.{lengths-are}
+use Rattle.t2block.proofs.put_lengths.Statement.{statement}
+use Rattle.t2block.proofs.put_lengths.Tie as tie
+
+increment-requires : tie.Need-increment-requires
+increment-requires c κs = (c .before .before .before .pre .4, c .before .before .before .pre .5)
+
+add-lenbits : tie.Need-add-lenbits
+add-lenbits c =
+    let s = c .before .before .before .before in
+    omega (arith, c .increment .ensures, s .pre .2, s .pre .3, few-bits _ (s .args .lengths .now) (s .args .marks .now) (s .pre .4) (omega (arith, s .pre .2, s .pre .3)) (s .pre .6))
+
+put-pass-codeword-requires : tie.Need-put-pass-codeword-requires
+put-pass-codeword-requires c κs = let p = c .before .before .before .before .before .pre in (p .0, p .1, p .2, omega (arith, p .3, p .4 .few))
+
+opj-t2-putcommacode-requires : tie.Need-opj-t2-putcommacode-requires
+opj-t2-putcommacode-requires c κs = subst FreeBitsClear (sym (ap (λ (x : Output). x .bio) (c .before .before .before .put-pass-codeword .ensures))) (putBits-clear _ _ (c .before .before .before .before .before .before .before .before .before .pre .1))
+
+code-lengths-requires : tie.Need-code-lengths-requires
+code-lengths-requires c κs =
+    let s = c .before .before .before .before .before .before .before .before .before .before .before .before .before in
+    let m = c .before .before .before .before .before .before .before .before .before .increment .ensures in
+    let w = subst (λ (k : ℕ). tooWide (s .args .before + k) (segmentsOf (s .args .lengths .now) (s .args .marks .now)) ≡ false) (sym m) (s .pre .6) in
+    let f = subst FreeBitsClear (sym (ap (λ (x : Output). x .bio) (c .before .before .before .before .before .before .before .put-pass-codeword .ensures))) (putBits-clear _ _ (s .pre .1)) in
+    (subst FreeBitsClear (sym (ap (λ (x : Output). x .bio) (c .before .before .before .opj-t2-putcommacode .ensures))) (putBits-clear _ _ f), s .pre .4, few-bits _ (s .args .lengths .now) (s .args .marks .now) (s .pre .4) (omega (arith, s .pre .2, s .pre .3)) w, w)
+
+same-length : tie.Need-same-length
+same-length c = c .before .before .code-lengths .kept .0 ∙ c .before .before .before .before .before .before .opj-t2-putcommacode .kept .0 ∙ c .before .before .before .before .before .before .before .before .before .before .put-pass-codeword .kept .1 .0
+
+returns : tie.Need-returns
+returns c =
+    let s = c .before .before .before .before .before .before .before .before .before .before .before .before .before .before .before .before in
+    lengths-are (output (s .args .out .now) (s .args .b)) _ _ _ (s .args .before) (s .args .count) (c .before .before .before .before .before .before .before .before .before .before .before .before .increment .result) (segmentsOf (s .args .lengths .now) (s .args .marks .now)) (c .before .before .before .before .before .before .before .before .before .before .put-pass-codeword .ensures) (c .before .before .before .before .before .before .opj-t2-putcommacode .ensures) (c .before .before .code-lengths .ensures) (c .before .before .before .before .before .before .before .before .before .before .before .before .increment .ensures)
+
+pub put-lengths-spec : {M : Type 1} → statement M
+put-lengths-spec =
+    tie.close
+    (tie.spec
+    increment-requires
+    add-lenbits
+    put-pass-codeword-requires
+    opj-t2-putcommacode-requires
+    code-lengths-requires
+    same-length
+    returns)

@@ -1,0 +1,370 @@
+// The coding of blocks in a packet header (opj_t2_encode_packet of t2.rs): a block's lengths, its passes, the block, a row of them.
+ghost use mathlib.Core.Path.{_≡_};
+ghost use mathlib.Core.Bool.{false, cond};
+ghost use Prim.Native.Nat.{_+_, _-_, _*_, _^_, _<_, _≤_};
+ghost use lib.Dec.{T, ltb};
+ghost use lib.ListN.{length, drop, getD};
+ghost use Rattle.t800.specs.WriteHeader.{lengthBitsBefore, codeInclusion, codeZeroPlanes, codePasses, codeBlock};
+ghost use Rattle.t800.specs.Segments.{segmentsOf, width, bitLength, increment, lengthFields};
+ghost use Rattle.bio.specs.Writing.{output, putBits, FreeBitsClear};
+ghost use Rattle.t2codes.specs.PassTable.{isPassTable};
+ghost use Rattle.t2block.specs.Lengths.{segment, firstSegment, tooWide, BlockPasses, lengthsPut, putLengths};
+ghost use Rattle.tgt.specs.Coding.{leafCoded, putCoded};
+ghost use Rattle.t2block.specs.Blocks.{blockAt, blockOver, PassesFit, BlockIn};
+ghost use Rattle.t2block.specs.Runs.{running, codeNext, codeAll, placeAt, rowBlocks, NextFits, AllFit, RowIn, setNext, setAll};
+use t800::Bio;
+
+// A segment's passes in this layer, and their bytes.
+struct SegmentLength {
+    passes: u32,
+    bytes: u32,
+}
+
+// A block's new length bits, and where the bits stand.
+struct LengthsPut {
+    bits: u32,
+    bio: Bio,
+}
+
+// Where a block stands: its two trees, their depth, its column in them, its own words.
+pub struct Place {
+    pub incl: usize,
+    pub zero: usize,
+    pub depth: usize,
+    pub x: usize,
+    pub at: usize,
+}
+
+// Where the bits stand, and how many blocks and passes of the caller's lists are behind.
+pub struct Run {
+    pub bio: Bio,
+    pub block: usize,
+    pub pass: usize,
+}
+
+// ---- lengths
+
+// The segment that begins with pass `from`.
+fn next_segment(lengths: &[u32], marks: &[u8], from: usize) -> SegmentLength
+    requires { ⌜ (length (now marks) ≡ length (now lengths)) × (from ≤ length (now lengths)) × (length (now lengths) ≤ 164) × (firstSegment 0 0 (drop from (now lengths)) (drop from (now marks)) .bytes < 2 ^ 31) ⌝ }
+    ensures { λ r. ⌜ segment r ≡ firstSegment 0 0 (drop from (now (lengths .entry))) (drop from (now (marks .entry))) ⌝ }
+{
+    let mut passes: u32 = 0;
+    let mut bytes: u32 = 0;
+    let mut i = from;
+    while i < lengths.len() {
+        passes += 1;
+        bytes += lengths[i];
+        if marks[i] != 0 {
+            return SegmentLength { passes, bytes };
+        }
+        i += 1;
+    }
+    SegmentLength { passes, bytes }
+}
+
+fn field_width(lenbits: u32, passes: u32) -> u32
+    requires { ⌜ (lenbits ≤ 32) × (passes ≤ 164) ⌝ }
+    ensures { λ r. ⌜ r ≡ width lenbits passes ⌝ }
+{
+    let log = math::opj_uint_floorlog2(passes);
+    lenbits + log
+}
+
+// The bits that a length has more than its field.
+fn lacking(lenbits: u32, s: SegmentLength) -> u32
+    requires { ⌜ (lenbits ≤ 32) × (s .passes ≤ 164) × (s .bytes < 2 ^ 31) ⌝ }
+    ensures { λ r. ⌜ r ≡ bitLength (s .bytes) - width lenbits (s .passes) ⌝ }
+{
+    let have = field_width(lenbits, s.passes);
+    let log = math::opj_uint_floorlog2(s.bytes);
+    let want = 1 + log;
+    if want <= have {
+        return 0;
+    }
+    want - have
+}
+
+// What a block's segments add to its length bits.
+pub fn increment(lengths: &[u32], marks: &[u8], lenbits: u32) -> u32
+    requires { ⌜ (BlockPasses (now lengths) (now marks)) × (lenbits ≤ 32) ⌝ }
+    ensures { λ r. ⌜ r ≡ increment lenbits (segmentsOf (now (lengths .entry)) (now (marks .entry))) ⌝ }
+{
+    let mut most: u32 = 0;
+    let mut from: usize = 0;
+    while from < lengths.len() {
+        let s = next_segment(lengths, marks, from);
+        most = math::opj_uint_max(most, lacking(lenbits, s));
+        from += s.passes as usize;
+    }
+    most
+}
+
+// One length per segment.
+fn code_lengths(out: &mut [u8], b: Bio, lengths: &[u32], marks: &[u8], lenbits: u32) -> Bio
+    requires { ⌜ (FreeBitsClear b) × (BlockPasses (now lengths) (now marks)) × (lenbits ≤ 32) × (tooWide lenbits (segmentsOf (now lengths) (now marks)) ≡ false) ⌝ }
+    ensures { λ r. ⌜ output (now (out .exit)) r ≡ putBits (output (now (out .entry)) b) (lengthFields lenbits (segmentsOf (now (lengths .entry)) (now (marks .entry)))) ⌝ }
+{
+    let mut bio = b;
+    let mut i: usize = 0;
+    while i < lengths.len() {
+        let s = next_segment(lengths, marks, i);
+        let bits = field_width(lenbits, s.passes);
+        bio = bio::opj_bio_write(out, bio, s.bytes, bits);
+        i += s.passes as usize;
+    }
+    bio
+}
+
+// Pass count, increment of the length bits, lengths.
+fn put_lengths(
+    codes: &[u32; 328],
+    out: &mut [u8],
+    b: Bio,
+    before: u32,
+    count: u32,
+    lengths: &[u32],
+    marks: &[u8],
+) -> LengthsPut
+    requires { ⌜ (T (isPassTable (now codes))) × (FreeBitsClear b) × (1 ≤ count) × (count ≡ length (now lengths)) × (BlockPasses (now lengths) (now marks)) × (before ≤ 32) × (tooWide (before + increment before (segmentsOf (now lengths) (now marks))) (segmentsOf (now lengths) (now marks)) ≡ false) ⌝ }
+    ensures { λ r. ⌜ lengthsPut (now (out .exit)) r ≡ putLengths (output (now (out .entry)) b) before count (segmentsOf (now (lengths .entry)) (now (marks .entry))) ⌝ }
+{
+    let more = increment(lengths, marks, before);
+    let lenbits = before + more;
+    let counted = t2codes::put_pass_codeword(codes, out, b, count);
+    let widened = t2codes::opj_t2_putcommacode(out, counted, more);
+    let bio = code_lengths(out, widened, lengths, marks, lenbits);
+    LengthsPut { bits: lenbits, bio }
+}
+
+// ---- one block
+
+// 3 until it is first included.
+fn length_bits_before(words: &[u32], at: usize) -> u32
+    requires { ⌜ at + 3 < length (now words) ⌝ }
+    ensures { λ r. ⌜ r ≡ lengthBitsBefore (now (words .entry)) (blockAt at) ⌝ }
+{
+    if words[at] == 0 {
+        return 3;
+    }
+    words[at + 1]
+}
+
+fn code_passes(
+    codes: &[u32; 328],
+    words: &mut [u32],
+    out: &mut [u8],
+    b: Bio,
+    at: usize,
+    count: u32,
+    lengths: &[u32],
+    marks: &[u8],
+) -> Bio
+    requires { ⌜ (T (isPassTable (now codes))) × (FreeBitsClear b) × (at + 3 < length (now words)) × (1 ≤ count) × (PassesFit (getD (now words) at 0) (getD (now words) (at + 1) 0) count (now lengths) (now marks)) ⌝ }
+    ensures { λ r. ⌜ leafCoded (now (words .exit)) (now (out .exit)) r ≡ putCoded (output (now (out .entry)) b) (codePasses (blockAt at) count (segmentsOf (now (lengths .entry)) (now (marks .entry))) (now (words .entry))) ⌝ }
+{
+    let before = length_bits_before(words, at);
+    let r = put_lengths(codes, out, b, before, count, lengths, marks);
+    let passes = words[at] + count;
+    words[at] = passes;
+    words[at + 1] = r.bits;
+    r.bio
+}
+
+fn included(count: u32) -> u32
+    ensures { λ r. ⌜ r ≡ cond (ltb 0 count) 1 0 ⌝ }
+{
+    if 0 < count { 1 } else { 0 }
+}
+
+// By tree until first included, then one bit.
+fn code_inclusion(
+    words: &mut [u32],
+    out: &mut [u8],
+    b: Bio,
+    p: Place,
+    row: &[usize; 7],
+    layer: u32,
+    count: u32,
+) -> Bio
+    requires { ⌜ (FreeBitsClear b) × (BlockIn (length (now words)) p (now row)) × (layer < 999) ⌝ }
+    ensures { λ r. ⌜ leafCoded (now (words .exit)) (now (out .exit)) r ≡ putCoded (output (now (out .entry)) b) (codeInclusion layer (blockOver p (now (row .entry))) count (now (words .entry))) ⌝ }
+{
+    let at = p.at;
+    if words[at] == 0 {
+        return tgt::opj_tgt_encode(words, out, b, p.incl, row, p.depth, p.x, layer + 1);
+    }
+    let bit = included(count);
+    bio::opj_bio_putbit(out, b, bit)
+}
+
+// At first inclusion.
+fn code_zero_planes(words: &mut [u32], out: &mut [u8], b: Bio, p: Place, row: &[usize; 7]) -> Bio
+    requires { ⌜ (FreeBitsClear b) × (BlockIn (length (now words)) p (now row)) ⌝ }
+    ensures { λ r. ⌜ leafCoded (now (words .exit)) (now (out .exit)) r ≡ putCoded (output (now (out .entry)) b) (codeZeroPlanes (blockOver p (now (row .entry))) (now (words .entry))) ⌝ }
+{
+    let at = p.at;
+    if words[at] == 0 {
+        return tgt::opj_tgt_encode(
+            words,
+            out,
+            b,
+            p.zero,
+            row,
+            p.depth,
+            p.x,
+            tcdstate::NOT_YET_PLANES,
+        );
+    }
+    b
+}
+
+fn code_block(
+    codes: &[u32; 328],
+    words: &mut [u32],
+    out: &mut [u8],
+    b: Bio,
+    p: Place,
+    row: &[usize; 7],
+    layer: u32,
+    count: u32,
+    lengths: &[u32],
+    marks: &[u8],
+) -> Bio
+    requires { ⌜ (T (isPassTable (now codes))) × (FreeBitsClear b) × (BlockIn (length (now words)) p (now row)) × (layer < 999) × (PassesFit (getD (now words) (p .at) 0) (getD (now words) (p .at + 1) 0) count (now lengths) (now marks)) ⌝ }
+    ensures { λ r. ⌜ leafCoded (now (words .exit)) (now (out .exit)) r ≡ putCoded (output (now (out .entry)) b) (codeBlock layer (blockOver p (now (row .entry))) count (segmentsOf (now (lengths .entry)) (now (marks .entry))) (now (words .entry))) ⌝ }
+{
+    let told = code_inclusion(words, out, b, p, row, layer, count);
+    if count == 0 {
+        return told;
+    }
+    let planes = code_zero_planes(words, out, told, p, row);
+    code_passes(codes, words, out, planes, p.at, count, lengths, marks)
+}
+
+// ---- a row of blocks
+
+fn place_at(p: Place, i: usize) -> Place
+    requires { ⌜ (p .x + i < 2 ^ 32) × (p .at + 4 * i < 2 ^ 63) ⌝ }
+    ensures { λ r. ⌜ r ≡ placeAt p i ⌝ }
+{
+    Place {
+        incl: p.incl,
+        zero: p.zero,
+        depth: p.depth,
+        x: p.x + i,
+        at: p.at + 4 * i,
+    }
+}
+
+fn code_next(
+    codes: &[u32; 328],
+    words: &mut [u32],
+    out: &mut [u8],
+    r: Run,
+    p: Place,
+    row: &[usize; 7],
+    layer: u32,
+    counts: &[u32],
+    lengths: &[u32],
+    marks: &[u8],
+) -> Run
+    requires { ⌜ (T (isPassTable (now codes))) × (FreeBitsClear (r .bio)) × (BlockIn (length (now words)) p (now row)) × (layer < 999) × (NextFits (now counts) (now lengths) (now marks) (now words) (p .at) (r .block) (r .pass)) ⌝ }
+    ensures { λ s. ⌜ running (now (words .exit)) (now (out .exit)) s ≡ codeNext layer (now (counts .entry)) (now (lengths .entry)) (now (marks .entry)) (blockOver p (now (row .entry))) (running (now (words .entry)) (now (out .entry)) r) ⌝ }
+{
+    let block = r.block;
+    let next = block + 1;
+    let from = r.pass;
+    let count = counts[block];
+    let to = from + count as usize;
+    let bio = code_block(
+        codes,
+        words,
+        out,
+        r.bio,
+        p,
+        row,
+        layer,
+        count,
+        &lengths[from..to],
+        &marks[from..to],
+    );
+    Run {
+        bio,
+        block: next,
+        pass: to,
+    }
+}
+
+// n blocks.
+pub fn code_row(
+    codes: &[u32; 328],
+    words: &mut [u32],
+    out: &mut [u8],
+    r: Run,
+    p: Place,
+    n: usize,
+    row: &[usize; 7],
+    layer: u32,
+    counts: &[u32],
+    lengths: &[u32],
+    marks: &[u8],
+) -> Run
+    requires { ⌜ (T (isPassTable (now codes))) × (FreeBitsClear (r .bio)) × (RowIn (length (now words)) p (now row) n) × (layer < 999) × (AllFit (now counts) (now lengths) (now marks) (now words) (rowBlocks p (now row) n 0) (r .block) (r .pass)) ⌝ }
+    ensures { λ s. ⌜ running (now (words .exit)) (now (out .exit)) s ≡ codeAll layer (now (counts .entry)) (now (lengths .entry)) (now (marks .entry)) (rowBlocks p (now (row .entry)) n 0) (running (now (words .entry)) (now (out .entry)) r) ⌝ }
+{
+    let mut run = r;
+    let mut i: usize = 0;
+    while i < n {
+        let place = place_at(p, i);
+        run = code_next(
+            codes,
+            words,
+            out,
+            run,
+            place,
+            row,
+            layer,
+            counts,
+            lengths,
+            marks,
+        );
+        i += 1;
+    }
+    run
+}
+
+fn set_next(words: &mut [u32], p: Place, row: &[usize; 7], layer: u32, count: u32)
+    requires { ⌜ BlockIn (length (now words)) p (now row) ⌝ }
+    ensures { λ _. ⌜ now (words .exit) ≡ setNext layer (blockOver p (now (row .entry))) count (now (words .entry)) ⌝ }
+{
+    let at = p.at;
+    if words[at] != 0 {
+        return;
+    }
+    if count == 0 {
+        return;
+    }
+    tgt::opj_tgt_setvalue(words, p.incl, row, p.depth, p.x, layer);
+}
+
+// n blocks, of which the first has count number `block`.
+pub fn set_row(
+    words: &mut [u32],
+    p: Place,
+    n: usize,
+    row: &[usize; 7],
+    layer: u32,
+    counts: &[u32],
+    block: usize,
+)
+    requires { ⌜ (RowIn (length (now words)) p (now row) n) × (block + n ≤ length (now counts)) ⌝ }
+    ensures { λ _. ⌜ now (words .exit) ≡ setAll layer (now (counts .entry)) (rowBlocks p (now (row .entry)) n 0) block (now (words .entry)) ⌝ }
+{
+    let mut i: usize = 0;
+    while i < n {
+        let place = place_at(p, i);
+        set_next(words, place, row, layer, counts[block + i]);
+        i += 1;
+    }
+}

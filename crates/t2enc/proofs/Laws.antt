@@ -1,0 +1,3 @@
+pub mod BandRows
+pub mod AllBlocks
+pub mod TwoBands

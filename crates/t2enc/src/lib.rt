@@ -1,0 +1,125 @@
+// The coding of a band's blocks in a packet header (opj_t2_encode_packet of t2.rs): its new blocks are set, then all are coded, row by row.
+ghost use mathlib.Core.Path.{_≡_};
+ghost use Prim.Native.Nat.{_+_, _*_, _^_, _<_, _≤_};
+ghost use lib.Dec.{T};
+ghost use lib.ListN.{length};
+ghost use Rattle.t800.specs.TagTree.{levels};
+ghost use Rattle.t800.specs.State.{blocksIn};
+ghost use Rattle.bio.specs.Writing.{FreeBitsClear};
+ghost use Rattle.tcd.specs.Geometry.{SidesUpTo64, padded};
+ghost use Rattle.t2codes.specs.PassTable.{isPassTable};
+ghost use Rattle.t2block.specs.Runs.{running, codeAll, AllFit, setAll};
+ghost use Rattle.t2enc.specs.Bands.{gridOf, rowPlace, bandBlocks, BandIn};
+use t2block::Place;
+use t2block::Run;
+use t800::Band;
+use t800::Level;
+
+// Where a band's words begin, the nodes and levels of one of its trees, its blocks across.
+struct Grid {
+    start: usize,
+    nodes: usize,
+    depth: usize,
+    w: usize,
+}
+
+fn grid_of(band: Band, start: usize) -> Grid
+    requires { ⌜ SidesUpTo64 band ⌝ }
+    ensures { λ r. ⌜ r ≡ gridOf start band ⌝ }
+{
+    let nodes = tcd::band_nodes(band);
+    let depth = tcd::num_levels(band.across, band.down);
+    Grid {
+        start,
+        nodes,
+        depth,
+        w: band.across as usize,
+    }
+}
+
+fn rows(band: Band) -> usize
+    ensures { λ r. ⌜ r ≡ band .down ⌝ }
+{
+    band.down as usize
+}
+
+// Row y's first block.
+fn row_place(g: Grid, y: usize) -> Place
+    requires { ⌜ (g .w ≤ 64) × (y ≤ 64) × (g .start + 6 * g .nodes + 4 * (y * g .w) < 2 ^ 63) ⌝ }
+    ensures { λ r. ⌜ r ≡ rowPlace g y ⌝ }
+{
+    let zero = g.start + 3 * g.nodes;
+    let before = y * g.w;
+    let at = g.start + 6 * g.nodes + 4 * before;
+    Place {
+        incl: g.start,
+        zero,
+        depth: g.depth,
+        x: 0,
+        at,
+    }
+}
+
+// The band's first block has count number `block`.
+pub fn set_new_blocks(
+    words: &mut [u32],
+    band: Band,
+    tree: [Level; 7],
+    start: usize,
+    layer: u32,
+    counts: &[u32],
+    block: usize,
+)
+    requires { ⌜ (BandIn (length (now words)) start band) × (tree ≡ padded (levels (band .across) (band .down))) × (block + blocksIn band ≤ length (now counts)) ⌝ }
+    ensures { λ _. ⌜ now (words .exit) ≡ setAll layer (now (counts .entry)) (bandBlocks start band) block (now (words .entry)) ⌝ }
+{
+    let g = grid_of(band, start);
+    let mut y: usize = 0;
+    while y < rows(band) {
+        let row = tgt::opj_tgt_row(tree, g.depth, y);
+        let place = row_place(g, y);
+        let first = block + y * g.w;
+        t2block::set_row(words, place, g.w, &row, layer, counts, first);
+        y += 1;
+    }
+}
+
+pub fn code_blocks(
+    codes: &[u32; 328],
+    words: &mut [u32],
+    out: &mut [u8],
+    r: Run,
+    band: Band,
+    tree: [Level; 7],
+    start: usize,
+    layer: u32,
+    counts: &[u32],
+    lengths: &[u32],
+    marks: &[u8],
+) -> Run
+    requires { ⌜ (T (isPassTable (now codes))) × (FreeBitsClear (r .bio)) × (BandIn (length (now words)) start band) × (tree ≡ padded (levels (band .across) (band .down))) × (layer < 999) × (AllFit (now counts) (now lengths) (now marks) (now words) (bandBlocks start band) (r .block) (r .pass)) ⌝ }
+    ensures { λ s. ⌜ running (now (words .exit)) (now (out .exit)) s ≡ codeAll layer (now (counts .entry)) (now (lengths .entry)) (now (marks .entry)) (bandBlocks start band) (running (now (words .entry)) (now (out .entry)) r) ⌝ }
+{
+    let g = grid_of(band, start);
+    let mut run = r;
+    let mut y: usize = 0;
+    while y < rows(band) {
+        let row = tgt::opj_tgt_row(tree, g.depth, y);
+        let place = row_place(g, y);
+        run = t2block::code_row(
+            codes,
+            words,
+            out,
+            run,
+            place,
+            g.w,
+            &row,
+            layer,
+            counts,
+            lengths,
+            marks,
+        );
+        y += 1;
+    }
+    run
+}
