@@ -213,7 +213,7 @@ fn code_zero_planes(words: &mut [u32], out: &mut [u8], b: Bio, p: Place, row: &[
             row,
             p.depth,
             p.x,
-            tcdstate::NOT_YET_PLANES,
+            tcd::NOT_YET_PLANES,
         );
     }
     b
