@@ -1,18 +1,21 @@
-// The coding of a band's blocks in a packet header (opj_t2_encode_packet of t2.rs): its new blocks are set, then all are coded, row by row.
+// The coding of a packet's blocks band by band (opj_t2_encode_packet of t2.rs): a band's new blocks are set, then all are coded, row by row.
 ghost use mathlib.Core.Path.{_≡_};
 ghost use Prim.Native.Nat.{_+_, _*_, _^_, _<_, _≤_};
 ghost use lib.Dec.{T};
-ghost use lib.ListN.{length};
+ghost use lib.ListN.{length, take};
 ghost use Rattle.t800.specs.TagTree.{levels};
-ghost use Rattle.t800.specs.State.{blocksIn};
-ghost use Rattle.bio.specs.Writing.{FreeBitsClear};
-ghost use Rattle.tcd.specs.Geometry.{SidesUpTo64, padded};
+ghost use Rattle.t800.specs.State.{blocksIn, blocks, stateLength};
+ghost use Rattle.t800.specs.WriteHeader.{setNewBlocks, codeBlocks};
+ghost use Rattle.bio.specs.Writing.{output, FreeBitsClear};
+ghost use Rattle.tgt.specs.Coding.{leafCoded, putCoded};
+ghost use Rattle.tcd.specs.Geometry.{SidesUpTo64, AllUpTo64, padded};
 ghost use Rattle.t2codes.specs.PassTable.{isPassTable};
 ghost use Rattle.t2block.specs.Runs.{running, codeAll, AllFit, setAll};
-ghost use Rattle.t2enc.specs.Bands.{gridOf, rowPlace, bandBlocks, BandIn};
+ghost use Rattle.t2enc.specs.Bands.{gridOf, rowPlace, bandBlocks, BandIn, codeBand};
 use t2block::Place;
 use t2block::Run;
 use t800::Band;
+use t800::Bio;
 use t800::Level;
 
 // Where a band's words begin, the nodes and levels of one of its trees, its blocks across.
@@ -61,7 +64,7 @@ fn row_place(g: Grid, y: usize) -> Place
 }
 
 // The band's first block has count number `block`.
-pub fn set_new_blocks(
+fn set_new_blocks(
     words: &mut [u32],
     band: Band,
     tree: [Level; 7],
@@ -84,7 +87,7 @@ pub fn set_new_blocks(
     }
 }
 
-pub fn code_blocks(
+fn code_blocks(
     codes: &[u32; 328],
     words: &mut [u32],
     out: &mut [u8],
@@ -122,4 +125,82 @@ pub fn code_blocks(
         y += 1;
     }
     run
+}
+
+// The band's new blocks are set before its first is coded.
+fn code_band(
+    codes: &[u32; 328],
+    words: &mut [u32],
+    out: &mut [u8],
+    r: Run,
+    band: Band,
+    tree: [Level; 7],
+    start: usize,
+    layer: u32,
+    counts: &[u32],
+    lengths: &[u32],
+    marks: &[u8],
+) -> Run
+    requires { ⌜ (T (isPassTable (now codes))) × (FreeBitsClear (r .bio)) × (BandIn (length (now words)) start band) × (tree ≡ padded (levels (band .across) (band .down))) × (layer < 999) × (r .block + blocksIn band ≤ length (now counts)) × (AllFit (now counts) (now lengths) (now marks) (now words) (bandBlocks start band) (r .block) (r .pass)) ⌝ }
+    ensures { λ s. ⌜ running (now (words .exit)) (now (out .exit)) s ≡ codeBand layer (now (counts .entry)) (now (lengths .entry)) (now (marks .entry)) start band (running (now (words .entry)) (now (out .entry)) r) ⌝ }
+{
+    set_new_blocks(words, band, tree, start, layer, counts, r.block);
+    code_blocks(
+        codes,
+        words,
+        out,
+        r,
+        band,
+        tree,
+        start,
+        layer,
+        counts,
+        lengths,
+        marks,
+    )
+}
+
+// The blocks of the first n bands.
+pub fn code_bands(
+    codes: &[u32; 328],
+    words: &mut [u32],
+    out: &mut [u8],
+    b: Bio,
+    bands: [Band; 3],
+    n: usize,
+    layer: u32,
+    counts: &[u32],
+    lengths: &[u32],
+    marks: &[u8],
+) -> Bio
+    requires { ⌜ (T (isPassTable (now codes))) × (FreeBitsClear b) × (n ≤ 3) × (AllUpTo64 (take n bands)) × (length (now words) ≡ stateLength (take n bands)) × (layer < 999) × (length (now counts) ≡ length (blocks (take n bands))) × (AllFit (now counts) (now lengths) (now marks) (now words) (blocks (take n bands)) 0 0) ⌝ }
+    ensures { λ r. ⌜ leafCoded (now (words .exit)) (now (out .exit)) r ≡ putCoded (output (now (out .entry)) b) (codeBlocks layer (blocks (take n bands)) (now (counts .entry)) (now (lengths .entry)) (now (marks .entry)) (setNewBlocks layer (blocks (take n bands)) (now (counts .entry)) (now (words .entry)))) ⌝ }
+{
+    let trees = tcd::band_levels(bands);
+    let mut run = Run {
+        bio: b,
+        block: 0,
+        pass: 0,
+    };
+    let mut start: usize = 13;
+    let mut i: usize = 0;
+    while i < n {
+        let band = bands[i];
+        run = code_band(
+            codes,
+            words,
+            out,
+            run,
+            band,
+            trees[i],
+            start,
+            layer,
+            counts,
+            lengths,
+            marks,
+        );
+        start += tcd::band_length(band);
+        i += 1;
+    }
+    run.bio
 }

@@ -60,8 +60,11 @@ onto-before : (q base : ℕ) (js ks : List ℕ) → Before q base js → Before 
 onto-before q base [] ks h g = g
 onto-before q base (j ∷ js) ks h g = onto-before q base js (j ∷ ks) (h .1) (h .0, g)
 
+pub reversed-before : (q base : ℕ) (js : List ℕ) → Before q base js → Before q base (reverse js)
+reversed-before q base js h = onto-before q base js [] h tt
+
 pub path-before : (q base : ℕ) (row : List ℕ) (depth x : ℕ) → PathIn q base row depth x → Before q base (reverse (pathOver row depth x))
-path-before q base row depth x p = onto-before q base (pathOver row depth x) [] (nodes-before q base row depth x (p .inside)) tt
+path-before q base row depth x p = reversed-before q base (pathOver row depth x) (nodes-before q base row depth x (p .inside))
 
 -- coding it leaves what stands from q on
 path-keeps : (q base t : ℕ) (ns : List ℕ) (l : ℕ) (ws : List ℕ) → Before q base ns → drop q (codePath base t ns l ws .words) ≡ drop q ws

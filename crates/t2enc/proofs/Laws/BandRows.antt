@@ -44,7 +44,7 @@ unfolding codeAll
 all-keep q t cs ls ms [] s b = refl
 all-keep q t cs ls ms (k ∷ ks) s b = all-keep q t cs ls ms ks (codeNext t cs ls ms k s) (b .1) ∙ next-keeps q t cs ls ms k s (b .0)
 
-first-fit : (cs ls ms ws : List ℕ) (ks js : List Block) (block pass : ℕ) → AllFit cs ls ms ws (ks ++ js) block pass → AllFit cs ls ms ws ks block pass
+pub first-fit : (cs ls ms ws : List ℕ) (ks js : List Block) (block pass : ℕ) → AllFit cs ls ms ws (ks ++ js) block pass → AllFit cs ls ms ws ks block pass
 first-fit cs ls ms ws [] js block pass f = tt
 first-fit cs ls ms ws (k ∷ ks) js block pass f = (f .0, first-fit cs ls ms ws ks js (block + 1) (pass + getD cs block 0) (f .1))
 
@@ -82,12 +82,12 @@ row-blocks at b (suc m) n i =
     let e : i + 1 + m ≡ i + suc m = omega arith in
     ap (λ (z : ℕ). blocksFrom at b z i) (suc-add m n) ∙ ap (λ (ks : List Block). blockOf at b i ∷ ks) (row-blocks at b m n (i + 1) ∙ ap (λ (z : ℕ). blocksFrom at b m (i + 1) ++ blocksFrom at b n z) e)
 
-blocks-from : (q at : ℕ) (b : Band) (n i : ℕ) → q ≤ at + 6 * bandNodes b + 4 * i → AllBlocks (From q) (blocksFrom at b n i)
+pub blocks-from : (q at : ℕ) (b : Band) (n i : ℕ) → q ≤ at + 6 * bandNodes b + 4 * i → AllBlocks (From q) (blocksFrom at b n i)
 unfolding blocksFrom
 blocks-from q at b zero i h = tt
 blocks-from q at b (suc n) i h = (h, blocks-from q at b n (i + 1) (omega arith))
 
-count-from : (at : ℕ) (b : Band) (n i : ℕ) → length (blocksFrom at b n i) ≡ n
+pub count-from : (at : ℕ) (b : Band) (n i : ℕ) → length (blocksFrom at b n i) ≡ n
 unfolding blocksFrom
 count-from at b zero i = refl
 count-from at b (suc n) i = ap suc (count-from at b n (i + 1))

@@ -18,6 +18,7 @@ use Rattle.t800.proofs.Laws.Tests.{either}
 use Rattle.t2block.specs.Runs.{Running, behindCoded, codeNext, codeAll, setNext, setAll}
 use Rattle.t2block.proofs.Laws.OneBlock.{Before, BlockBefore}
 use Rattle.t2block.proofs.Laws.Rows.{AllBlocks}
+use Rattle.t2enc.specs.Bands.{newSet}
 
 -- ---- coding in the front part
 
@@ -197,22 +198,18 @@ block-then-set q t c i k segments cs js ws h b a =
     let m : length (take q ws) ≡ q = length-take q ws ∙ omega arith in
     subst (λ (vs : List ℕ). codeBlock t k c segments (setAll t cs js i vs) ≡ record { bits = codeBlock t k c segments vs .bits; words = setAll t cs js i (codeBlock t k c segments vs .words) }) (take-append-drop q ws) (parts q t c i k segments cs js (take q ws) (drop q ws) m b a)
 
--- new blocks of a later band set
-abbrev pub laterSet : ℕ → List ℕ → List Block → ℕ → Running → Running
-laterSet t cs js i s = record { words = setAll t cs js i (s .words); output = s .output; block = s .block; pass = s .pass }
-
 next-then-set : (q t i : ℕ) (cs ls ms : List ℕ) (k : Block) (js : List Block) (s : Running) → q ≤ length (s .words) → BlockBefore q k → AllBlocks (BlockBehind q) js
-    → codeNext t cs ls ms k (laterSet t cs js i s) ≡ laterSet t cs js i (codeNext t cs ls ms k s)
+    → codeNext t cs ls ms k (newSet t cs js i s) ≡ newSet t cs js i (codeNext t cs ls ms k s)
 unfolding codeNext
 next-then-set q t i cs ls ms k js s h b a = ap (behindCoded s (getD cs (s .block) 0)) (block-then-set q t _ i k _ cs js (s .words) h b a)
 
-next-length : (t : ℕ) (cs ls ms : List ℕ) (k : Block) (s : Running) → length (codeNext t cs ls ms k s .words) ≡ length (s .words)
+pub next-length : (t : ℕ) (cs ls ms : List ℕ) (k : Block) (s : Running) → length (codeNext t cs ls ms k s .words) ≡ length (s .words)
 unfolding codeNext
 next-length t cs ls ms k s = block-length t _ k _ (s .words)
 
 -- a band's blocks coded before or after a later band's new blocks are set
 pub code-then-set : (q t i : ℕ) (cs ls ms : List ℕ) (ks js : List Block) (s : Running) → q ≤ length (s .words) → AllBlocks (BlockBefore q) ks → AllBlocks (BlockBehind q) js
-    → codeAll t cs ls ms ks (laterSet t cs js i s) ≡ laterSet t cs js i (codeAll t cs ls ms ks s)
+    → codeAll t cs ls ms ks (newSet t cs js i s) ≡ newSet t cs js i (codeAll t cs ls ms ks s)
 unfolding codeAll
 code-then-set q t i cs ls ms [] js s h b a = refl
 code-then-set q t i cs ls ms (k ∷ ks) js s h b a =
