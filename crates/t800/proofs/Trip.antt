@@ -10,6 +10,7 @@ pub mod Segments
 pub mod Changes
 pub mod SetLeaves
 pub mod WriterState
+pub mod HeaderLength
 pub mod InStep
 pub mod Booked
 pub mod Block

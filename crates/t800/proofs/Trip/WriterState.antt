@@ -174,7 +174,7 @@ three-bits-before ws k t b =
     (λ h. rw (if-ne (passesSoFar ws (k .at)) 0 3 (lengthBits ws (k .at)) h) (b .some-bits (omega arith)))
 
 -- passes make a segment
-abbrev SomeSegment : List Segment → Type 0
+abbrev pub SomeSegment : List Segment → Type 0
 SomeSegment gs = (g : Segment) × (more : List Segment) × (gs ≡ g ∷ more)
 
 some-from : (n bytes l : ℕ) (ls : List ℕ) (m : ℕ) (ms : List ℕ) → length ls ≡ length ms → SomeSegment (segmentsFrom n bytes (l ∷ ls) (m ∷ ms))
@@ -185,14 +185,14 @@ some-from n bytes l (x ∷ ls) m [] e = absurd (omega arith)
 some-from n bytes l (x ∷ ls) m (y ∷ ms) e =
     either SomeSegment (not (eqb m 0) || _) _ _ (record { passes = n + 1; bytes = bytes + l }, segmentsFrom 0 0 (x ∷ ls) (y ∷ ms), refl) (some-from (n + 1) (bytes + l) x ls y ms (omega arith))
 
-some-segment : (ls ms : List ℕ) → length ls ≡ length ms → 0 < length ls → SomeSegment (segmentsOf ls ms)
+pub some-segment : (ls ms : List ℕ) → length ls ≡ length ms → 0 < length ls → SomeSegment (segmentsOf ls ms)
 unfolding segmentsOf
 some-segment [] ms e h = absurd (omega arith)
 some-segment (l ∷ ls) [] e h = absurd (omega arith)
 some-segment (l ∷ ls) (m ∷ ms) e h = some-from 0 0 l ls m ms (omega arith)
 
 -- a field that isn't too wide bounds the length bits
-bits-fit : (lb : ℕ) (gs : List Segment) → SomeSegment gs → tooWide lb gs ≡ false → lb ≤ 32
+pub bits-fit : (lb : ℕ) (gs : List Segment) → SomeSegment gs → tooWide lb gs ≡ false → lb ≤ 32
 unfolding width
 bits-fit lb gs s h = omega (arith, field-fits lb (s .0) (s .1) (rw (s .2) at h) .0)
 
@@ -254,12 +254,12 @@ module _ (L : Layout) (k : Block) (P : Placed L k) (t c : ℕ) (ls ms : List ℕ
 
 -- ---- all blocks are coded
 
-abbrev AllCodable : ℕ → List ℕ → List Block → List ℕ → List ℕ → List ℕ → Type 0
+abbrev pub AllCodable : ℕ → List ℕ → List Block → List ℕ → List ℕ → List ℕ → Type 0
 AllCodable t ws [] cs ls ms = Unit {0}
 AllCodable t ws (k ∷ ks) [] ls ms = Unit {0}
 AllCodable t ws (k ∷ ks) (c ∷ cs) ls ms = Codable t ws k c (take c ls) (take c ms) × AllCodable t ws ks cs (drop c ls) (drop c ms)
 
-still-codable : (L : Layout) (t : ℕ) (ws vs : List ℕ) (k : Block) (c : ℕ) (ks : List Block) (cs ls ms : List ℕ) → BlockCoded L ws vs k c → SeparateFromAll k ks → AllPlaced L ks
+pub still-codable : (L : Layout) (t : ℕ) (ws vs : List ℕ) (k : Block) (c : ℕ) (ks : List Block) (cs ls ms : List ℕ) → BlockCoded L ws vs k c → SeparateFromAll k ks → AllPlaced L ks
     → AllCodable t ws ks cs ls ms → AllCodable t vs ks cs ls ms
 still-codable L t ws vs k c [] cs ls ms b o f d = tt
 still-codable L t ws vs k c (j ∷ js) [] ls ms b o f d = tt
@@ -315,7 +315,7 @@ pub later-fits : (ws : List ℕ) (k : Block) (ks : List Block) (c : ℕ) (cs ls 
 unfolding fieldTooWide
 later-fits ws k ks c cs ls ms h = or-right (any _ (segmentsOf (take c ls) (take c ms))) (fieldTooWide ws ks cs (drop c ls) (drop c ms)) h
 
-all-codable : (L : Layout) (t : ℕ) (ws vs : List ℕ) (ks : List Block) (cs ls ms : List ℕ) → AllPlaced L ks → NodesOnly L ws vs → ((p : ℕ) → L .BlockAt p → passesSoFar ws p ≤ 164 * t)
+pub all-codable : (L : Layout) (t : ℕ) (ws vs : List ℕ) (ks : List Block) (cs ls ms : List ℕ) → AllPlaced L ks → NodesOnly L ws vs → ((p : ℕ) → L .BlockAt p → passesSoFar ws p ≤ 164 * t)
     → length ls ≡ sum cs → length ms ≡ sum cs → any (λ (c : ℕ). ltb 164 c) cs ≡ false → fieldTooWide ws ks cs ls ms ≡ false → AllCodable t vs ks cs ls ms
 unfolding sum any
 all-codable L t ws vs [] cs ls ms f o most ll lm few fits = tt
