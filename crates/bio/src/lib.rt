@@ -77,7 +77,7 @@ fn place_after(bp: usize) -> usize
     }
 }
 
-fn store(out: &mut [u8], at: usize, byte: u8)
+pub fn store(out: &mut [u8], at: usize, byte: u8)
     ensures { λ _. ⌜ now (out .exit) ≡ set (now (out .entry)) at byte ⌝ }
 {
     if at < out.len() {

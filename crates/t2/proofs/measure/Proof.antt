@@ -1,0 +1,68 @@
+-- `t2::measure` meets its contract.
+use mathlib.Core.Path.{_≡_, ap, _∙_}
+use mathlib.Core.List.{List, [], _∷_}
+use Prim.Native.Nat.{ℕ, _≤_}
+use native.Mathlib.Omega.{arith}
+use lib.ListN.{length}
+use borrow.Author.Needs.{needs}
+use Rattle.t2check.specs.Refusals.{contribution}
+use Rattle.t2.specs.Front.{putFront}
+use Rattle.t2.proofs.Laws.Answers.{accepted, as-long, copy-accepted, measure-refused, measure-done}
+use Rattle.t2.proofs.measure.Statement.{statement}
+use Rattle.t2.proofs.measure.Tie as tie
+
+measure-refusal-requires : tie.Need-measure-refusal-requires
+measure-refusal-requires c κs = search needs
+
+returns : tie.Need-returns
+returns c =
+    let a = c .before .before .before .before .before .before .before .args in
+    let g = c .before .measure-refusal in
+    measure-refused (a .state .now) (a .scratch .now) (contribution (a .counts .now) (a .lengths .now) (a .marks .now)) (a .markers) (g .result) (g .ensures) (c .if1 .taken)
+
+copy-requires : tie.Need-copy-requires
+copy-requires c κs =
+    let a = c .before .before .before .before .before .before .before .before .args in
+    let g = c .before .before .measure-refusal in
+    as-long (a .state .now) (a .scratch .now) (contribution (a .counts .now) (a .lengths .now) (a .marks .now)) (g .result) (g .ensures) (c .before .if1 .left)
+
+slice-aggregate-put-front : tie.Need-slice-aggregate-put-front
+slice-aggregate-put-front c = search needs
+
+put-front-requires : tie.Need-put-front-requires
+put-front-requires c κs =
+    let a = c .before .before .before .before .before .before .before .before .before .before .before .before .before .args in
+    let g = c .before .before .before .before .before .before .before .measure-refusal in
+    copy-accepted (a .state .now) (a .scratch .now) (contribution (a .counts .now) (a .lengths .now) (a .marks .now)) (g .result) (g .ensures) (c .before .before .before .before .before .before .if1 .left) _ (c .before .before .before .before .copy .ensures)
+
+sum-lengths-requires : tie.Need-sum-lengths-requires
+sum-lengths-requires c κs =
+    let a = c .before .before .before .before .before .before .before .before .before .before .before .before .before .before .before .before .before .args in
+    let g = c .before .before .before .before .before .before .before .before .before .before .before .measure-refusal in
+    let r = accepted (a .state .now) (a .scratch .now) (contribution (a .counts .now) (a .lengths .now) (a .marks .now)) (g .result) (g .ensures) (c .before .before .before .before .before .before .before .before .before .before .if1 .left) in
+    omega (arith, r .lengths-are, r .passes-are)
+
+same-length : tie.Need-same-length
+same-length c = search needs
+
+returns-2 : tie.Need-returns-2
+returns-2 c =
+    let a = c .before .before .before .before .before .before .before .before .before .before .before .before .before .before .before .before .before .before .args in
+    let g = c .before .before .before .before .before .before .before .before .before .before .before .before .measure-refusal in
+    let p = contribution (a .counts .now) (a .lengths .now) (a .marks .now) in
+    measure-done (a .state .now) (a .scratch .now) p (a .markers) (g .result) (g .ensures) (0 ∷ []) _ _ (c .before .before .before .before .before .before .before .before .before .before .before .if1 .left)
+    (c .before .before .before .before .put-front .ensures ∙ ap (λ (ws : List ℕ). putFront p ws (a .markers) 0 (0 ∷ [])) (c .before .before .before .before .before .before .before .before .before .copy .ensures))
+    (c .sum-lengths .ensures)
+
+pub measure-spec : {M : Type 1} → statement M
+measure-spec =
+    tie.close
+    (tie.spec
+    measure-refusal-requires
+    returns
+    copy-requires
+    slice-aggregate-put-front
+    put-front-requires
+    sum-lengths-requires
+    same-length
+    returns-2)

@@ -1,0 +1,141 @@
+-- `t2::write` meets its contract.
+use mathlib.Core.Path.{_≡_, refl, sym, ap, _∙_}
+use mathlib.Core.List.{List}
+use Prim.Native.Nat.{ℕ, _+_, _≤_}
+use native.Mathlib.Omega.{arith}
+use lib.ListN.{length}
+use borrow.Author.Needs.{needs}
+use Rattle.t2check.specs.Refusals.{contribution}
+use Rattle.t2.specs.Front.{putFront}
+use Rattle.t2.proofs.Laws.Answers.{accepted, as-long, copy-accepted, room-left, write-refused, write-body-refused, write-no-space, write-done}
+use Rattle.t2.proofs.write.Statement.{statement}
+use Rattle.t2.proofs.write.Tie as tie
+
+measure-refusal-requires : tie.Need-measure-refusal-requires
+measure-refusal-requires c κs = search needs
+
+same-length : tie.Need-same-length
+same-length c = search needs
+
+returns : tie.Need-returns
+returns c =
+    let a = c .before .before .before .before .before .before .before .before .before .before .args in
+    let p = contribution (a .counts .now) (a .lengths .now) (a .marks .now) in
+    let g = c .before .measure-refusal in
+    write-refused (a .state .now) (a .scratch .now) p (a .body .now) (a .markers) (a .number) (a .output .now) (g .result) (g .ensures) (c .if1 .taken)
+
+sum-lengths-requires : tie.Need-sum-lengths-requires
+sum-lengths-requires c κs =
+    let a = c .before .before .before .before .before .before .before .before .before .before .args in
+    let p = contribution (a .counts .now) (a .lengths .now) (a .marks .now) in
+    let g = c .before .measure-refusal in
+    let r = accepted (a .state .now) (a .scratch .now) p (g .result) (g .ensures) (c .if1 .left) in
+    omega (arith, r .lengths-are, r .passes-are)
+
+same-length-2 : tie.Need-same-length-2
+same-length-2 c = search needs
+
+returns-2 : tie.Need-returns-2
+returns-2 c =
+    let a = c .before .before .before .before .before .before .before .before .before .before .before .before .args in
+    let p = contribution (a .counts .now) (a .lengths .now) (a .marks .now) in
+    let g = c .before .before .before .measure-refusal in
+    write-body-refused (a .state .now) (a .scratch .now) p (a .body .now) (a .markers) (a .number) (a .output .now) (g .result) (g .ensures) (c .before .before .if1 .left) _ (c .before .sum-lengths .ensures) (c .if2 .taken)
+
+copy-requires : tie.Need-copy-requires
+copy-requires c κs =
+    let a = c .before .before .before .before .before .before .before .before .before .before .before .before .before .before .args in
+    let p = contribution (a .counts .now) (a .lengths .now) (a .marks .now) in
+    let g = c .before .before .before .before .before .measure-refusal in
+    as-long (a .state .now) (a .scratch .now) p (g .result) (g .ensures) (c .before .before .before .before .if1 .left)
+
+put-front-requires : tie.Need-put-front-requires
+put-front-requires c κs =
+    let a = c .before .before .before .before .before .before .before .before .before .before .before .before .before .before .before .before .before .before .before .args in
+    let p = contribution (a .counts .now) (a .lengths .now) (a .marks .now) in
+    let g = c .before .before .before .before .before .before .before .before .before .before .measure-refusal in
+    copy-accepted (a .state .now) (a .scratch .now) p (g .result) (g .ensures) (c .before .before .before .before .before .before .before .before .before .if1 .left) _ (c .before .before .before .before .copy .ensures)
+
+has-room-requires : tie.Need-has-room-requires
+has-room-requires c κs = search needs
+
+wipe-requires : tie.Need-wipe-requires
+wipe-requires c κs = search needs
+
+wipe-bytes-requires : tie.Need-wipe-bytes-requires
+wipe-bytes-requires c κs = search needs
+
+same-length-3 : tie.Need-same-length-3
+same-length-3 c = search needs
+
+same-length-4 : tie.Need-same-length-4
+same-length-4 c = search needs
+
+same-length-5 : tie.Need-same-length-5
+same-length-5 c = search needs
+
+returns-3 : tie.Need-returns-3
+returns-3 c =
+    let a = c .before .before .before .before .before .before .before .before .before .before .before .before .before .before .before .before .before .before .before .before .before .before .before .before .before .before .before .before .before .before .before .before .before .before .args in
+    let p = contribution (a .counts .now) (a .lengths .now) (a .marks .now) in
+    let g = c .before .before .before .before .before .before .before .before .before .before .before .before .before .before .before .before .before .before .before .before .before .before .before .before .before .measure-refusal in
+    let k = c .before .before .before .before .before .before .before .before .before .before .before .before .before .before .put-front in
+    let f = k .ensures ∙ ap (λ (ws : List ℕ). putFront p ws (a .markers) (a .number) (a .output .now)) (c .before .before .before .before .before .before .before .before .before .before .before .before .before .before .before .before .before .before .before .copy .ensures) in
+    write-no-space (a .state .now) (a .scratch .now) p (a .body .now) (a .markers) (a .number) (a .output .now) (g .result) (g .ensures) (c .before .before .before .before .before .before .before .before .before .before .before .before .before .before .before .before .before .before .before .before .before .before .before .before .if1 .left) _ (c .before .before .before .before .before .before .before .before .before .before .before .before .before .before .before .before .before .before .before .before .before .before .before .sum-lengths .ensures) (c .before .before .before .before .before .before .before .before .before .before .before .before .before .before .before .before .before .before .before .before .before .before .if2 .left) _ f _ _ _ (c .before .before .before .before .before .before .before .before .before .has-room .ensures) (c .before .before .before .before .before .before .before .before .if3 .taken)
+    (k .kept .0 ∙ c .before .before .before .before .before .before .before .before .before .before .before .before .before .before .before .before .before .before .before .copy .kept .1 .0) (k .kept .1 .0) (c .before .before .before .before .before .before .wipe .ensures) (c .before .before .wipe-bytes .ensures)
+
+put-body-requires : tie.Need-put-body-requires
+put-body-requires c κs =
+    room-left _ _ _ (c .before .before .has-room .ensures) (c .before .if3 .left)
+
+copy-requires-2 : tie.Need-copy-requires-2
+copy-requires-2 c κs =
+    let a = c .before .before .before .before .before .before .before .before .before .before .before .before .before .before .before .before .before .before .before .before .before .before .before .before .before .before .before .before .before .before .before .before .args in
+    let p = contribution (a .counts .now) (a .lengths .now) (a .marks .now) in
+    let g = c .before .before .before .before .before .before .before .before .before .before .before .before .before .before .before .before .before .before .before .before .before .before .before .measure-refusal in
+    c .before .before .before .before .before .before .before .before .before .before .before .before .put-front .kept .0 ∙ c .before .before .before .before .before .before .before .before .before .before .before .before .before .before .before .before .before .copy .kept .1 .0 ∙ sym (as-long (a .state .now) (a .scratch .now) p (g .result) (g .ensures) (c .before .before .before .before .before .before .before .before .before .before .before .before .before .before .before .before .before .before .before .before .before .before .if1 .left))
+
+same-length-6 : tie.Need-same-length-6
+same-length-6 c = search needs
+
+same-length-7 : tie.Need-same-length-7
+same-length-7 c = search needs
+
+same-length-8 : tie.Need-same-length-8
+same-length-8 c = search needs
+
+returns-4 : tie.Need-returns-4
+returns-4 c =
+    let a = c .before .before .before .before .before .before .before .before .before .before .before .before .before .before .before .before .before .before .before .before .before .before .before .before .before .before .before .before .before .before .before .before .before .before .before .args in
+    let p = contribution (a .counts .now) (a .lengths .now) (a .marks .now) in
+    let g = c .before .before .before .before .before .before .before .before .before .before .before .before .before .before .before .before .before .before .before .before .before .before .before .before .before .before .measure-refusal in
+    let k = c .before .before .before .before .before .before .before .before .before .before .before .before .before .before .before .put-front in
+    let f = k .ensures ∙ ap (λ (ws : List ℕ). putFront p ws (a .markers) (a .number) (a .output .now)) (c .before .before .before .before .before .before .before .before .before .before .before .before .before .before .before .before .before .before .before .before .copy .ensures) in
+    let room : k .result + length (a .body .now) ≤ length (k .last .1 .0) = room-left _ _ _ (c .before .before .before .before .before .before .before .before .before .before .has-room .ensures) (c .before .before .before .before .before .before .before .before .before .if3 .left) in
+    write-done (a .state .now) (a .scratch .now) p (a .body .now) (a .markers) (a .number) (a .output .now) (g .result) (g .ensures) (c .before .before .before .before .before .before .before .before .before .before .before .before .before .before .before .before .before .before .before .before .before .before .before .before .before .if1 .left) _ (c .before .before .before .before .before .before .before .before .before .before .before .before .before .before .before .before .before .before .before .before .before .before .before .before .sum-lengths .ensures) (c .before .before .before .before .before .before .before .before .before .before .before .before .before .before .before .before .before .before .before .before .before .before .before .if2 .left) _ f _ _ _ (omega (arith, room, k .kept .1 .0)) (c .before .before .before .before .before .before .before .put-body .ensures) (c .before .before .copy2 .ensures) refl
+
+pub write-spec : {M : Type 1} → statement M
+write-spec =
+    tie.close
+    (tie.spec
+    measure-refusal-requires
+    same-length
+    returns
+    sum-lengths-requires
+    same-length-2
+    returns-2
+    copy-requires
+    put-front-requires
+    has-room-requires
+    wipe-requires
+    wipe-bytes-requires
+    same-length-3
+    same-length-4
+    same-length-5
+    returns-3
+    put-body-requires
+    copy-requires-2
+    same-length-6
+    same-length-7
+    same-length-8
+    returns-4)
