@@ -154,9 +154,12 @@ pub fn write(
 ) -> WriteAnswer
     ensures { λ r. ⌜ record { answer = r; state = now (state .exit); scratch = now (scratch .exit); output = now (output .exit) } ≡ write (now (state .entry)) (now (scratch .entry)) (contribution (now (counts .entry)) (now (lengths .entry)) (now (marks .entry))) (now (body .entry)) markers number (now (output .entry)) ⌝ }
 {
-    let refusal = t2check::measure_refusal(state, scratch.len(), counts, lengths, marks);
-    if refusal != 0 {
-        return WriteAnswer { refusal, bytes: 0 };
+    let why = t2check::measure_refusal(state, scratch.len(), counts, lengths, marks);
+    if why != 0 {
+        return WriteAnswer {
+            refusal: why,
+            bytes: 0,
+        };
     }
     if body.len() as u64 != t2check::sum_lengths(lengths) {
         return WriteAnswer {

@@ -73,7 +73,7 @@ code-bands-requires c κs =
     let first = c .before .before .before .before .before .opj-bio-putbit in
     let clear : FreeBitsClear (emptyAt (a .start)) = emptyAt-clear (a .start) in (
       tt,
-      subst FreeBitsClear (sym (ap (λ (o : Output). o .bio) (first .ensures))) (putBit-clear (output (a .out .now) (c .before .before .before .before .before .before .before .opj-bio-init-enc .result)) 1 (subst FreeBitsClear (sym (c .before .before .before .before .before .before .before .opj-bio-init-enc .ensures)) clear)),
+      subst FreeBitsClear (sym (ap (λ (o : Output). o .bio) (first .ensures))) (putBit-clear (output (a .out .now) (c .before .before .before .before .before .before .before .opj-bio-init-enc .result)) _ (subst FreeBitsClear (sym (c .before .before .before .before .before .before .before .opj-bio-init-enc .ensures)) clear)),
       sides .0,
       sides .1,
       length-is ws (length ws) (r .valid) n bs refl three,
