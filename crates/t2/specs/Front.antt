@@ -6,7 +6,7 @@ use lib.Seq.{sets}
 use Rattle.t800.specs.declared.Markers.{Markers}
 use Rattle.t800.specs.WriteHeader.{Contribution, codeHeader}
 use Rattle.t800.specs.Packet.{front}
-use Rattle.t2header.specs.Header.{HeaderCoded, headerCoded}
+use Rattle.t2encheader.specs.Header.{HeaderCoded, headerCoded}
 
 -- the output, and the place behind what was put
 pub record BytesPut : Type 0 where

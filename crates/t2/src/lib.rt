@@ -10,7 +10,7 @@ ghost use Rattle.t800.specs.Start.{start};
 ghost use Rattle.t800.specs.MarkerSegments.{sopBytes, ephBytes};
 ghost use Rattle.t800.specs.Packet.{measure, write};
 ghost use Rattle.t2check.specs.Refusals.{contribution, measureRefusalFor};
-ghost use Rattle.t2header.specs.Header.{headerCoded};
+ghost use Rattle.t2encheader.specs.Header.{headerCoded};
 ghost use Rattle.t2.specs.Front.{bytesPut, putBytes, putFront};
 use t800::Band;
 use t800::Markers;
@@ -62,7 +62,7 @@ fn put_front(
     ensures { λ r. ⌜ headerCoded (now (scratch .exit)) (now (output .exit)) r ≡ putFront (contribution (now (counts .entry)) (now (lengths .entry)) (now (marks .entry))) (now (scratch .entry)) markers number (now (output .entry)) ⌝ }
 {
     let start = put_sop(output, markers.sop, number);
-    let end = t2header::encode_header(scratch, output, start, counts, lengths, marks);
+    let end = t2encheader::encode_header(scratch, output, start, counts, lengths, marks);
     put_eph(output, markers.eph, end)
 }
 

@@ -22,7 +22,7 @@ use Rattle.t2check.specs.Refusals.{measureRefusalFor}
 use Rattle.tcdstate.proofs.Laws.ValidStates.{valid-state}
 use Rattle.t2check.proofs.Laws.NotRefused.{NotRefused, not-refused-for}
 use Rattle.t2check.proofs.Laws.ScratchLength.{refusal-by-scratch-length}
-use Rattle.t2header.specs.Header.{HeaderCoded, headerCoded}
+use Rattle.t2encheader.specs.Header.{HeaderCoded, headerCoded}
 use Rattle.t2.specs.Front.{BytesPut, bytesPut, putBytes, putFront}
 use Rattle.t2.proofs.Laws.Front.{put-append}
 

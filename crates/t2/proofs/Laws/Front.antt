@@ -14,9 +14,9 @@ use Rattle.t800.specs.MarkerSegments.{sopBytes, ephBytes, withMarkers}
 use Rattle.t800.specs.WriteHeader.{Contribution, codeHeader}
 use Rattle.t800.specs.Packet.{front}
 use Rattle.t800.proofs.Laws.Tests.{on-le}
-use Rattle.t2header.specs.Header.{HeaderCoded, headerCoded, putHeader}
+use Rattle.t2encheader.specs.Header.{HeaderCoded, headerCoded, putHeader}
 use Rattle.t2check.proofs.Laws.NotRefused.{NotRefused}
-use Rattle.t2header.proofs.Laws.Header.{header-small}
+use Rattle.t2encheader.proofs.Laws.Header.{header-small}
 use Rattle.t2.specs.Front.{BytesPut, bytesPut, putBytes, putFront}
 
 pub sets-append : (xs ys l : List ℕ) (i : ℕ) → sets (sets l i xs) (i + length xs) ys ≡ sets l i (xs ++ ys)

@@ -3,7 +3,7 @@ ghost use mathlib.Core.Path.{_≡_};
 ghost use Prim.Native.Nat.{_≤_};
 ghost use lib.ListN.{length};
 ghost use Rattle.t2check.specs.Refusals.{contribution, measureRefusalFor};
-ghost use Rattle.t2header.specs.Header.{headerCoded, putHeader};
+ghost use Rattle.t2encheader.specs.Header.{headerCoded, putHeader};
 
 // The place behind it. Bytes for which the output has no room are counted and not stored.
 pub fn encode_header(

@@ -1,4 +1,4 @@
--- `t2header::encode_header` meets its contract.
+-- `t2encheader::encode_header` meets its contract.
 use mathlib.Core.Path.{_≡_, refl, sym, ap, _∙_, subst}
 use mathlib.Core.List.{List}
 use Prim.Native.Nat.{ℕ, _+_, _≤_, _<_}
@@ -18,10 +18,10 @@ use Rattle.t2block.specs.Runs.{AllFit}
 use Rattle.t2check.specs.Refusals.{contribution}
 use Rattle.t2check.proofs.Laws.NotRefused.{not-refused-for}
 use Rattle.t2check.proofs.Laws.RefusalParts.{first-words, bands-are, sides-are, length-is}
-use Rattle.t2header.proofs.Laws.Fits.{all-fit}
-use Rattle.t2header.proofs.Laws.Header.{layer-left, header-is}
-use Rattle.t2header.proofs.encode_header.Statement.{statement}
-use Rattle.t2header.proofs.encode_header.Tie as tie
+use Rattle.t2encheader.proofs.Laws.Fits.{all-fit}
+use Rattle.t2encheader.proofs.Laws.Header.{layer-left, header-is}
+use Rattle.t2encheader.proofs.encode_header.Statement.{statement}
+use Rattle.t2encheader.proofs.encode_header.Tie as tie
 
 bands-of-requires : tie.Need-bands-of-requires
 bands-of-requires c κs = search needs

@@ -21,7 +21,7 @@ use Rattle.tcdstate.proofs.Laws.ValidStates.{valid-state, block-known, block-bo
 use Rattle.tgt.specs.Coding.{LeafCoded, putCoded}
 use Rattle.t2check.proofs.Laws.NotRefused.{NotRefused}
 use Rattle.t2check.proofs.Laws.RefusalParts.{blocks-of-valid}
-use Rattle.t2header.specs.Header.{HeaderCoded, headerCoded, putHeader}
+use Rattle.t2encheader.specs.Header.{HeaderCoded, headerCoded, putHeader}
 
 module _ (ws : List ℕ) (n : ℕ) (p : Contribution) (r : NotRefused ws n p) where
   abbrev all : Coded
