@@ -1,6 +1,6 @@
 // Tag trees of a packet header in a lent list of words (tgt.rs): a node is value, low and known, and is found from its level and place.
 ghost use mathlib.Core.Path.{_≡_};
-ghost use mathlib.Core.Bool.{_&&_, _||_};
+ghost use mathlib.Core.Bool.{cond, _&&_};
 ghost use mathlib.Core.List.{reverse};
 ghost use Prim.Native.Nat.{_+_, _-_, _*_, _/_, _%_, _^_, _<_, _≤_};
 ghost use lib.Dec.{eqb, ltb, leb};
@@ -143,13 +143,10 @@ fn zeros(out: &mut [u8], b: Bio, n: u32) -> Bio
     behind_bits(bio, left)
 }
 
-// Whether a node's words stay as they are but for its low, with no bit put: the threshold isn't above low, or the value is told.
-fn nothing_to_tell(value: u32, known: u32, from: u32, threshold: u32) -> bool
-    ensures { λ r. ⌜ r ≡ leb threshold from || (leb value from && eqb known 1) ⌝ }
+// Whether a node's value is told: but for its low, its words stay as they are, and no bit is put.
+fn nothing_to_tell(value: u32, known: u32, from: u32) -> bool
+    ensures { λ r. ⌜ r ≡ (leb value from && eqb known 1) ⌝ }
 {
-    if threshold <= from {
-        return true;
-    }
     if from < value {
         return false;
     }
@@ -193,6 +190,58 @@ fn encode_from(
     }
 }
 
+// Whether a node has one bit to put: the threshold lies one above low, and the value isn't told.
+fn one_bit(known: u32, from: u32, threshold: u32) -> bool
+    requires { ⌜ from < threshold ⌝ }
+    ensures { λ r. ⌜ r ≡ (eqb known 0 && eqb (threshold - from) 1) ⌝ }
+{
+    if known != 0 {
+        return false;
+    }
+    threshold - from == 1
+}
+
+// Whether low reaches the value below the threshold.
+fn reached(value: u32, threshold: u32) -> u32
+    ensures { λ r. ⌜ r ≡ cond (ltb value threshold) 1 0 ⌝ }
+{
+    if value < threshold { 1 } else { 0 }
+}
+
+// The node's one bit: a 0 raises low to the threshold, a 1 tells the value.
+fn encode_one(words: &mut [u32], out: &mut [u8], b: Bio, at: usize, threshold: u32) -> Behind
+    requires { ⌜ (FreeBitsClear b) × (at + 2 < length (now words)) × (1 ≤ threshold) × (getD (now words) (at + 2) 0 ≡ 0) ⌝ }
+    ensures { λ r. ⌜ nodeCoded (now (words .exit)) (now (out .exit)) r ≡ codeFrom threshold at (threshold - 1) (now (words .entry)) (output (now (out .entry)) b) ⌝ }
+{
+    let bit = reached(words[at], threshold);
+    let low = threshold - bit;
+    words[at + 1] = low;
+    words[at + 2] = bit;
+    let bio = bio::opj_bio_putbit(out, b, bit);
+    Behind { low, bio }
+}
+
+fn encode_above(
+    words: &mut [u32],
+    out: &mut [u8],
+    b: Bio,
+    at: usize,
+    from: u32,
+    threshold: u32,
+) -> Behind
+    requires { ⌜ (FreeBitsClear b) × (at + 2 < length (now words)) × (from < threshold) ⌝ }
+    ensures { λ r. ⌜ nodeCoded (now (words .exit)) (now (out .exit)) r ≡ codeFrom threshold at from (now (words .entry)) (output (now (out .entry)) b) ⌝ }
+{
+    if one_bit(words[at + 2], from, threshold) {
+        return encode_one(words, out, b, at, threshold);
+    }
+    if nothing_to_tell(words[at], words[at + 2], from) {
+        words[at + 1] = from;
+        return Behind { low: from, bio: b };
+    }
+    encode_from(words, out, b, at, from, threshold)
+}
+
 fn encode_node(
     words: &mut [u32],
     out: &mut [u8],
@@ -205,11 +254,11 @@ fn encode_node(
     ensures { λ r. ⌜ nodeCoded (now (words .exit)) (now (out .exit)) r ≡ codeNode threshold at low (now (words .entry)) (output (now (out .entry)) b) ⌝ }
 {
     let from = math::opj_uint_max(low, words[at + 1]);
-    if nothing_to_tell(words[at], words[at + 2], from, threshold) {
+    if threshold <= from {
         words[at + 1] = from;
         return Behind { low: from, bio: b };
     }
-    encode_from(words, out, b, at, from, threshold)
+    encode_above(words, out, b, at, from, threshold)
 }
 
 pub fn opj_tgt_encode(
