@@ -11,7 +11,7 @@ ghost use Rattle.t800.specs.State.{notYetPlanes};
 ghost use Rattle.t800.specs.Start.{freshNodes};
 ghost use Rattle.t800.specs.ReadHeader.{readZeroPlanesFrom};
 ghost use Rattle.bio.specs.Writing.{output, putBits, FreeBitsClear};
-ghost use Rattle.tgt.specs.Path.{rowOver, pathOver, leafWord, PathIn, SmallLevels};
+ghost use Rattle.tgt.specs.Path.{rowOver, pathOver, leafWord, PathIn, NodesIn, SmallLevels};
 ghost use Rattle.tgt.specs.Coding.{leafCoded, putCoded, told, nodeCoded, codeFrom, codeNode};
 ghost use Rattle.tgt.specs.Reading.{pathRead, leafAfter, belowIn, valueAfter, valueIn, leafOf, nodeRead, nodeAfter, readAt, LeadingZeros};
 use bio::Decoded;
@@ -398,7 +398,35 @@ fn decode_node(words: &mut [u32], src: &[u8], b: Bio, at: usize, low: u32, thres
     Behind { low: r.low, bio }
 }
 
-// The leaf's nodes from the root down.
+// The leaf's nodes on the first levels, from the top down; `above` is the low of the node over them.
+fn decode_below(
+    words: &mut [u32],
+    src: &[u8],
+    b: Bio,
+    base: usize,
+    row: &[usize; 7],
+    levels: usize,
+    x: usize,
+    threshold: u32,
+    above: u32,
+) -> Bio
+    requires { ⌜ (b .ct ≤ 8) × (NodesIn (length (now words)) base (now row) levels x) ⌝ }
+    ensures { λ r. ⌜ pathRead (now (words .exit)) r ≡ readPath (now (src .entry)) base threshold (reverse (pathOver (now (row .entry)) levels x)) above (now (words .entry)) b ⌝ }
+{
+    let mut bio = b;
+    let mut low = above;
+    let mut i = levels;
+    while 0 < i {
+        i -= 1;
+        let at = first_word(base, row[i], x, i);
+        let r = decode_node(words, src, bio, at, low, threshold);
+        bio = r.bio;
+        low = r.low;
+    }
+    bio
+}
+
+// The root stands apart: it has no low over it.
 fn decode_path(
     words: &mut [u32],
     src: &[u8],
@@ -412,17 +440,10 @@ fn decode_path(
     requires { ⌜ (b .ct ≤ 8) × (PathIn (length (now words)) base (now row) depth x) ⌝ }
     ensures { λ r. ⌜ pathRead (now (words .exit)) r ≡ readPath (now (src .entry)) base threshold (reverse (pathOver (now (row .entry)) depth x)) 0 (now (words .entry)) b ⌝ }
 {
-    let mut bio = b;
-    let mut low = 0;
-    let mut i = depth;
-    while 0 < i {
-        i -= 1;
-        let at = first_word(base, row[i], x, i);
-        let r = decode_node(words, src, bio, at, low, threshold);
-        bio = r.bio;
-        low = r.low;
-    }
-    bio
+    let top = depth - 1;
+    let at = first_word(base, row[top], x, top);
+    let r = decode_node(words, src, b, at, 0, threshold);
+    decode_below(words, src, r.bio, base, row, top, x, threshold, r.low)
 }
 
 fn leaf_value(words: &[u32], base: usize, row: &[usize; 7], depth: usize, x: usize) -> u32
