@@ -501,6 +501,25 @@ fn raise(
     bio
 }
 
+// In a tree of one node the thresholds up to the last are read at once.
+fn read_planes(
+    words: &mut [u32],
+    src: &[u8],
+    b: Bio,
+    base: usize,
+    row: &[usize; 7],
+    depth: usize,
+    x: usize,
+) -> Bio
+    requires { ⌜ (b .ct ≤ 8) × (PathIn (length (now words)) base (now row) depth x) ⌝ }
+    ensures { λ r. ⌜ pathRead (now (words .exit)) r ≡ readZeroPlanesFrom (now (src .entry)) (leafOf base (now (row .entry)) depth x) (notYetPlanes + 2) 0 (now (words .entry)) b ⌝ }
+{
+    if depth == 1 {
+        return decode_path(words, src, b, base, row, depth, x, 1000);
+    }
+    raise(words, src, b, base, row, depth, x)
+}
+
 // The leaf's value, as zero planes are read.
 pub fn opj_tgt_decode_value(
     words: &mut [u32],
@@ -514,7 +533,7 @@ pub fn opj_tgt_decode_value(
     requires { ⌜ (b .ct ≤ 8) × (PathIn (length (now words)) base (now row) depth x) ⌝ }
     ensures { λ r. ⌜ valueAfter (now (words .exit)) r ≡ valueIn (leafWord base (now (row .entry)) x) (readZeroPlanesFrom (now (src .entry)) (leafOf base (now (row .entry)) depth x) (notYetPlanes + 2) 0 (now (words .entry)) b) ⌝ }
 {
-    let bio = raise(words, src, b, base, row, depth, x);
+    let bio = read_planes(words, src, b, base, row, depth, x);
     let value = leaf_value(words, base, row, depth, x);
     Decoded { value, bio }
 }
