@@ -1,1 +1,3 @@
 pub mod OneSegment
+pub mod ManySegments
+pub mod Kept

@@ -146,7 +146,14 @@ unfoldable pub blocksOfRow : Place → List ℕ → ℕ → ℕ → ℕ → List
 blocksOfRow p row planes zero i = []
 blocksOfRow p row planes (suc n) i = blockIn (placeAt p i) row planes ∷ blocksOfRow p row planes n (i + 1)
 
--- ---- what refusal 5 establishes of a block's words
+-- ---- what reading asks for
+
+-- at most eight bits are held, and the place is at most one behind the input's end
+pub record BitsIn (src : List ℕ) (b : Bio) : Type 0 where
+  pub few : b .ct ≤ 8
+  pub place : b .bp ≤ length src + 1
+
+-- what refusal 5 establishes of a block's words
 
 -- the open segment isn't more than full
 pub record SegmentFits (ws : List ℕ) (at : ℕ) : Type 0 where
