@@ -1,3 +1,4 @@
 pub mod OneSegment
 pub mod ManySegments
 pub mod Kept
+pub mod BlockParts

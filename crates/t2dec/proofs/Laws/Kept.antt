@@ -3,7 +3,7 @@
 use mathlib.Core.Path.{_≡_, refl, sym, ap, _∙_, subst}
 use mathlib.Core.Bool.{Bool, true, false, cond}
 use mathlib.Core.List.{List, [], _∷_, reverse}
-use Prim.Native.Nat.{ℕ, zero, suc, _+_, _-_, _*_, _≤_, _<_, min}
+use Prim.Native.Nat.{ℕ, zero, suc, _+_, _*_, _/_, _≤_, _<_}
 use native.Mathlib.Omega.{arith}
 use lib.Dec.{eqb, ltb, leb}
 use lib.ListN.{length, getD, set, drop, length-set}
@@ -12,7 +12,8 @@ use Rattle.t800.specs.declared.Bio.{Bio}
 use Rattle.t800.specs.Bits.{getBit, readBits}
 use Rattle.t800.specs.PassCount.{readPasses}
 use Rattle.t800.specs.TagTree.{PathRead, value, readPath}
-use Rattle.t800.specs.State.{Block, notYetPlanes}
+use Rattle.t800.specs.Segments.{width}
+use Rattle.t800.specs.State.{Block, notYetPlanes, lengthBits}
 use Rattle.t800.specs.WriteHeader.{isNew}
 use Rattle.t800.specs.ReadHeader.{passesTaken, readZeroPlanesFrom}
 use Rattle.t800.proofs.Laws.Tests.{either}
@@ -103,16 +104,18 @@ module _ (src : List ℕ) (q : ℕ) (vs : List ℕ) where
   segment-keeps : (i : ℕ) (k : Block) (n : ℕ) (a : Reading) → k .at + 4 ≤ q → Keeps src q vs a → Keeps src q vs (nextSegment src i k n a)
   unfolding nextSegment
   segment-keeps i k n a h p =
-      either (Keeps src q vs) (ltb 32 _) (stopped 9 a) _ (record { bits = p .bits; behind = p .behind })
-      (either (Keeps src q vs) (leb _ (a .count)) (stopped 13 a) _ (record { bits = p .bits; behind = p .behind })
-      (record { bits = number-in src _ (a .bio) (p .bits); behind = drop-set-lt q _ (k .at + 3) _ (omega arith) ∙ drop-set-lt q (a .words) (k .at + 2) _ (omega arith) ∙ p .behind }))
+      let w : ℕ = width (lengthBits (a .words) (k .at)) n in
+      either (Keeps src q vs) (ltb 32 w) (stopped 9 a) _ (record { bits = p .bits; behind = p .behind })
+      (either (Keeps src q vs) (leb (length (a .records) / 4) (a .count)) (stopped 13 a) _ (record { bits = p .bits; behind = p .behind })
+      (record { bits = number-in src w (a .bio) (p .bits); behind = drop-set-lt q _ (k .at + 3) _ (omega arith) ∙ drop-set-lt q (a .words) (k .at + 2) _ (omega arith) ∙ p .behind }))
 
   segments-keep : (i : ℕ) (k : Block) (f left : ℕ) (a : Reading) → k .at + 4 ≤ q → Keeps src q vs a → Keeps src q vs (nextSegments src i k f left a)
   unfolding nextSegments
   segments-keep i k zero left a h p = p
   segments-keep i k (suc f) left a h p =
+      let b = nextSegment src i k (passesTaken (a .words) k left) a in
       let s = segment-keeps i k (passesTaken (a .words) k left) a h p in
-      either (Keeps src q vs) (ltb 0 left) _ _ (either (Keeps src q vs) (eqb _ 0) _ _ (segments-keep i k f _ _ h s) s) p
+      either (Keeps src q vs) (ltb 0 left) _ _ (either (Keeps src q vs) (eqb (b .refusal) 0) _ _ (segments-keep i k f _ _ h s) s) p
 
   module _ (k : Block) (before : BlockBefore q k) where
     first-keeps : (i : ℕ) (a : Reading) → Keeps src q vs a → Keeps src q vs (nextFirst src i k a)
@@ -147,4 +150,4 @@ module _ (src : List ℕ) (q : ℕ) (vs : List ℕ) where
   blocks-keep t i [] a h p = p
   blocks-keep t i (k ∷ ks) a h p =
       let b = block-keeps k (h .0) t i a p in
-      either (Keeps src q vs) (eqb _ 0) _ _ (blocks-keep t (i + 1) ks _ (h .1) b) b
+      either (Keeps src q vs) (eqb (nextBlock src t i k a .refusal) 0) _ _ (blocks-keep t (i + 1) ks _ (h .1) b) b
