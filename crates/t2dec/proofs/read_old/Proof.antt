@@ -1,52 +1,51 @@
+-- `t2dec::read_old` meets its contract.
+use mathlib.Core.Path.{ap}
+use native.Mathlib.Omega.{arith}
+use Rattle.t800.specs.Bits.{Decoded}
+use Rattle.bio.specs.Reading.{decoded}
+use Rattle.bio.proofs.Laws.ReadChunks.{getBit-ct}
+use Rattle.t2dec.specs.declared.Run.{Run}
+use Rattle.t2dec.specs.Reading.{reading}
+use Rattle.t2dec.proofs.Laws.BlockParts.{old-absent, old-included}
 use borrow.Author.Needs.{needs}
 use Rattle.t2dec.proofs.read_old.Statement.{statement}
 use Rattle.t2dec.proofs.read_old.Tie as tie
-use Rattle.t2dec.proofs.read_old.Reads as reads
-use Rattle.t2dec.proofs.read_old.Lts as lts
-use Rattle.bio.proofs.opj_bio_getbit.Reads as opj-bio-getbit-reads
-use Rattle.t2dec.proofs.moved.Reads as moved-reads
-use Rattle.t2dec.proofs.read_again.Reads as read-again-reads
-use Rattle.tcd.proofs.put_report.Reads as put-report-reads
 
--- src/lib.rt:251:9
 opj-bio-getbit-requires : tie.Need-opj-bio-getbit-requires
 opj-bio-getbit-requires c κs = search needs
 
--- src/lib.rt:252:9
 moved-requires : tie.Need-moved-requires
 moved-requires c κs = search needs
 
--- src/lib.rt:254:9
 put-report-requires : tie.Need-put-report-requires
 put-report-requires c κs = search needs
 
--- src/lib.rt:255:9
 same-length : tie.Need-same-length
 same-length c = search needs
 
--- src/lib.rt:255:9
 returns : tie.Need-returns
-returns c = ?
+returns c =
+    let s = c .before .before .before .before .before .before .before .before .before .before .before .before in
+    old-absent (s .args .src .now) (s .args .block) (s .args .at) (reading (s .args .words .now) (s .args .reports .now) (s .args .records .now) (s .args .r)) (decoded (c .before .before .before .before .before .before .before .opj-bio-getbit .result)) (c .before .before .before .before .before .before .moved .result) (c .before .before .before .before .before .before .before .opj-bio-getbit .ensures) (c .before .before .before .before .before .before .moved .ensures) _ (c .before .before .before .before .if1 .taken) (c .before .before .put-report .ensures)
 
--- src/lib.rt:257:5
 read-again-requires : tie.Need-read-again-requires
-read-again-requires c κs = ?
+read-again-requires c κs =
+    let s = c .before .before .before .before .before .before .before .before .before .before .before in
+    (omega (arith, ap (λ (r : Run). r .bio .ct) (c .before .before .before .before .before .moved .ensures), ap (λ (d : Decoded). d .bio .ct) (c .before .before .before .before .before .before .opj-bio-getbit .ensures), getBit-ct (s .args .src .now) (s .args .r .bio) (s .pre .0)), s .pre .1, s .pre .2, s .pre .3)
 
--- src/lib.rt:239:1
 same-length-2 : tie.Need-same-length-2
 same-length-2 c = search needs
 
--- src/lib.rt:239:1
 same-length-3 : tie.Need-same-length-3
 same-length-3 c = search needs
 
--- src/lib.rt:239:1
 same-length-4 : tie.Need-same-length-4
 same-length-4 c = search needs
 
--- src/lib.rt:239:1
 returns-2 : tie.Need-returns-2
-returns-2 c = ?
+returns-2 c =
+    let s = c .before .before .before .before .before .before .before .before .before .before .before .before .before .before .before .before .before .before in
+    old-included (s .args .src .now) (s .args .block) (s .args .at) (reading (s .args .words .now) (s .args .reports .now) (s .args .records .now) (s .args .r)) (decoded (c .before .before .before .before .before .before .before .before .before .before .before .before .before .opj-bio-getbit .result)) (c .before .before .before .before .before .before .before .before .before .before .before .before .moved .result) (c .before .before .before .before .before .before .before .before .before .before .before .before .before .opj-bio-getbit .ensures) (c .before .before .before .before .before .before .before .before .before .before .before .before .moved .ensures) _ (c .before .before .before .before .before .before .before .before .before .before .if1 .left) (c .before .before .before .before .before .before .read-again .ensures)
 
 pub read-old-spec : {M : Type 1} → statement M
 read-old-spec =
