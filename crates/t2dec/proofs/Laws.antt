@@ -2,3 +2,4 @@ pub mod OneSegment
 pub mod ManySegments
 pub mod Kept
 pub mod BlockParts
+pub mod Rows

@@ -8,7 +8,7 @@ ghost use Rattle.tgt.specs.Path.{PathIn};
 ghost use Rattle.t2block.specs.Blocks.{BlockIn};
 ghost use Rattle.t2block.specs.Runs.{RowIn};
 ghost use Rattle.t2dec.specs.Segments.{limitBehind, currentSegment};
-ghost use Rattle.t2dec.specs.Reading.{reading, WithAnyReports, nextSegment, nextSegments, passesRead, nextFirst, nextAgain, nextNew, nextOld, nextBlock, nextBlocks, blockAt, blockIn, blocksOfRow, SegmentFits, BlockFits, BlocksFit};
+ghost use Rattle.t2dec.specs.Reading.{reading, WithAnyReports, nextSegment, nextSegments, passesRead, nextFirst, nextAgain, nextNew, nextOld, nextBlock, nextBlocks, blockAt, blockIn, blocksOfRow, SegmentFits, BlockFits, BlocksFit, BitsIn};
 use bio::Decoded;
 use t2block::Place;
 use t800::Bio;
@@ -306,7 +306,7 @@ pub fn read_row(
     planes: u32,
     block: usize,
 ) -> Run
-    requires { ⌜ (r .bio .ct ≤ 8) × (r .refusal ≡ 0) × (RowIn (length (now words)) p (now row) n) × (layer < 999) × (block + n ≤ 2 ^ 32) × (BlocksFit (now words) (p .at) n) ⌝ }
+    requires { ⌜ (BitsIn (now src) (r .bio)) × (r .refusal ≡ 0) × (RowIn (length (now words)) p (now row) n) × (layer < 999) × (block + n ≤ 2 ^ 32) × (BlocksFit (now words) (p .at) n) ⌝ }
     ensures { λ o. ⌜ reading (now (words .exit)) (now (reports .exit)) (now (records .exit)) o ≡ nextBlocks (now (src .entry)) layer block (blocksOfRow p (now (row .entry)) planes n 0) (reading (now (words .entry)) (now (reports .entry)) (now (records .entry)) r) ⌝ }
 {
     let mut run = r;
