@@ -3,3 +3,4 @@ pub mod ManySegments
 pub mod Kept
 pub mod BlockParts
 pub mod Rows
+pub mod Follows
