@@ -8,7 +8,7 @@ use native.Mathlib.Omega.{arith}
 use lib.Dec.{eqb, ltb, leb}
 use lib.ListN.{length, getD, set, drop, length-set, length-append, length-drop}
 use lib.Seq.{getD-set-same}
-use borrow.Author.Tests.{eq-eqb, eqb-true, leb-false}
+use borrow.Author.Tests.{eq-eqb, ne-eqb, eqb-true, eqb-false, leb-false}
 use Rattle.t800.specs.declared.Bio.{Bio}
 use Rattle.t800.specs.Base.{overwrite}
 use Rattle.t800.specs.Bits.{Decoded, getBit, readBits}
@@ -200,3 +200,131 @@ module _ (src reports records : List ℕ) (size : ℕ) where
       (subst (EndsAt j more) (sym (cond-both (eqb (r .refusal) 0) (ltb 0 (left - n)) (readSegments src room i k f (left - n) r) r))
       (goes-on j j (nextSegments src i k f (left - n)) (λ x. cond (ltb 0 (left - n)) (readSegments src room i k f (left - n) x) x) c r (segment-ends j i k n ws b reps recs p q w)
       (segments-rest j i k f (left - n) (segments-end j i k f (left - n)))))
+
+  -- ---- an included block
+
+  abbrev reportOf : ℕ → ℕ → ℕ → ℕ → BlockReport
+  reportOf x y v n = record { inclusion = x; zeroPlanes = y; planes = v; passes = n }
+
+  -- block i's report behind those of the blocks before it
+  module _ (i : ℕ) (ws : List ℕ) (b : Bio) (reps : List BlockReport) (recs : List SegmentRecord) (r : BlockReport) (q : length reps ≡ i) (lent : i < length reports / 4) where
+    report-over : putRow (overwrite reports (reportWords reps)) i (r .inclusion) (r .zeroPlanes) (r .planes) (r .passes) ≡ overwrite reports (reportWords (reps ++ r ∷ []))
+    report-over =
+        ap (λ (n : ℕ). putRow (overwrite reports (reportWords reps)) n (r .inclusion) (r .zeroPlanes) (r .planes) (r .passes)) (sym q) ∙ report-put reports reps r (subst (λ (n : ℕ). n < length reports / 4) (sym q) lent)
+
+    reported-is : (us : List ℕ) (e : Bio) → reported i (r .inclusion) (r .zeroPlanes) (r .planes) (r .passes) (movedOn us e (heldBy reports records (readSoFar ws b reps recs))) ≡ heldBy reports records (readSoFar us e (reps ++ r ∷ []) recs)
+    reported-is us e =
+        λ x. record { words = us; reports = report-over x; records = overwrite records (recordWords recs); bio = e; count = length recs; refusal = 0 }
+
+    one-more : length (reps ++ r ∷ []) ≡ i + 1
+    one-more = length-append reps (r ∷ []) ∙ ap (λ (n : ℕ). n + 1) q
+
+    -- behind its inclusion and zero planes, with p passes so far and the length bits l
+    passes-end : (k : Block) (z : PathRead) (p l : ℕ) → length recs ≤ room → length (z .words) ≡ size → k .at + 3 < size
+        → EndsAt (i + 1) (segmentsOf src i k (passesRead src (k .at) p l (z .words) (z .bio)) (reported i (r .inclusion) (r .zeroPlanes) (r .planes) (r .passes) (heldBy reports records (readSoFar ws b reps recs))))
+        (readSegments src room i k (readPasses src (z .bio) .value) (readPasses src (z .bio) .value)
+        (withReport r (movedTo (set (set (z .words) (k .at) (p + readPasses src (z .bio) .value)) (k .at + 1) (l + readComma src (readPasses src (z .bio) .bio) .value)) (readComma src (readPasses src (z .bio) .bio) .bio) (readSoFar ws b reps recs))))
+    unfolding passesRead
+    passes-end k z p l f w s =
+        let n : Decoded = readPasses src (z .bio) in
+        let some = passes-between src (z .bio) .0 in
+        let c : Decoded = readComma src (n .bio) in
+        let d : Decoded = readCommaLimited src (n .bio) in
+        let v = comma-value src (n .bio) in
+        let us : List ℕ = set (z .words) (k .at) (p + n .value) in
+        let lu : length us ≡ size = length-set (z .words) (k .at) (p + n .value) ∙ w in
+        let own : (m : ℕ) → getD (set us (k .at + 1) m) (k .at + 1) 0 ≡ m = λ m. getD-set-same us (k .at + 1) m 0 (omega arith) in
+        on-lt (d .value) mostOnes
+        (λ h. let e : d ≡ c = comma-below src (n .bio) h in
+        let so : HeaderRead = readSoFar (set us (k .at + 1) (l + c .value)) (c .bio) (reps ++ r ∷ []) recs in
+        let go : EndsAt (i + 1) (nextSegments src i k (n .value) (n .value) (heldBy reports records so)) (readSegments src room i k (n .value) (n .value) so)
+        = segments-end (i + 1) i k (n .value) (n .value) some (set us (k .at + 1) (l + c .value)) (c .bio) (reps ++ r ∷ []) recs f one-more (length-set us (k .at + 1) (l + c .value) ∙ lu) in
+        subst (λ (x : Reading). EndsAt (i + 1) (nextSegments src i k (n .value) (n .value) x) (readSegments src room i k (n .value) (n .value) so)) (sym ((λ j. reported i (r .inclusion) (r .zeroPlanes) (r .planes) (r .passes) (movedOn (set us (k .at + 1) (l + e j .value)) (e j .bio) (heldBy reports records (readSoFar ws b reps recs)))) ∙ reported-is (set us (k .at + 1) (l + c .value)) (c .bio))) go)
+        (λ h. refused-both (i + 1) 9 _ _ (omega arith)
+        (wide-next src i k (n .value) (n .value) some some _ (omega (arith, own (l + d .value), h)))
+        (wide-read src i k (n .value) (n .value) some some room _ (omega (arith, own (l + c .value), h, v))))
+
+  module _ (i : ℕ) (k : Block) (lent : i < length reports / 4) (apart : Apart size k) where
+    abbrev treeRead : List ℕ → Bio → PathRead
+    treeRead ws b = readZeroPlanesFrom src k (notYetPlanes + 2) 0 ws b
+
+    -- by whether it is new, and its passes so far
+    abbrev included : List ℕ → Bio → List BlockReport → List SegmentRecord → Bool → ℕ → HeaderRead
+    included ws b reps recs t passes =
+        let z : PathRead = cond t (treeRead ws b) (record { words = ws; bio = b }) in
+        let v : ℕ = value (z .words) (k .zeroTree + 3 * k .leaf) in
+        let n : Decoded = readPasses src (z .bio) in
+        let c : Decoded = readComma src (n .bio) in
+        let r : BlockReport = cond t (reportOf 1 v ((k .planes + 2 ^ 32 - v) % 2 ^ 32) (n .value)) (reportOf 2 0 0 (n .value)) in
+        readSegments src room i k (n .value) (n .value) (withReport r (movedTo (set (set (z .words) (k .at) (passes + n .value)) (k .at + 1) (cond t 3 (lengthBits ws (k .at)) + c .value)) (c .bio) (readSoFar ws b reps recs)))
+
+    included-is : (ws : List ℕ) (b : Bio) (reps : List BlockReport) (recs : List SegmentRecord) → readIncluded src room i k (readSoFar ws b reps recs) ≡ included ws b reps recs (eqb (getD ws (k .at) 0) 0) (getD ws (k .at) 0)
+    unfolding readIncluded readZeroPlanes lengthBitsBefore isNew firstReport againReport
+    included-is ws b reps recs = refl
+
+    module _ (ws : List ℕ) (b : Bio) (reps : List BlockReport) (recs : List SegmentRecord) (p : length recs ≤ room) (q : length reps ≡ i) (w : length ws ≡ size) where
+      abbrev before : Reading
+      before = heldBy reports records (readSoFar ws b reps recs)
+
+      first-ends : getD ws (k .at) 0 ≡ 0 → EndsAt (i + 1) (nextFirst src i k before) (readIncluded src room i k (readSoFar ws b reps recs))
+      unfolding nextFirst passesRead
+      first-ends new =
+          let z : PathRead = treeRead ws b in
+          let v : ℕ = value (z .words) (k .zeroTree + 3 * k .leaf) in
+          let e : readIncluded src room i k (readSoFar ws b reps recs) ≡ included ws b reps recs true 0 = included-is ws b reps recs ∙ (λ j. included ws b reps recs (eq-eqb (getD ws (k .at) 0) 0 new j) (new j)) in
+          subst (EndsAt (i + 1) (nextFirst src i k before)) (sym e)
+          (passes-end i ws b reps recs (reportOf 1 v ((k .planes + 2 ^ 32 - v) % 2 ^ 32) (readPasses src (z .bio) .value)) q lent k z 0 3 p (raising-length src k (notYetPlanes + 2) 0 ws b ∙ w) (apart .inside))
+
+      again-ends : getD ws (k .at) 0 ≢ 0 → EndsAt (i + 1) (nextAgain src i k before) (readIncluded src room i k (readSoFar ws b reps recs))
+      unfolding nextAgain passesRead
+      again-ends old =
+          let e : readIncluded src room i k (readSoFar ws b reps recs) ≡ included ws b reps recs false (getD ws (k .at) 0) = included-is ws b reps recs ∙ (λ j. included ws b reps recs (ne-eqb (getD ws (k .at) 0) 0 old j) (getD ws (k .at) 0)) in
+          subst (EndsAt (i + 1) (nextAgain src i k before)) (sym e)
+          (passes-end i ws b reps recs (reportOf 2 0 0 (readPasses src b .value)) q lent k (record { words = ws; bio = b }) (getD ws (k .at) 0) (getD ws (k .at + 1) 0) p w (apart .inside))
+
+      absent-ends : (us : List ℕ) (e : Bio) → length us ≡ size → EndsAt (i + 1) (reported i 0 0 0 0 (movedOn us e before)) (readSoFar us e (reps ++ absent ∷ []) recs)
+      absent-ends us e l =
+          subst (λ (x : Reading). EndsAt (i + 1) x (readSoFar us e (reps ++ absent ∷ []) recs)) (sym (reported-is i ws b reps recs absent q lent us e))
+          (held-here (i + 1) us e (reps ++ absent ∷ []) recs p (one-more i ws b reps recs absent q lent) l)
+
+    -- ---- a block, new or old
+
+    new-ends : (t : ℕ) (ws : List ℕ) (b : Bio) (reps : List BlockReport) (recs : List SegmentRecord) → getD ws (k .at) 0 ≡ 0 → length recs ≤ room → length reps ≡ i → length ws ≡ size
+        → EndsAt (i + 1) (nextNew src t i k (heldBy reports records (readSoFar ws b reps recs))) (readNewBlock src room t i k (readSoFar ws b reps recs))
+    unfolding nextNew readNewBlock
+    new-ends t ws b reps recs new p q w =
+        let r : PathRead = readPath src (k .inclTree) (t + 1) (reverse (k .path)) 0 ws b in
+        let l : length (r .words) ≡ size = path-length src (k .inclTree) (t + 1) (reverse (k .path)) 0 ws b ∙ w in
+        let still : getD (r .words) (k .at) 0 ≡ 0 = same-word (k .at) (k .at) (r .words) ws (path-keeps src (k .at) (k .inclTree) (t + 1) (reverse (k .path)) 0 ws b (apart .incl)) (omega arith) ∙ new in
+        choice (i + 1) (ltb (value (r .words) (k .inclTree + 3 * k .leaf)) (t + 1)) _ _ _ _ (first-ends (r .words) (r .bio) reps recs p q l still) (absent-ends ws b reps recs p q w (r .words) (r .bio) l)
+
+    old-ends : (ws : List ℕ) (b : Bio) (reps : List BlockReport) (recs : List SegmentRecord) → getD ws (k .at) 0 ≢ 0 → length recs ≤ room → length reps ≡ i → length ws ≡ size
+        → EndsAt (i + 1) (nextOld src i k (heldBy reports records (readSoFar ws b reps recs))) (readOldBlock src room i k (readSoFar ws b reps recs))
+    unfolding nextOld readOldBlock
+    old-ends ws b reps recs old p q w =
+        let bit : Decoded = getBit src b in
+        choice (i + 1) (eqb (bit .value) 0) _ _ _ _ (absent-ends ws b reps recs p q w ws (bit .bio) w) (again-ends ws (bit .bio) reps recs p q w old)
+
+    block-ends : (t : ℕ) → Alike i (i + 1) (nextBlock src t i k) (readBlock src room t i k)
+    unfolding nextBlock readBlock isNew
+    block-ends t ws b reps recs p q w = by (eqb (getD ws (k .at) 0) 0) refl
+      where
+        a : Reading
+        a = heldBy reports records (readSoFar ws b reps recs)
+
+        r : HeaderRead
+        r = readSoFar ws b reps recs
+
+        by : (s : Bool) → eqb (getD ws (k .at) 0) 0 ≡ s → EndsAt (i + 1) (cond s (nextNew src t i k a) (nextOld src i k a)) (cond s (readNewBlock src room t i k r) (readOldBlock src room i k r))
+        by true e = new-ends t ws b reps recs (eqb-true (getD ws (k .at) 0) 0 e) p q w
+        by false e = old-ends ws b reps recs (eqb-false (getD ws (k .at) 0) 0 e) p q w
+
+  -- ---- all blocks
+
+  pub blocks-end : (t i : ℕ) (ks : List Block) → AllBlocks (Apart size) ks → i + length ks ≤ length reports / 4 → Alike i (i + length ks) (nextBlocks src t i ks) (readBlocks src room t i ks)
+  unfolding nextBlocks readBlocks
+  blocks-end t i [] h l ws b reps recs p q w = held-here (i + 0) ws b reps recs p (q ∙ omega arith) w
+  blocks-end t i (k ∷ ks) h l ws b reps recs p q w =
+      let m : i + 1 + length ks ≡ i + suc (length ks) = omega arith in
+      subst (λ (n : ℕ). EndsAt n (nextBlocks src t i (k ∷ ks) (heldBy reports records (readSoFar ws b reps recs))) (readBlocks src room t i (k ∷ ks) (readSoFar ws b reps recs))) m
+      (goes-on (i + 1) (i + 1 + length ks) (nextBlocks src t (i + 1) ks) (readBlocks src room t (i + 1) ks) _ _ (block-ends i k (omega arith) (h .0) t ws b reps recs p q w) (blocks-end t (i + 1) ks (h .1) (omega arith)))
