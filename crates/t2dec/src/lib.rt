@@ -68,7 +68,8 @@ fn current_segment(words: &[u32], at: usize) -> Segment
     }
 }
 
-fn refuse(r: Run, why: u32) -> Run
+// The reading as it stands, with a refusal.
+pub fn refuse(r: Run, why: u32) -> Run
     ensures { λ s. ⌜ s ≡ record { bio = r .bio; count = r .count; refusal = why } ⌝ }
 {
     let bio = r.bio;

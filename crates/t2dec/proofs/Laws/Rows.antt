@@ -2,14 +2,14 @@
 use mathlib.Core.Path.{_≡_, sym, ap, _∙_, subst}
 use mathlib.Core.Logic.{_≢_}
 use mathlib.Core.Bool.{cond}
-use mathlib.Core.List.{List, [], _∷_}
+use mathlib.Core.List.{List, [], _∷_, _++_}
 use Prim.Native.Nat.{ℕ, suc, _+_, _-_, _*_, _≤_, _<_}
 use native.Mathlib.Omega.{arith}
 use lib.Dec.{eqb}
-use lib.ListN.{drop}
+use lib.ListN.{length, drop}
 use lib.Seq.{drop-drop}
 use Rattle.t800.specs.State.{Block}
-use Rattle.t800.proofs.Laws.Tests.{if-eq, if-ne}
+use Rattle.t800.proofs.Laws.Tests.{if-eq, if-ne, on-eq}
 use Rattle.t2block.specs.declared.Place.{Place}
 use Rattle.t2block.specs.Runs.{placeAt, RowIn}
 use Rattle.t2block.proofs.Laws.OneBlock.{BlockBefore, same-word}
@@ -48,6 +48,28 @@ module _ (src : List ℕ) (t i : ℕ) (k : Block) (ks : List Block) (a b : Readi
 
   pub blocks-stop : b .refusal ≢ 0 → b ≡ nextBlocks src t i (k ∷ ks) a
   blocks-stop z = sym (blocks-by ∙ if-ne (b .refusal) 0 _ _ z)
+
+-- ---- blocks in two parts
+
+module _ (src : List ℕ) (t : ℕ) (js : List Block) (b : Reading) where
+  pub blocks-then : (i : ℕ) (ks : List Block) (a : Reading) → b ≡ nextBlocks src t i ks a → b .refusal ≡ 0 → nextBlocks src t (i + length ks) js b ≡ nextBlocks src t i (ks ++ js) a
+  unfolding nextBlocks
+  blocks-then i [] a is z = let e : i + 0 ≡ i = omega arith in λ j. nextBlocks src t (e j) js (is j)
+  blocks-then i (k ∷ ks) a is z =
+      let c : Reading = nextBlock src t i k a in
+      on-eq (c .refusal) 0
+      (λ y. let e : i + suc (length ks) ≡ i + 1 + length ks = omega arith in
+      ap (λ (n : ℕ). nextBlocks src t n js b) e ∙ blocks-then (i + 1) ks c (is ∙ if-eq (c .refusal) 0 _ _ y) z ∙ sym (if-eq (c .refusal) 0 _ _ y))
+      (λ y. absurd (y (sym (ap (λ (x : Reading). x .refusal) (is ∙ if-ne (c .refusal) 0 _ _ y)) ∙ z)))
+
+  pub blocks-refused : (i : ℕ) (ks : List Block) (a : Reading) → a .refusal ≡ 0 → b ≡ nextBlocks src t i ks a → b .refusal ≢ 0 → b ≡ nextBlocks src t i (ks ++ js) a
+  unfolding nextBlocks
+  blocks-refused i [] a o is z = absurd (z (ap (λ (x : Reading). x .refusal) is ∙ o))
+  blocks-refused i (k ∷ ks) a o is z =
+      let c : Reading = nextBlock src t i k a in
+      on-eq (c .refusal) 0
+      (λ y. blocks-refused (i + 1) ks c y (is ∙ if-eq (c .refusal) 0 _ _ y) z ∙ sym (if-eq (c .refusal) 0 _ _ y))
+      (λ y. is ∙ if-ne (c .refusal) 0 _ _ y ∙ sym (if-ne (c .refusal) 0 _ _ y))
 
 -- ---- along a row
 
