@@ -1,1 +1,3 @@
 pub mod BandBlocks
+pub mod ReadRows
+pub mod ReadBands
