@@ -1,3 +1,4 @@
 pub mod BandBlocks
 pub mod ReadRows
 pub mod ReadBands
+pub mod HeaderEnd
