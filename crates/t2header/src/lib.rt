@@ -1,16 +1,16 @@
 // A packet header read behind its first bit (opj_t2_read_packet_header of t2.rs): a band's blocks row by row, the bands, the header's end.
 ghost use mathlib.Core.Path.{_≡_};
 ghost use mathlib.Core.Bool.{true};
-ghost use Prim.Native.Nat.{_+_, _*_, _/_, _^_, _<_, _≤_};
+ghost use Prim.Native.Nat.{_*_, _<_, _≤_};
 ghost use lib.ListN.{length, take};
 ghost use Rattle.t800.specs.TagTree.{levels};
 ghost use Rattle.t800.specs.State.{reader, layer, bands, blocks, blocksIn, endOf};
 ghost use Rattle.t800.specs.Ranges.{validState};
-ghost use Rattle.t800.specs.ReadHeader.{readHeader};
 ghost use Rattle.tcd.specs.Geometry.{AllUpTo64, padded};
 ghost use Rattle.t2enc.specs.Bands.{bandBlocks, BandIn};
-ghost use Rattle.t2dec.specs.Reading.{reading, nextBlocks, BitsIn, Follows};
+ghost use Rattle.t2dec.specs.Reading.{reading, nextBlocks, BitsIn};
 ghost use Rattle.t2header.specs.Bands.{BandFits, BandsFit};
+ghost use Rattle.t2header.specs.Header.{ReadsHeader};
 use t2dec::Run;
 use t800::Band;
 use t800::Bio;
@@ -108,7 +108,7 @@ fn read_bands(
     run
 }
 
-// All bits after the last block's are still to be read from `bio`, or the refusal says why there is no header.
+// Of the state in `words`, behind the first bit.
 pub fn opj_t2_read_packet_header(
     words: &mut [u32],
     reports: &mut [u32],
@@ -117,7 +117,7 @@ pub fn opj_t2_read_packet_header(
     b: Bio,
 ) -> Run
     requires { ⌜ (validState reader (now words) (length (now words)) ≡ true) × (layer (now words) < 999) × (length (now reports) ≡ 4 * length (blocks (bands (now words)))) × (BitsIn (now src) b) ⌝ }
-    ensures { λ o. ⌜ Follows (now (reports .entry)) (now (records .entry)) (reading (now (words .exit)) (now (reports .exit)) (now (records .exit)) o) (readHeader (now (src .entry)) (length (now (records .entry)) / 4) (now (words .entry)) b) ⌝ }
+    ensures { λ o. ⌜ ReadsHeader (now (src .entry)) (now (reports .entry)) (now (records .entry)) (now (words .entry)) b (reading (now (words .exit)) (now (reports .exit)) (now (records .exit)) o) ⌝ }
 {
     let bands = tcdstate::bands_of(words);
     let n = words[1] as usize;

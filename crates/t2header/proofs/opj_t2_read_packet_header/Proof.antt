@@ -18,7 +18,7 @@ use Rattle.t2dec.specs.declared.Run.{Run}
 use Rattle.t2dec.specs.Reading.{reading, nextBlocks}
 use Rattle.t2header.specs.Bands.{BandsFit}
 use Rattle.t2header.proofs.Laws.ReadBands.{bands-fit}
-use Rattle.t2header.proofs.Laws.HeaderEnd.{bands-inside, thirteen-words, place-in, header-refused, header-done, header-cut}
+use Rattle.t2header.proofs.Laws.HeaderEnd.{bands-inside, thirteen-words, bits-in, header-refused, header-done, header-cut}
 use borrow.Author.Needs.{needs}
 use Rattle.t2header.proofs.opj_t2_read_packet_header.Statement.{statement}
 use Rattle.t2header.proofs.opj_t2_read_packet_header.Tie as tie
@@ -97,7 +97,7 @@ returns c =
     let e = first-bands ws _ _ refl (c .before .before .before .before .before .before .before .before .before .before .before .before .before .before .bands-of .ensures) in
     let f = c .before .before .before .before .before .before .before .before .read-bands in
     let is = f .ensures ∙ ap (λ (bs : List Band). nextBlocks (a .src .now) (layer ws) 0 (blocks bs) (reading ws (a .reports .now) (a .records .now) (startAt (a .b)))) e in
-    header-refused (a .src .now) (a .reports .now) (a .records .now) ws (a .b) v (s .pre .2) (startAt (a .b)) refl _ is (c .if1 .taken)
+    header-refused (a .src .now) (a .reports .now) (a .records .now) ws (a .b) v (s .pre .2) (startAt (a .b)) refl _ is (s .pre .3) (c .if1 .taken)
 
 opj-bio-inalign-requires : tie.Need-opj-bio-inalign-requires
 opj-bio-inalign-requires c κs =
@@ -108,7 +108,7 @@ opj-bio-inalign-requires c κs =
     let e = first-bands ws _ _ refl (c .before .before .before .before .before .before .before .before .before .before .before .before .before .before .bands-of .ensures) in
     let f = c .before .before .before .before .before .before .before .before .read-bands in
     let is = f .ensures ∙ ap (λ (bs : List Band). nextBlocks (a .src .now) (layer ws) 0 (blocks bs) (reading ws (a .reports .now) (a .records .now) (startAt (a .b)))) e in
-    place-in (a .src .now) (a .reports .now) (a .records .now) ws (a .b) v (s .pre .2) (startAt (a .b)) refl _ is (s .pre .3)
+    bits-in (a .src .now) (a .reports .now) (a .records .now) ws (a .b) v (s .pre .2) (startAt (a .b)) refl _ is (s .pre .3) .place
 
 same-length-4 : tie.Need-same-length-4
 same-length-4 c = search needs
@@ -128,7 +128,7 @@ returns-2 c =
     let e = first-bands ws _ _ refl (c .before .before .before .before .before .before .before .before .before .before .before .before .before .before .before .before .bands-of .ensures) in
     let f = c .before .before .before .before .before .before .before .before .before .before .read-bands in
     let is = f .ensures ∙ ap (λ (bs : List Band). nextBlocks (a .src .now) (layer ws) 0 (blocks bs) (reading ws (a .reports .now) (a .records .now) (startAt (a .b)))) e in
-    header-done (a .src .now) (a .reports .now) (a .records .now) ws (a .b) v (s .pre .2) (startAt (a .b)) refl _ is (c .before .before .if1 .left) (ends (a .src .now) (f .result .bio) _ true (c .before .opj-bio-inalign .ensures) (c .if2 .taken))
+    header-done (a .src .now) (a .reports .now) (a .records .now) ws (a .b) v (s .pre .2) (startAt (a .b)) refl _ is (s .pre .3) (c .before .before .if1 .left) (ends (a .src .now) (f .result .bio) _ true (c .before .opj-bio-inalign .ensures) (c .if2 .taken))
 
 refuse-requires : tie.Need-refuse-requires
 refuse-requires c κs = search needs
@@ -151,7 +151,7 @@ returns-3 c =
     let e = first-bands ws _ _ refl (c .before .before .before .before .before .before .before .before .before .before .before .before .before .before .before .before .before .bands-of .ensures) in
     let f = c .before .before .before .before .before .before .before .before .before .before .before .read-bands in
     let is = f .ensures ∙ ap (λ (bs : List Band). nextBlocks (a .src .now) (layer ws) 0 (blocks bs) (reading ws (a .reports .now) (a .records .now) (startAt (a .b)))) e in
-    header-cut (a .src .now) (a .reports .now) (a .records .now) ws (a .b) v (s .pre .2) (startAt (a .b)) refl _ is (c .before .before .before .if1 .left) _ (ap (λ (o : Run). reading (f .last .0) (f .last .1 .0) (f .last .1 .1 .0) o) (c .refuse .ensures)) (ends (a .src .now) (f .result .bio) _ false (c .before .before .opj-bio-inalign .ensures) (c .before .if2 .left))
+    header-cut (a .src .now) (a .reports .now) (a .records .now) ws (a .b) v (s .pre .2) (startAt (a .b)) refl _ is (s .pre .3) (c .before .before .before .if1 .left) _ (ap (λ (o : Run). reading (f .last .0) (f .last .1 .0) (f .last .1 .1 .0) o) (c .refuse .ensures)) (ends (a .src .now) (f .result .bio) _ false (c .before .before .opj-bio-inalign .ensures) (c .before .if2 .left))
 
 pub opj-t2-read-packet-header-spec : {M : Type 1} → statement M
 opj-t2-read-packet-header-spec =

@@ -53,7 +53,7 @@ record-put lent rs r h =
 
 -- ---- reports
 
-length-reports : (rs : List BlockReport) → length (reportWords rs) ≡ 4 * length rs
+pub length-reports : (rs : List BlockReport) → length (reportWords rs) ≡ 4 * length rs
 unfolding reportWords
 length-reports [] = refl
 length-reports (r ∷ rs) = let i = length-reports rs in omega arith
