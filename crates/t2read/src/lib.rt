@@ -11,7 +11,7 @@ ghost use Rattle.t800.specs.MarkerSegments.{readMarker};
 ghost use Rattle.t800.specs.ReadHeader.{readHeader};
 ghost use Rattle.t800.specs.Packet.{readRefusal, refusedAnswer, readAbsent, read};
 ghost use Rattle.t2dec.specs.Reading.{BitsIn};
-ghost use Rattle.t2read.specs.Answers.{markerRead, readResult, doneAnswer, presentOrBroken};
+ghost use Rattle.t2read.specs.Answers.{markerRead, readResult, WithAnyRecords, doneAnswer, presentOrBroken};
 use t800::Bio;
 use t800::Markers;
 use t800::ReadAnswer;
@@ -117,4 +117,90 @@ fn done(src: &[u8], m: Markers, s: MarkerFound, b: Bio, present: u32, segments: 
         sop: s.mark,
         eph: e.mark,
     }
+}
+
+// A first bit 0: only the next layer moves.
+fn read_absent(
+    state: &mut [u32],
+    scratch: &mut [u32],
+    reports: &mut [u32],
+    src: &[u8],
+    m: Markers,
+    s: MarkerFound,
+    b: Bio,
+) -> ReadAnswer
+    requires { ⌜ (validState reader (now state) (length (now scratch)) ≡ true) × (layer (now state) < 999) × (b .bp ≤ length (now src) + 1) ⌝ }
+    ensures { λ r. ⌜ WithAnyRecords (λ records. readResult (now (state .exit)) (now (scratch .exit)) (now (reports .exit)) records r) (λ records. readAbsent (now (state .entry)) m (now (src .entry)) (now (reports .entry)) records (markerRead s) b) ⌝ }
+{
+    let next = state[3] + 1;
+    state[3] = next;
+    tcd::copy(state, scratch);
+    tcd::wipe(reports);
+    done(src, m, s, b, 0, 0)
+}
+
+fn wipe_all(scratch: &mut [u32], reports: &mut [u32], records: &mut [u32])
+    ensures { λ _. ⌜ (now (scratch .exit) ≡ wiped (now (scratch .entry))) × (now (reports .exit) ≡ wiped (now (reports .entry))) × (now (records .exit) ≡ wiped (now (records .entry))) ⌝ }
+{
+    tcd::wipe(scratch);
+    tcd::wipe(reports);
+    tcd::wipe(records);
+}
+
+// What was read becomes the state, with the next layer.
+fn settle(state: &mut [u32], scratch: &mut [u32])
+    requires { ⌜ (length (now scratch) ≡ length (now state)) × (3 < length (now state)) × (layer (now state) < 999) ⌝ }
+    ensures { λ _. ⌜ (now (state .exit) ≡ set (now (scratch .entry)) 3 (layer (now (state .entry)) + 1)) × (now (scratch .exit) ≡ set (now (scratch .entry)) 3 (layer (now (state .entry)) + 1)) ⌝ }
+{
+    let next = state[3] + 1;
+    scratch[3] = next;
+    tcd::copy(scratch, state);
+}
+
+// A first bit 1.
+fn read_present(
+    state: &mut [u32],
+    scratch: &mut [u32],
+    reports: &mut [u32],
+    records: &mut [u32],
+    src: &[u8],
+    m: Markers,
+    s: MarkerFound,
+    b: Bio,
+) -> ReadAnswer
+    requires { ⌜ (validState reader (now state) (length (now scratch)) ≡ true) × (layer (now state) < 999) × (length (now reports) ≡ 4 * length (blocks (bands (now state)))) × (BitsIn (now src) b) ⌝ }
+    ensures { λ r. ⌜ readResult (now (state .exit)) (now (scratch .exit)) (now (reports .exit)) (now (records .exit)) r ≡ presentOrBroken (now (state .entry)) (now (scratch .entry)) m (now (src .entry)) (now (reports .entry)) (now (records .entry)) (markerRead s) (readHeader (now (src .entry)) (length (now (records .entry)) / 4) (now (state .entry)) b) ⌝ }
+{
+    tcd::copy(state, scratch);
+    let run = t2header::opj_t2_read_packet_header(scratch, reports, records, src, b);
+    if run.refusal != 0 {
+        wipe_all(scratch, reports, records);
+        return refused(run.refusal);
+    }
+    settle(state, scratch);
+    done(src, m, s, run.bio, 1, run.count)
+}
+
+// The next layer of the state.
+pub fn read(
+    state: &mut [u32],
+    scratch: &mut [u32],
+    m: Markers,
+    src: &[u8],
+    reports: &mut [u32],
+    records: &mut [u32],
+) -> ReadAnswer
+    ensures { λ r. ⌜ readResult (now (state .exit)) (now (scratch .exit)) (now (reports .exit)) (now (records .exit)) r ≡ read (now (state .entry)) (now (scratch .entry)) m (now (src .entry)) (now (reports .entry)) (now (records .entry)) ⌝ }
+{
+    let why = read_refusal(state, scratch, reports);
+    if why != 0 {
+        return refused(why);
+    }
+    let s = read_marker(m.sop, Marker::SOP, src, 0);
+    let start = bio::opj_bio_init_dec(s.skip);
+    let first = bio::opj_bio_getbit(src, start);
+    if first.value == 0 {
+        return read_absent(state, scratch, reports, src, m, s, first.bio);
+    }
+    read_present(state, scratch, reports, records, src, m, s, first.bio)
 }
