@@ -26,7 +26,7 @@ use Rattle.t2header.specs.Header.{ReadsHeader}
 use Rattle.t2header.proofs.Laws.BandBlocks.{bands-before, bands-apart}
 
 -- a state that refusal 5 lets pass is as long as its bands ask for
-module _ (ws : List ℕ) (valid : ValidState reader ws (length ws)) where
+module _ (ws : List ℕ) (n : ℕ) (valid : ValidState reader ws n) where
   pub bands-inside : endOf 13 (bands ws) ≤ length ws
   unfolding stateLength
   bands-inside = omega (arith, valid .length-is)
@@ -50,7 +50,7 @@ module _ (src reports records ws : List ℕ) (b : Bio) (valid : ValidState reade
   unfolding blocks
   all-end =
       subst (λ (x : Reading). Ends reports records (length ws) (0 + length (blocks (bands ws))) x read) (sym (is ∙ ap (nextBlocks src (layer ws) 0 (blocks (bands ws))) start-held))
-      (blocks-end src reports records (length ws) (layer ws) 0 (blocks (bands ws)) (bands-apart (length ws) 13 (bands ws) (bands-inside ws valid)) (omega arith) ws b [] [] (omega arith) refl refl)
+      (blocks-end src reports records (length ws) (layer ws) 0 (blocks (bands ws)) (bands-apart (length ws) 13 (bands ws) (bands-inside ws (length ws) valid)) (omega arith) ws b [] [] (omega arith) refl refl)
 
   module _ (h : BitsIn src b) where
     pub bits-in : BitsIn src (c .bio)
@@ -58,7 +58,7 @@ module _ (src reports records ws : List ℕ) (b : Bio) (valid : ValidState reade
     bits-in =
         let a : Reading = reading ws reports records start in
         let s : BitsIn src (a .bio) = subst (λ (r : Run). BitsIn src (r .bio)) (sym at-start) h in
-        let k = blocks-keep src (length ws) ws (layer ws) 0 (blocks (bands ws)) a (bands-before (length ws) 13 (bands ws) (bands-inside ws valid)) (record { bits = s; behind = refl }) in
+        let k = blocks-keep src (length ws) ws (layer ws) 0 (blocks (bands ws)) a (bands-before (length ws) 13 (bands ws) (bands-inside ws (length ws) valid)) (record { bits = s; behind = refl }) in
         subst (λ (x : Reading). BitsIn src (x .bio)) (sym is) (k .bits)
 
     header-by : (t : Bool) → (eqb (read .refusal) 0 && endsInFF src (read .bio)) ≡ t → readHeader src room ws b ≡ cond t (refused 12) read

@@ -44,7 +44,7 @@ slice-read-n c =
     let a = s .args in
     let ws = a .words .now in
     let v = valid-state reader ws (length ws) (s .pre .0) in
-    omega (arith, thirteen-words ws v)
+    omega (arith, thirteen-words ws (length ws) v)
 
 cast-n : tie.Need-cast-n
 cast-n c =
@@ -60,7 +60,7 @@ slice-read-layer c =
     let a = s .args in
     let ws = a .words .now in
     let v = valid-state reader ws (length ws) (s .pre .0) in
-    omega (arith, thirteen-words ws v)
+    omega (arith, thirteen-words ws (length ws) v)
 
 read-bands-requires : tie.Need-read-bands-requires
 read-bands-requires c κs =
@@ -74,7 +74,7 @@ read-bands-requires c κs =
       refl,
       v .three-bands,
       subst AllUpTo64 (sym e) (v .sides),
-      subst (λ (bs : List Band). endOf 13 bs ≤ length ws) (sym e) (bands-inside ws v),
+      subst (λ (bs : List Band). endOf 13 bs ≤ length ws) (sym e) (bands-inside ws (length ws) v),
       s .pre .1,
       subst (BandsFit ws 13) (sym e) (bands-fit ws 13 _ (s .pre .1) (v .ranges)),
     )
