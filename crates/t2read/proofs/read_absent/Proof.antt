@@ -1,51 +1,59 @@
+-- `t2read::read_absent` meets its contract.
+use mathlib.Core.Path.{sym, _∙_}
+use native.Mathlib.Omega.{arith}
+use lib.ListN.{length, length-set}
+use Rattle.t800.specs.State.{reader}
+use Rattle.tcdstate.proofs.Laws.ValidStates.{valid-state}
+use Rattle.t2header.proofs.Laws.HeaderEnd.{thirteen-words}
+use Rattle.t2read.specs.Answers.{markerRead}
+use Rattle.t2read.proofs.Laws.Results.{absent-is}
 use borrow.Author.Needs.{needs}
 use Rattle.t2read.proofs.read_absent.Statement.{statement}
 use Rattle.t2read.proofs.read_absent.Tie as tie
-use Rattle.t2read.proofs.read_absent.Reads as reads
-use Rattle.t2read.proofs.read_absent.Lts as lts
-use Rattle.t2read.proofs.done.Reads as done-reads
-use Rattle.tcd.proofs.copy.Reads as copy-reads
-use Rattle.tcd.proofs.wipe.Reads as wipe-reads
 
--- src/lib.rt:135:16
 slice-read-next : tie.Need-slice-read-next
-slice-read-next c = ?
+slice-read-next c =
+    let s = c .before .before .before .before .before in
+    let ws = s .args .state .now in
+    let v = valid-state reader ws (length (s .args .scratch .now)) (s .pre .0) in
+    omega (arith, thirteen-words ws (length (s .args .scratch .now)) v)
 
--- src/lib.rt:135:16
 add-next : tie.Need-add-next
 add-next c = search needs
 
--- src/lib.rt:136:5
 slice-write-state : tie.Need-slice-write-state
-slice-write-state c = ?
+slice-write-state c =
+    let s = c .before .before .before .before .before in
+    let ws = s .args .state .now in
+    let v = valid-state reader ws (length (s .args .scratch .now)) (s .pre .0) in
+    omega (arith, thirteen-words ws (length (s .args .scratch .now)) v)
 
--- src/lib.rt:137:5
 copy-requires : tie.Need-copy-requires
-copy-requires c κs = ?
+copy-requires c κs =
+    let s = c .before .before .before .before .before .before .before in
+    let ws = s .args .state .now in
+    let v = valid-state reader ws (length (s .args .scratch .now)) (s .pre .0) in
+    simp length-set (sym (v .scratch-is))
 
--- src/lib.rt:138:5
 wipe-requires : tie.Need-wipe-requires
 wipe-requires c κs = search needs
 
--- src/lib.rt:139:5
 done-requires : tie.Need-done-requires
 done-requires c κs = search needs
 
--- src/lib.rt:123:1
 same-length : tie.Need-same-length
 same-length c = search needs
 
--- src/lib.rt:123:1
 same-length-2 : tie.Need-same-length-2
 same-length-2 c = search needs
 
--- src/lib.rt:123:1
 same-length-3 : tie.Need-same-length-3
 same-length-3 c = search needs
 
--- src/lib.rt:123:1
 returns : tie.Need-returns
-returns c = ?
+returns c =
+    let s = c .before .before .before .before .before .before .before .before .before .before .before .before .before .before .before in
+    λ records. absent-is (s .args .state .now) (s .args .m) (s .args .src .now) (s .args .reports .now) records (markerRead (s .args .s)) (s .args .b) _ _ _ (c .before .before .before .before .before .before .before .copy .ensures) (c .before .before .before .wipe .ensures) (c .done .ensures)
 
 pub read-absent-spec : {M : Type 1} → statement M
 read-absent-spec =

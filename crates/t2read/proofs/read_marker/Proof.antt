@@ -1,45 +1,50 @@
+-- `t2read::read_marker` meets its contract.
+use mathlib.Core.Path.{_≡_, sym, subst}
+use mathlib.Core.Bool.{true}
+use Prim.Native.Nat.{ℕ, _≤_, _<_}
+use native.Mathlib.Omega.{arith}
+use borrow.Author.Tests.{not-true, not-false}
+use Rattle.t2read.proofs.Laws.Markers.{not-used, too-few, first-differs, second-differs, both-there}
 use borrow.Author.Needs.{needs}
 use Rattle.t2read.proofs.read_marker.Statement.{statement}
 use Rattle.t2read.proofs.read_marker.Tie as tie
-use Rattle.t2read.proofs.read_marker.Reads as reads
-use Rattle.t2read.proofs.read_marker.Lts as lts
-use Rattle.t2read.proofs.bytes_from.Reads as bytes-from-reads
 
--- src/lib.rt:50:9
 returns : tie.Need-returns
-returns c = ?
+returns c =
+    let s = c .before .before in
+    not-used (s .args .used) (s .args .m .bytes) (s .args .m .second) (s .args .src .now) (s .args .p) (not-true _ (c .if1 .taken))
 
--- src/lib.rt:52:8
 bytes-from-requires : tie.Need-bytes-from-requires
 bytes-from-requires c κs = search needs
 
--- src/lib.rt:53:9
 returns-2 : tie.Need-returns-2
-returns-2 c = ?
+returns-2 c =
+    let s = c .before .before .before .before .before in
+    too-few (s .args .used) (s .args .m .bytes) (s .args .m .second) (s .args .src .now) (s .args .p) (not-false _ (c .before .before .before .if1 .left)) (subst (λ (n : ℕ). n < s .args .m .bytes) (c .before .before .bytes-from .ensures) (c .if2 .taken))
 
--- src/lib.rt:55:8
 shared-slice-read-if3 : tie.Need-shared-slice-read-if3
 shared-slice-read-if3 c = search needs
 
--- src/lib.rt:56:9
 returns-3 : tie.Need-returns-3
-returns-3 c = ?
+returns-3 c =
+    let s = c .before .before .before .before .before .before .before in
+    first-differs (s .args .used) (s .args .m .bytes) (s .args .m .second) (s .args .src .now) (s .args .p) (not-false _ (c .before .before .before .before .before .if1 .left)) (subst (λ (n : ℕ). s .args .m .bytes ≤ n) (c .before .before .before .before .bytes-from .ensures) (c .before .before .if2 .left)) (c .if3 .taken)
 
--- src/lib.rt:58:12
 add-if4 : tie.Need-add-if4
 add-if4 c = search needs
 
--- src/lib.rt:58:8
 shared-slice-read-if4 : tie.Need-shared-slice-read-if4
 shared-slice-read-if4 c = search needs
 
--- src/lib.rt:59:9
 returns-4 : tie.Need-returns-4
-returns-4 c = ?
+returns-4 c =
+    let s = c .before .before .before .before .before .before .before .before .before .before in
+    second-differs (s .args .used) (s .args .m .bytes) (s .args .m .second) (s .args .src .now) (s .args .p) (not-false _ (c .before .before .before .before .before .before .before .before .if1 .left)) (subst (λ (n : ℕ). s .args .m .bytes ≤ n) (c .before .before .before .before .before .before .before .bytes-from .ensures) (c .before .before .before .before .before .if2 .left)) (c .before .before .before .if3 .left) (c .if4 .taken)
 
--- src/lib.rt:45:1
 returns-5 : tie.Need-returns-5
-returns-5 c = ?
+returns-5 c =
+    let s = c .before .before .before .before .before .before .before .before .before .before in
+    both-there (s .args .used) (s .args .m .bytes) (s .args .m .second) (s .args .src .now) (s .args .p) (not-false _ (c .before .before .before .before .before .before .before .before .if1 .left)) (subst (λ (n : ℕ). s .args .m .bytes ≤ n) (c .before .before .before .before .before .before .before .bytes-from .ensures) (c .before .before .before .before .before .if2 .left)) (c .before .before .before .if3 .left) (c .if4 .left)
 
 pub read-marker-spec : {M : Type 1} → statement M
 read-marker-spec =

@@ -1,78 +1,96 @@
+-- `t2read::read_present` meets its contract.
+use mathlib.Core.Path.{_≡_, sym, ap, _∙_, subst}
+use mathlib.Core.Bool.{true}
+use mathlib.Core.List.{List}
+use Prim.Native.Nat.{ℕ, _*_, _<_}
+use native.Mathlib.Omega.{arith}
+use lib.ListN.{length}
+use Rattle.t800.specs.State.{reader, layer, bands, blocks}
+use Rattle.t800.specs.Ranges.{validState}
+use Rattle.tcdstate.proofs.Laws.ValidStates.{valid-state}
+use Rattle.t2dec.specs.Reading.{reading}
+use Rattle.t2header.proofs.Laws.HeaderEnd.{thirteen-words}
+use Rattle.t2read.specs.Answers.{markerRead}
+use Rattle.t2read.proofs.Laws.Results.{broken-is, present-is}
 use borrow.Author.Needs.{needs}
 use Rattle.t2read.proofs.read_present.Statement.{statement}
 use Rattle.t2read.proofs.read_present.Tie as tie
-use Rattle.t2read.proofs.read_present.Reads as reads
-use Rattle.t2read.proofs.read_present.Lts as lts
-use Rattle.t2header.proofs.opj_t2_read_packet_header.Reads as opj-t2-read-packet-header-reads
-use Rattle.t2read.proofs.done.Reads as done-reads
-use Rattle.t2read.proofs.refused.Reads as refused-reads
-use Rattle.t2read.proofs.settle.Reads as settle-reads
-use Rattle.t2read.proofs.wipe_all.Reads as wipe-all-reads
-use Rattle.tcd.proofs.copy.Reads as copy-reads
 
--- src/lib.rt:174:5
 copy-requires : tie.Need-copy-requires
-copy-requires c κs = ?
+copy-requires c κs =
+    let s = c .before .before .before .before .before .before .before in
+    let ws = s .args .state .now in
+    let v = valid-state reader ws (length (s .args .scratch .now)) (s .pre .0) in
+    sym (v .scratch-is)
 
--- src/lib.rt:175:9
 opj-t2-read-packet-header-requires : tie.Need-opj-t2-read-packet-header-requires
-opj-t2-read-packet-header-requires c κs = ?
+opj-t2-read-packet-header-requires c κs =
+    let s = c .before .before .before .before .before .before .before .before .before .before .before .before .before in
+    let ws = s .args .state .now in
+    let v = valid-state reader ws (length (s .args .scratch .now)) (s .pre .0) in
+    let e = c .before .before .before .before .before .copy .ensures in (
+      subst (λ (us : List ℕ). validState reader us (length us) ≡ true) (sym e) (subst (λ (n : ℕ). validState reader ws n ≡ true) (v .scratch-is) (s .pre .0)),
+      subst (λ (us : List ℕ). layer us < 999) (sym e) (s .pre .1),
+      subst (λ (us : List ℕ). length (s .args .reports .now) ≡ 4 * length (blocks (bands us))) (sym e) (s .pre .2),
+      s .pre .3,
+    )
 
--- src/lib.rt:177:9
 wipe-all-requires : tie.Need-wipe-all-requires
 wipe-all-requires c κs = search needs
 
--- src/lib.rt:178:9
 refused-requires : tie.Need-refused-requires
 refused-requires c κs = search needs
 
--- src/lib.rt:178:9
 same-length : tie.Need-same-length
 same-length c = search needs
 
--- src/lib.rt:178:9
 same-length-2 : tie.Need-same-length-2
 same-length-2 c = search needs
 
--- src/lib.rt:178:9
 same-length-3 : tie.Need-same-length-3
 same-length-3 c = search needs
 
--- src/lib.rt:178:9
 same-length-4 : tie.Need-same-length-4
 same-length-4 c = search needs
 
--- src/lib.rt:178:9
 returns : tie.Need-returns
-returns c = ?
+returns c =
+    let s = c .before .before .before .before .before .before .before .before .before .before .before .before .before .before .before .before .before .before .before .before .before .before .before .before .before .before .before .before .before .before .before .before .before in
+    let a = s .args in
+    let h = c .before .before .before .before .before .before .before .before .before .before .before .before .before .before .before .before .before .before .before .opj-t2-read-packet-header in
+    let w = c .before .before .before .before .before .before .before .wipe-all in
+    broken-is (a .state .now) (a .scratch .now) (a .m) (a .src .now) (a .reports .now) (a .records .now) (markerRead (a .s)) (a .b) (c .before .before .before .before .before .before .before .before .before .before .before .before .before .before .before .before .before .before .before .before .before .before .before .before .before .copy .last .1 .0) (c .before .before .before .before .before .before .before .before .before .before .before .before .before .before .before .before .before .before .before .before .before .before .before .before .before .copy .ensures) (reading (h .last .0) (h .last .1 .0) (h .last .1 .1 .0) (h .result)) (h .ensures) _ _ _ _ (c .before .before .before .before .before .before .before .before .before .before .before .if1 .taken) (h .kept .0 ∙ c .before .before .before .before .before .before .before .before .before .before .before .before .before .before .before .before .before .before .before .before .before .before .before .before .before .copy .kept .1 .0) (h .kept .1 .0) (h .kept .1 .1 .0) (w .ensures .0) (w .ensures .1) (w .ensures .2) (c .refused .ensures)
 
--- src/lib.rt:180:5
 settle-requires : tie.Need-settle-requires
-settle-requires c κs = ?
+settle-requires c κs =
+    let s = c .before .before .before .before .before .before .before .before .before .before .before .before .before .before .before .before .before .before .before .before .before .before .before .before in
+    let ws = s .args .state .now in
+    let v = valid-state reader ws (length (s .args .scratch .now)) (s .pre .0) in
+    let h = c .before .before .before .before .before .before .before .before .before .before .opj-t2-read-packet-header in
+    (h .kept .0 ∙ c .before .before .before .before .before .before .before .before .before .before .before .before .before .before .before .before .copy .kept .1 .0 ∙ v .scratch-is, omega (arith, thirteen-words ws (length (s .args .scratch .now)) v), s .pre .1)
 
--- src/lib.rt:181:5
 done-requires : tie.Need-done-requires
-done-requires c κs = search needs
+done-requires c κs = c .before .before .before .before .before .before .before .before .before .before .before .before .before .before .before .opj-t2-read-packet-header .ensures .bits .place
 
--- src/lib.rt:161:1
 same-length-5 : tie.Need-same-length-5
 same-length-5 c = search needs
 
--- src/lib.rt:161:1
 same-length-6 : tie.Need-same-length-6
 same-length-6 c = search needs
 
--- src/lib.rt:161:1
 same-length-7 : tie.Need-same-length-7
 same-length-7 c = search needs
 
--- src/lib.rt:161:1
 same-length-8 : tie.Need-same-length-8
 same-length-8 c = search needs
 
--- src/lib.rt:161:1
 returns-2 : tie.Need-returns-2
-returns-2 c = ?
+returns-2 c =
+    let s = c .before .before .before .before .before .before .before .before .before .before .before .before .before .before .before .before .before .before .before .before .before .before .before .before .before .before .before .before .before .before in
+    let a = s .args in
+    let h = c .before .before .before .before .before .before .before .before .before .before .before .before .before .before .before .before .opj-t2-read-packet-header in
+    let w = c .before .before .before .before .before .settle in
+    present-is (a .state .now) (a .scratch .now) (a .m) (a .src .now) (a .reports .now) (a .records .now) (markerRead (a .s)) (a .b) (c .before .before .before .before .before .before .before .before .before .before .before .before .before .before .before .before .before .before .before .before .before .before .copy .last .1 .0) (c .before .before .before .before .before .before .before .before .before .before .before .before .before .before .before .before .before .before .before .before .before .before .copy .ensures) (reading (h .last .0) (h .last .1 .0) (h .last .1 .1 .0) (h .result)) (h .ensures) _ _ _ (c .before .before .before .before .before .before .before .before .if1 .left) (s .pre .2) (w .ensures .0) (w .ensures .1) (c .done .ensures)
 
 pub read-present-spec : {M : Type 1} → statement M
 read-present-spec =
