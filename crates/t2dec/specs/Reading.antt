@@ -2,14 +2,14 @@
 -- that the refusal is the same.
 use Prim.Native.Nat.{ℕ, zero, suc, _+_, _-_, _*_, _/_, _%_, _^_, _≤_, _<_}
 use mathlib.Core.Path.{_≡_}
-use mathlib.Core.Bool.{cond, _&&_}
+use mathlib.Core.Bool.{cond}
 use mathlib.Core.List.{List, [], _∷_, reverse}
 use lib.ListN.{length, getD, set}
 use lib.Dec.{ltb, leb, eqb}
 use Rattle.t800.specs.declared.Bio.{Bio}
 use Rattle.t800.specs.Base.{overwrite}
 use Rattle.t800.specs.Bits.{getBit, readBits}
-use Rattle.t800.specs.TagTree.{PathRead, value, readPath}
+use Rattle.t800.specs.TagTree.{value, readPath}
 use Rattle.t800.specs.PassCount.{readPasses}
 use Rattle.t800.specs.Segments.{width}
 use Rattle.t800.specs.Reports.{reportWords, recordWords}
@@ -84,8 +84,8 @@ passesRead src at passes bits ws b =
     let more = readCommaLimited src (n .bio) in
     record { words = set (set ws at (passes + n .value)) (at + 1) (bits + more .value); bio = more .bio; value = n .value }
 
-abbrev pub segmentsOf : List ℕ → ℕ → Block → ValueAfter → Reading → Reading
-segmentsOf src i k c a = nextSegments src i k (c .value) (c .value) (movedOn (c .words) (c .bio) a)
+abbrev pub segmentsAfter : List ℕ → ℕ → Block → ValueAfter → Reading → Reading
+segmentsAfter src i k c a = nextSegments src i k (c .value) (c .value) (movedOn (c .words) (c .bio) a)
 
 -- an included block behind its inclusion: for the first time, or again
 unfoldable pub nextFirst : List ℕ → ℕ → Block → Reading → Reading
@@ -93,12 +93,12 @@ nextFirst src i k a =
     let z = readZeroPlanesFrom src k (notYetPlanes + 2) 0 (a .words) (a .bio) in
     let v = value (z .words) (k .zeroTree + 3 * k .leaf) in
     let c = passesRead src (k .at) 0 3 (z .words) (z .bio) in
-    segmentsOf src i k c (reported i 1 v ((k .planes + 2 ^ 32 - v) % 2 ^ 32) (c .value) a)
+    segmentsAfter src i k c (reported i 1 v ((k .planes + 2 ^ 32 - v) % 2 ^ 32) (c .value) a)
 
 unfoldable pub nextAgain : List ℕ → ℕ → Block → Reading → Reading
 nextAgain src i k a =
     let c = passesRead src (k .at) (getD (a .words) (k .at) 0) (getD (a .words) (k .at + 1) 0) (a .words) (a .bio) in
-    segmentsOf src i k c (reported i 2 0 0 (c .value) a)
+    segmentsAfter src i k c (reported i 2 0 0 (c .value) a)
 
 -- a block without passes so far, in layer t, and one with passes
 unfoldable pub nextNew : List ℕ → ℕ → ℕ → Block → Reading → Reading

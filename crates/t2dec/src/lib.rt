@@ -1,10 +1,8 @@
 // The reading of blocks in a packet header (opj_t2_read_packet_header of t2.rs): a segment, a block's segments, the block, a row of them.
 ghost use mathlib.Core.Path.{_≡_};
-ghost use Prim.Native.Nat.{ℕ, _+_, _-_, _*_, _/_, _^_, _<_, _≤_};
-ghost use mathlib.Core.List.{List};
+ghost use Prim.Native.Nat.{_+_, _-_, _/_, _^_, _<_, _≤_};
 ghost use lib.ListN.{length, getD};
 ghost use Rattle.tgt.specs.Reading.{valueAfter};
-ghost use Rattle.tgt.specs.Path.{PathIn};
 ghost use Rattle.t2block.specs.Blocks.{BlockIn};
 ghost use Rattle.t2block.specs.Runs.{RowIn};
 ghost use Rattle.t2dec.specs.Segments.{limitBehind, currentSegment};

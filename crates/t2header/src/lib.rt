@@ -4,7 +4,7 @@ ghost use mathlib.Core.Bool.{true};
 ghost use Prim.Native.Nat.{_*_, _<_, _≤_};
 ghost use lib.ListN.{length, take};
 ghost use Rattle.t800.specs.TagTree.{levels};
-ghost use Rattle.t800.specs.State.{reader, layer, bands, blocks, blocksIn, endOf};
+ghost use Rattle.t800.specs.State.{reader, layer, bands, blocks, endOf};
 ghost use Rattle.t800.specs.Ranges.{validState};
 ghost use Rattle.tcd.specs.Geometry.{AllUpTo64, padded};
 ghost use Rattle.t2enc.specs.Bands.{bandBlocks, BandIn};

@@ -4,7 +4,6 @@ ghost use mathlib.Core.Bool.{true};
 ghost use Prim.Native.Nat.{_+_, _-_, _*_, _/_, _<_, _≤_};
 ghost use lib.ListN.{length, set};
 ghost use Rattle.t800.specs.Base.{wiped};
-ghost use Rattle.t800.specs.Bits.{getBit};
 ghost use Rattle.t800.specs.State.{reader, layer, bands, blocks};
 ghost use Rattle.t800.specs.Ranges.{validState};
 ghost use Rattle.t800.specs.MarkerSegments.{readMarker};

@@ -28,7 +28,7 @@ use Rattle.t2codes.proofs.Laws.PassCount.{passes-between}
 use Rattle.t2codes.proofs.Laws.CommaCode.{comma-below, comma-value}
 use Rattle.t2block.proofs.Laws.OneBlock.{Before, same-word}
 use Rattle.t2block.proofs.Laws.Rows.{AllBlocks}
-use Rattle.t2dec.specs.Reading.{Reading, stopped, movedOn, reported, nextSegment, nextSegments, passesRead, segmentsOf, nextFirst, nextAgain, nextNew, nextOld, nextBlock, nextBlocks, heldBy, Follows}
+use Rattle.t2dec.specs.Reading.{Reading, stopped, movedOn, reported, nextSegment, nextSegments, passesRead, segmentsAfter, nextFirst, nextAgain, nextNew, nextOld, nextBlock, nextBlocks, heldBy}
 use Rattle.t2dec.proofs.Laws.ManySegments.{no-segments}
 use Rattle.t2dec.proofs.Laws.Kept.{path-keeps}
 
@@ -221,7 +221,7 @@ module _ (src reports records : List ℕ) (size : ℕ) where
 
     -- behind its inclusion and zero planes, with p passes so far and the length bits l
     passes-end : (k : Block) (z : PathRead) (p l : ℕ) → length recs ≤ room → length (z .words) ≡ size → k .at + 3 < size
-        → EndsAt (i + 1) (segmentsOf src i k (passesRead src (k .at) p l (z .words) (z .bio)) (reported i (r .inclusion) (r .zeroPlanes) (r .planes) (r .passes) (heldBy reports records (readSoFar ws b reps recs))))
+        → EndsAt (i + 1) (segmentsAfter src i k (passesRead src (k .at) p l (z .words) (z .bio)) (reported i (r .inclusion) (r .zeroPlanes) (r .planes) (r .passes) (heldBy reports records (readSoFar ws b reps recs))))
         (readSegments src room i k (readPasses src (z .bio) .value) (readPasses src (z .bio) .value)
         (withReport r (movedTo (set (set (z .words) (k .at) (p + readPasses src (z .bio) .value)) (k .at + 1) (l + readComma src (readPasses src (z .bio) .bio) .value)) (readComma src (readPasses src (z .bio) .bio) .bio) (readSoFar ws b reps recs))))
     unfolding passesRead

@@ -7,18 +7,16 @@ use Prim.Native.Nat.{ℕ, zero, suc, _+_, _-_, _≤_, _<_, min}
 use native.Mathlib.Omega.{arith}
 use lib.Dec.{eqb, ltb, leb}
 use lib.ListN.{length, getD, set, drop, length-set}
-use lib.Seq.{getD-set-same, getD-set-other, drop-set-lt}
-use Rattle.t800.specs.declared.Bio.{Bio}
-use Rattle.t800.specs.Bits.{readBits}
+use lib.Seq.{getD-set-same, getD-set-other}
 use Rattle.t800.specs.Segments.{termAll, bypass, firstLimit, nextLimit, width}
 use Rattle.t800.specs.State.{Block}
-use Rattle.t800.specs.ReadHeader.{opensSegment, currentLimit, currentPasses, passesTaken}
+use Rattle.t800.specs.ReadHeader.{currentLimit, currentPasses, passesTaken}
 use Rattle.t800.proofs.Laws.Tests.{either, if-lt, if-ge, if-eq, if-ne, on-eq}
 use Rattle.bio.proofs.Laws.ReadChunks.{readBits-ct}
 use Rattle.t2block.proofs.Laws.OneBlock.{same-word}
 use Rattle.t2dec.specs.declared.Segment.{Segment}
 use Rattle.t2dec.specs.Segments.{limitBehind, currentSegment}
-use Rattle.t2dec.specs.Reading.{Reading, stopped, movedOn, recorded, nextSegment, nextSegments, blockAt, SegmentFits}
+use Rattle.t2dec.specs.Reading.{Reading, stopped, nextSegment, nextSegments, blockAt, SegmentFits}
 use Rattle.t2dec.proofs.Laws.OneSegment.{segment-opens, segment-open}
 
 -- ---- its room
@@ -29,6 +27,7 @@ To109 n = (1 ≤ n) × (n ≤ 109)
 limit-behind-between : (s m : ℕ) → (1 ≤ limitBehind s m) × (limitBehind s m ≤ 109)
 unfolding limitBehind firstLimit nextLimit
 limit-behind-between s m = either To109 (eqb m 0) _ _ (either To109 (termAll s) 1 _ (omega arith) (either To109 (bypass s) 10 109 (omega arith) (omega arith))) (either To109 (termAll s) 1 _ (omega arith) (either To109 (bypass s) _ 109 (either To109 (eqb m 2) 1 2 (omega arith) (omega arith)) (omega arith)))
+
 abbrev HasRoom : Segment → Type 0
 HasRoom s = (s .used < s .limit) × (s .limit ≤ 109)
 

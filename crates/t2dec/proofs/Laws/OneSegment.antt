@@ -1,18 +1,14 @@
 -- One segment: which one it is, and its parts together; pass count and increment.
-use mathlib.Core.Path.{_≡_, refl, sym, ap, _∙_, subst}
+use mathlib.Core.Path.{_≡_, sym, ap, _∙_, subst}
 use mathlib.Core.Logic.{_≢_}
-use mathlib.Core.Bool.{cond}
 use mathlib.Core.List.{List}
 use Prim.Native.Nat.{ℕ, _+_, _/_, _≤_, _<_}
-use native.Mathlib.Omega.{arith}
-use lib.Dec.{eqb}
 use lib.ListN.{length, getD, set}
 use borrow.Author.Tests.{eq-eqb, ne-eqb}
 use Rattle.t800.specs.declared.Bio.{Bio}
 use Rattle.t800.specs.Bits.{Decoded, readBits}
 use Rattle.t800.specs.PassCount.{readPasses}
 use Rattle.t800.specs.Segments.{width}
-use Rattle.t800.specs.State.{lengthBits}
 use Rattle.t800.specs.ReadHeader.{opensSegment, currentLimit, currentPasses}
 use Rattle.t800.proofs.Laws.Tests.{if-lt, if-ge, if-le, if-gt}
 use Rattle.tcd.specs.Rows.{putRow}

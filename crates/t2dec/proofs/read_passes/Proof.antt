@@ -1,6 +1,5 @@
 -- `t2dec::read_passes` meets its contract.
 use mathlib.Core.Path.{ap}
-use Prim.Native.Nat.{ℕ}
 use native.Mathlib.Omega.{arith}
 use lib.ListN.{length-set}
 use Rattle.t800.specs.Bits.{Decoded}

@@ -1,11 +1,10 @@
 -- `t2dec::read_segments` meets its contract.
-use mathlib.Core.Path.{_≡_, refl, sym, ap, _∙_, subst}
-use mathlib.Core.List.{List, []}
-use Prim.Native.Nat.{ℕ, _+_, _-_, _≤_, min}
+use mathlib.Core.Path.{_≡_, refl, sym, _∙_}
+use mathlib.Core.List.{[]}
+use Prim.Native.Nat.{ℕ, _+_, _-_, _≤_}
 use native.Mathlib.Omega.{arith}
 use lib.ListN.{length, getD}
-use Rattle.t2dec.specs.declared.Segment.{Segment}
-use Rattle.t2dec.specs.Reading.{Reading, reading, WithAnyReports, nextSegments, blockAt, SegmentFits}
+use Rattle.t2dec.specs.Reading.{reading, WithAnyReports, nextSegments, blockAt, SegmentFits}
 use Rattle.t2dec.proofs.Laws.ManySegments.{has-room, taken-is, segment-leaves, segments-turn, segments-stop, no-segments}
 use borrow.Author.Needs.{needs}
 use Rattle.t2dec.proofs.read_segments.Statement.{statement}

@@ -3,9 +3,9 @@ use mathlib.Core.Path.{_≡_, refl, sym, ap, _∙_, subst}
 use mathlib.Core.Logic.{_≢_, inl}
 use mathlib.Core.Bool.{true}
 use mathlib.Core.List.{List, [], _∷_, _++_}
-use Prim.Native.Nat.{ℕ, _+_, _*_, _^_, _≤_, _<_}
+use Prim.Native.Nat.{ℕ, _+_, _*_, _<_}
 use native.Mathlib.Omega.{arith}
-use lib.ListN.{length, drop}
+use lib.ListN.{drop}
 use Rattle.t800.specs.declared.Band.{Band}
 use Rattle.t800.specs.State.{Block, layer, blocksIn, bandNodes, bandLength, blocksAt}
 use Rattle.t800.specs.Ranges.{bandInRange, bandsInRange}
@@ -27,7 +27,7 @@ unfolding bandsInRange
 bands-fit ws at [] h e = tt
 bands-fit ws at (b ∷ bs) h e = (
   λ i l. let k = block-bounds ws (at + 6 * bandNodes b + 4 * i) (block-known ws at (b ∷ bs) (at + 6 * bandNodes b + 4 * i) e (inl (i, l, refl))) in
-  record { passes = omega (arith, k .0); bits = k .1; segment = record { used = k .2; limit = k .3 } },
+      record { passes = omega (arith, k .0); bits = k .1; segment = record { used = k .2; limit = k .3 } },
   bands-fit ws (at + bandLength b) bs h (and-right (bandInRange ws at b) (bandsInRange ws (at + bandLength b) bs) e),
 )
 

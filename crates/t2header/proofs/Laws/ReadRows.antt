@@ -1,14 +1,13 @@
 -- A band row by row: its blocks are t800's, and what is left behind a row.
 use mathlib.Core.Path.{_≡_, refl, sym, ap, _∙_, subst}
 use mathlib.Core.Logic.{_≢_}
-use mathlib.Core.List.{List, [], _∷_, _++_}
+use mathlib.Core.List.{List, _∷_}
 use Prim.Native.Nat.{ℕ, zero, suc, _+_, _-_, _*_, _^_, _≤_, _<_}
-use native.Mathlib.Nat.{zero-add}
 use native.Mathlib.Omega.{arith}
 use lib.ListN.{length, getD, drop}
 use Rattle.t800.specs.declared.Band.{Band}
 use Rattle.t800.specs.TagTree.{levels}
-use Rattle.t800.specs.State.{Block, blockOf, blocksIn, bandNodes, blocksFrom}
+use Rattle.t800.specs.State.{Block, blockOf, bandNodes, blocksFrom}
 use Rattle.tcd.specs.Geometry.{padded}
 use Rattle.tcd.proofs.Laws.Bands.{blocks-up-to-4096}
 use Rattle.tgt.specs.Path.{rowOver}

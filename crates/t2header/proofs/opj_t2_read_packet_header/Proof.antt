@@ -68,8 +68,7 @@ read-bands-requires c κs =
     let a = s .args in
     let ws = a .words .now in
     let v = valid-state reader ws (length ws) (s .pre .0) in
-    let e = first-bands ws _ _ refl (c .before .before .before .before .before .bands-of .ensures) in
-    (
+    let e = first-bands ws _ _ refl (c .before .before .before .before .before .bands-of .ensures) in (
       s .pre .3,
       refl,
       v .three-bands,

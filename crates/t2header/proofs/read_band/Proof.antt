@@ -106,8 +106,7 @@ read-row-requires c κs =
     let ep = c .before .before .before .before .before .row-place .ensures ∙ ap (λ (k : Grid). rowPlace k (l .y)) ge in
     let er = c .before .before .before .before .before .before .opj-tgt-row .ensures ∙ (λ i. rowOver (s .pre .3 i) (ge i .depth) (l .y)) in
     let ew = ap (λ (k : Grid). k .w) ge in
-    let b = subst (λ (k : ℕ). BandIn k (a .start) (a .band)) (sym (l .inv .1)) (s .pre .2) in
-    (
+    let b = subst (λ (k : ℕ). BandIn k (a .start) (a .band)) (sym (l .inv .1)) (s .pre .2) in (
       l .inv .0 .bits,
       l .inv .5,
       at-row (length (l .words)) (a .start) (a .band) b (l .y) t (RowIn (length (l .words))) _ _ _ ep er ew (row-in (length (l .words)) (a .start) (a .band) b (l .y) t),

@@ -1,12 +1,12 @@
 -- `t2header::read_bands` meets its contract.
 use mathlib.Core.Path.{_≡_, refl, sym, ap, _∙_, subst}
 use mathlib.Core.List.{List, []}
-use Prim.Native.Nat.{ℕ, _+_, _-_, _*_, _<_, _≤_}
+use Prim.Native.Nat.{ℕ, _+_, _-_, _*_, _≤_}
 use native.Mathlib.Omega.{arith}
 use lib.ListN.{length, getD, take, drop}
 use Rattle.t800.specs.declared.Band.{Band}
 use Rattle.t800.specs.declared.Level.{Level}
-use Rattle.t800.specs.State.{blocks, blocksAt, blocksIn, bandLength, endOf}
+use Rattle.t800.specs.State.{blocks, blocksAt, bandLength, endOf}
 use Rattle.t800.proofs.Laws.Layout.{end-after}
 use Rattle.tcd.specs.Geometry.{noBand}
 use Rattle.tcd.proofs.Laws.Bands.{next-band, no-more-bands, sides-of-first, blocks-up-to-4096, band-levels-at, end-turn}

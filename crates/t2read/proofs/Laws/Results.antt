@@ -1,12 +1,12 @@
 -- The parts of a read make t800's: what turns it away, an absent packet, a header that is refused, and one that is read.
-use mathlib.Core.Path.{_≡_, refl, sym, ap, _∙_, subst}
+use mathlib.Core.Path.{_≡_, sym, ap, _∙_, subst}
 use mathlib.Core.Logic.{_≢_}
-use mathlib.Core.Bool.{Bool, true, false, cond, not}
+use mathlib.Core.Bool.{true, false, not}
 use mathlib.Core.List.{List, _++_, append-nil}
-use Prim.Native.Nat.{ℕ, _+_, _*_, _/_, _≤_, _<_}
+use Prim.Native.Nat.{ℕ, _+_, _*_, _/_, _<_}
 use native.Mathlib.Omega.{arith}
 use lib.Dec.{eqb}
-use lib.ListN.{length, set, drop, replicate, drop-of-length-le}
+use lib.ListN.{length, set, replicate, drop-of-length-le}
 use borrow.Author.Tests.{eq-eqb, ne-eqb, eqb-true, eqb-false, not-false}
 use Rattle.t800.specs.declared.Bio.{Bio}
 use Rattle.t800.specs.declared.Markers.{Markers}
@@ -21,7 +21,7 @@ use Rattle.t800.specs.ReadHeader.{HeaderRead, readHeader}
 use Rattle.t800.specs.Packet.{ReadResult, refusedAnswer, readRefusal, readAbsent, readPresent, read}
 use Rattle.t800.proofs.Laws.Tests.{if-eq, if-ne, not-refused}
 use Rattle.tcd.proofs.Laws.Filled.{length-reports}
-use Rattle.tcdstate.proofs.Laws.ValidStates.{ValidState, valid-state}
+use Rattle.tcdstate.proofs.Laws.ValidStates.{valid-state}
 use Rattle.t2dec.specs.Reading.{Reading, heldBy}
 use Rattle.t2header.specs.Header.{ReadsHeader}
 use Rattle.t2read.specs.Answers.{readResult, doneAnswer, presentOrBroken}

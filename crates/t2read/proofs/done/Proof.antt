@@ -1,6 +1,5 @@
 -- `t2read::done` meets its contract.
-use mathlib.Core.Path.{ap, _∙_}
-use Prim.Native.Nat.{_+_, _≤_}
+use mathlib.Core.Path.{ap}
 use native.Mathlib.Omega.{arith}
 use Rattle.t800.specs.MarkerSegments.{MarkerRead}
 use Rattle.bio.specs.declared.Aligned.{Aligned}

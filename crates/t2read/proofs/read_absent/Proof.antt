@@ -1,5 +1,5 @@
 -- `t2read::read_absent` meets its contract.
-use mathlib.Core.Path.{sym, _∙_}
+use mathlib.Core.Path.{sym}
 use native.Mathlib.Omega.{arith}
 use lib.ListN.{length, length-set}
 use Rattle.t800.specs.State.{reader}

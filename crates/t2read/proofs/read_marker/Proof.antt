@@ -1,8 +1,6 @@
 -- `t2read::read_marker` meets its contract.
-use mathlib.Core.Path.{_≡_, sym, subst}
-use mathlib.Core.Bool.{true}
+use mathlib.Core.Path.{subst}
 use Prim.Native.Nat.{ℕ, _≤_, _<_}
-use native.Mathlib.Omega.{arith}
 use borrow.Author.Tests.{not-true, not-false}
 use Rattle.t2read.proofs.Laws.Markers.{not-used, too-few, first-differs, second-differs, both-there}
 use borrow.Author.Needs.{needs}

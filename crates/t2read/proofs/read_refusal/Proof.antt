@@ -1,12 +1,12 @@
 -- `t2read::read_refusal` meets its contract.
-use mathlib.Core.Path.{_≡_, refl, sym, ap, _∙_, subst}
+use mathlib.Core.Path.{refl, sym, ap, _∙_, subst}
 use mathlib.Core.List.{List}
 use Prim.Native.Nat.{ℕ, _*_}
 use native.Mathlib.Omega.{arith}
 use lib.ListN.{length}
 use borrow.Author.Tests.{not-true, not-false}
 use Rattle.t800.specs.declared.Band.{Band}
-use Rattle.t800.specs.State.{reader, bands, blocks}
+use Rattle.t800.specs.State.{reader, blocks}
 use Rattle.tcd.specs.Geometry.{AllUpTo64}
 use Rattle.tcdstate.proofs.Laws.RangeParts.{first-bands}
 use Rattle.tcdstate.proofs.Laws.ValidStates.{valid-state}
