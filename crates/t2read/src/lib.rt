@@ -171,7 +171,7 @@ fn read_present(
     ensures { λ r. ⌜ readResult (now (state .exit)) (now (scratch .exit)) (now (reports .exit)) (now (records .exit)) r ≡ presentOrBroken (now (state .entry)) (now (scratch .entry)) m (now (src .entry)) (now (reports .entry)) (now (records .entry)) (markerRead s) (readHeader (now (src .entry)) (length (now (records .entry)) / 4) (now (state .entry)) b) ⌝ }
 {
     tcd::copy(state, scratch);
-    let run = t2header::opj_t2_read_packet_header(scratch, reports, records, src, b);
+    let run = t2decheader::opj_t2_read_packet_header(scratch, reports, records, src, b);
     if run.refusal != 0 {
         wipe_all(scratch, reports, records);
         return refused(run.refusal);

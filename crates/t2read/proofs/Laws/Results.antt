@@ -23,7 +23,7 @@ use Rattle.t800.proofs.Laws.Tests.{if-eq, if-ne, not-refused}
 use Rattle.tcd.proofs.Laws.Filled.{length-reports}
 use Rattle.tcdstate.proofs.Laws.ValidStates.{valid-state}
 use Rattle.t2dec.specs.Reading.{Reading, heldBy}
-use Rattle.t2header.specs.Header.{ReadsHeader}
+use Rattle.t2decheader.specs.Header.{ReadsHeader}
 use Rattle.t2read.specs.Answers.{readResult, doneAnswer, presentOrBroken}
 
 -- ---- what turns a packet away

@@ -4,7 +4,7 @@ use native.Mathlib.Omega.{arith}
 use lib.ListN.{length, length-set}
 use Rattle.t800.specs.State.{reader}
 use Rattle.tcdstate.proofs.Laws.ValidStates.{valid-state}
-use Rattle.t2header.proofs.Laws.HeaderEnd.{thirteen-words}
+use Rattle.t2decheader.proofs.Laws.HeaderEnd.{thirteen-words}
 use Rattle.t2read.specs.Answers.{markerRead}
 use Rattle.t2read.proofs.Laws.Results.{absent-is}
 use borrow.Author.Needs.{needs}

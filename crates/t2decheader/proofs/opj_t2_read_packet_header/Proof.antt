@@ -1,4 +1,4 @@
--- `t2header::opj_t2_read_packet_header` meets its contract.
+-- `t2decheader::opj_t2_read_packet_header` meets its contract.
 use mathlib.Core.Path.{_≡_, refl, sym, ap, _∙_, subst}
 use mathlib.Core.Bool.{Bool, true, false, not}
 use mathlib.Core.List.{List}
@@ -16,12 +16,12 @@ use Rattle.tcdstate.proofs.Laws.RangeParts.{first-bands}
 use Rattle.tcdstate.proofs.Laws.ValidStates.{valid-state}
 use Rattle.t2dec.specs.declared.Run.{Run}
 use Rattle.t2dec.specs.Reading.{reading, nextBlocks}
-use Rattle.t2header.specs.Bands.{BandsFit}
-use Rattle.t2header.proofs.Laws.ReadBands.{bands-fit}
-use Rattle.t2header.proofs.Laws.HeaderEnd.{bands-inside, thirteen-words, bits-in, header-refused, header-done, header-cut}
+use Rattle.t2decheader.specs.Bands.{BandsFit}
+use Rattle.t2decheader.proofs.Laws.ReadBands.{bands-fit}
+use Rattle.t2decheader.proofs.Laws.HeaderEnd.{bands-inside, thirteen-words, bits-in, header-refused, header-done, header-cut}
 use borrow.Author.Needs.{needs}
-use Rattle.t2header.proofs.opj_t2_read_packet_header.Statement.{statement}
-use Rattle.t2header.proofs.opj_t2_read_packet_header.Tie as tie
+use Rattle.t2decheader.proofs.opj_t2_read_packet_header.Statement.{statement}
+use Rattle.t2decheader.proofs.opj_t2_read_packet_header.Tie as tie
 
 abbrev startAt : Bio → Run
 startAt b = record { bio = b; count = 0; refusal = 0 }

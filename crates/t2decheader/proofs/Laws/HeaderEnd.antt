@@ -22,8 +22,8 @@ use Rattle.t2dec.specs.declared.Run.{Run}
 use Rattle.t2dec.specs.Reading.{Reading, reading, stopped, nextBlocks, heldBy, BitsIn, Follows}
 use Rattle.t2dec.proofs.Laws.Kept.{blocks-keep}
 use Rattle.t2dec.proofs.Laws.Follows.{Ends, blocks-end}
-use Rattle.t2header.specs.Header.{ReadsHeader}
-use Rattle.t2header.proofs.Laws.BandBlocks.{bands-before, bands-apart}
+use Rattle.t2decheader.specs.Header.{ReadsHeader}
+use Rattle.t2decheader.proofs.Laws.BandBlocks.{bands-before, bands-apart}
 
 -- a state that refusal 5 lets pass is as long as its bands ask for
 module _ (ws : List ℕ) (n : ℕ) (valid : ValidState reader ws n) where

@@ -1,4 +1,4 @@
--- `t2header::read_band` meets its contract.
+-- `t2decheader::read_band` meets its contract.
 use mathlib.Core.Path.{_≡_, refl, sym, ap, _∙_, subst}
 use mathlib.Core.List.{List}
 use Prim.Native.Nat.{ℕ, _+_, _-_, _*_, _^_, _<_, _≤_}
@@ -16,10 +16,10 @@ use Rattle.t2enc.specs.Bands.{rowPlace, bandBlocks, BandIn}
 use Rattle.t2enc.proofs.Laws.BandRows.{small, row-ends, row-counts, row-in, at-row, all-left, none-left}
 use Rattle.t2dec.specs.Reading.{reading, nextBlocks, blocksOfRow, BlocksFit}
 use Rattle.t2dec.proofs.Laws.Kept.{Keeps}
-use Rattle.t2header.proofs.Laws.ReadRows.{row-number, row-fits, rows-then, rows-refused, rows-keep}
+use Rattle.t2decheader.proofs.Laws.ReadRows.{row-number, row-fits, rows-then, rows-refused, rows-keep}
 use borrow.Author.Needs.{needs}
-use Rattle.t2header.proofs.read_band.Statement.{statement}
-use Rattle.t2header.proofs.read_band.Tie as tie
+use Rattle.t2decheader.proofs.read_band.Statement.{statement}
+use Rattle.t2decheader.proofs.read_band.Tie as tie
 
 abbrev Inv-loop : tie.InvT-loop
 Inv-loop words₀ reports₀ records₀ src band tree start layer block g run₀ y₀ words reports records run y =

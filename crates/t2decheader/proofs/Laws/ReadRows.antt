@@ -19,8 +19,8 @@ use Rattle.t2enc.proofs.Laws.BandRows.{count-from, has-levels, row-counts, path
 use Rattle.t2dec.specs.Reading.{Reading, nextBlocks, blockIn, blocksOfRow, BlockFits, BlocksFit}
 use Rattle.t2dec.proofs.Laws.Kept.{Keeps, blocks-keep}
 use Rattle.t2dec.proofs.Laws.Rows.{block-fits, keeps-later, blocks-then, blocks-refused}
-use Rattle.t2header.specs.Bands.{BandFits}
-use Rattle.t2header.proofs.Laws.BandBlocks.{from-before}
+use Rattle.t2decheader.specs.Bands.{BandFits}
+use Rattle.t2decheader.proofs.Laws.BandBlocks.{from-before}
 
 module _ (size start : ℕ) (b : Band) (h : BandIn size start b) (y : ℕ) (l : y < b .down) where
   abbrev place : Place

@@ -17,8 +17,8 @@ use Rattle.t2enc.proofs.Laws.BandRows.{count-from}
 use Rattle.t2dec.specs.Reading.{Reading, nextBlocks}
 use Rattle.t2dec.proofs.Laws.Kept.{Keeps, blocks-keep}
 use Rattle.t2dec.proofs.Laws.Rows.{block-fits, keeps-later, blocks-then, blocks-refused}
-use Rattle.t2header.specs.Bands.{BandFits, BandsFit}
-use Rattle.t2header.proofs.Laws.BandBlocks.{from-before}
+use Rattle.t2decheader.specs.Bands.{BandFits, BandsFit}
+use Rattle.t2decheader.proofs.Laws.BandBlocks.{from-before}
 
 -- ---- what refusal 5 establishes
 

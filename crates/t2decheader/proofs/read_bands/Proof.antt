@@ -1,4 +1,4 @@
--- `t2header::read_bands` meets its contract.
+-- `t2decheader::read_bands` meets its contract.
 use mathlib.Core.Path.{_≡_, refl, sym, ap, _∙_, subst}
 use mathlib.Core.List.{List, []}
 use Prim.Native.Nat.{ℕ, _+_, _-_, _*_, _≤_}
@@ -12,11 +12,11 @@ use Rattle.tcd.specs.Geometry.{noBand}
 use Rattle.tcd.proofs.Laws.Bands.{next-band, no-more-bands, sides-of-first, blocks-up-to-4096, band-levels-at, end-turn}
 use Rattle.t2dec.specs.Reading.{reading, nextBlocks}
 use Rattle.t2dec.proofs.Laws.Kept.{Keeps}
-use Rattle.t2header.specs.Bands.{BandsFit}
-use Rattle.t2header.proofs.Laws.ReadBands.{band-still-fits, bands-then, bands-refused, bands-keep}
+use Rattle.t2decheader.specs.Bands.{BandsFit}
+use Rattle.t2decheader.proofs.Laws.ReadBands.{band-still-fits, bands-then, bands-refused, bands-keep}
 use borrow.Author.Needs.{needs}
-use Rattle.t2header.proofs.read_bands.Statement.{statement}
-use Rattle.t2header.proofs.read_bands.Tie as tie
+use Rattle.t2decheader.proofs.read_bands.Statement.{statement}
+use Rattle.t2decheader.proofs.read_bands.Tie as tie
 
 abbrev Inv-loop : tie.InvT-loop
 Inv-loop words₀ reports₀ records₀ src n layer bands trees run₀ start₀ block₀ i₀ words reports records run start block i =
