@@ -9,18 +9,20 @@ document 01 gives alone: the crate has no such refusal, and there the number sta
 them. With --model, a Python file with document 01's calls (start_writer, start_reader, measure, write, read), each call is run on it too and any
 difference ends this program.
 
-A list is a constant array of words in crates/vectors/src/NAME.rt, four bytes to a word, the first lowest. A number below 252 is one byte;
-else 252, 253, 254 or 255 and then 1, 2, 4 or 8 bytes, the highest first. A list is its calls, its answers, and then each call:
+A list is a constant array of words in crates/vectors/src/NAME.rt, four bytes to a word, the first lowest. A number below 251 is one byte;
+else 252, 253, 254 or 255 and then 1, 2, 4 or 8 bytes, the highest first. In a row of numbers 251, how often, and a number stand for that
+number so often. A list is its calls, its answers, and then each call:
 
-    0 load      n, words
-    1 start     role, band count, nine numbers of bands, style, words of the state, n, block planes; answer, check(state)
-    2 measure   words of scratch, SOP + 2 EPH, packet number, n, counts, n, lengths, n, marks (bytes); refusal, header, body, check(scratch)
+    0 load      n, row of words
+    1 start     role, band count, row of nine numbers of bands, style, words of the state, n, row of block planes; answer, check(state)
+    2 measure   words of scratch, SOP + 2 EPH, packet number, n, row of counts, n, row of lengths, n, marks (bytes); refusal, header, body, check(scratch)
     3 write     the same up to the marks, body bytes, output bytes; refusal, bytes, front n, body n, rest, front (bytes), check(state), check(scratch)
     4 read      words of scratch, SOP + 2 EPH, n, input (bytes), words of reports, words of records; refusal, present, taken, segments, SOP mark,
-                EPH mark, then of reports and of records: n, rest, n words; check(state), check(scratch)
+                EPH mark, then of reports and of records: n, rest, row of n words; check(state), check(scratch)
+    5 poke      place and word: the state's word there is set
 
-A list that is lent is filled before: state 7, scratch 5, output 165, reports 9, records 8; a body has (7 i + 3) mod 256 at i. The list `big` has
-a form of its own, in `Big`. check(xs) is h = length; for each x: h = (h * 65599 + x + 1) mod 4294967291.
+A list that is lent is filled before: state 7, scratch 5, output 165, reports 9, records 8; a body has (7 i + 3) mod 256 at i.
+check(xs) is h = length; for each x: h = (h * 65599 + x + 1) mod 4294967291.
 """
 import argparse
 import collections
@@ -32,7 +34,7 @@ import compare_definitions as generator
 from compare_definitions import AMPLE, Oracle, Run, Unexpected, hexed, spaced
 
 STATE, SCRATCH, OUTPUT, REPORTS, RECORDS = 7, 5, 165, 9, 8
-STATE_MOST, COUNTS_MOST, PASSES_MOST, BYTES_MOST, RECORDS_MOST = 1000, 64, 700, 4000, 4000
+STATE_MOST, COUNTS_MOST, PASSES_MOST, BYTES_MOST, RECORDS_MOST = 147463, 12288, 700, 4000, 49152
 HEADER_WORDS = 13
 
 
@@ -48,7 +50,7 @@ def body_of(n):
 
 
 def number(n):
-    if n < 252:
+    if n < 251:
         return [n]
     for first, size in ((252, 1), (253, 2), (254, 4), (255, 8)):
         if n < 1 << 8 * size:
@@ -60,8 +62,22 @@ def numbers(xs):
     return [b for x in xs for b in number(x)]
 
 
+def row(xs):
+    """Numbers, those that come often behind one another once."""
+    out, at = [], 0
+    while at < len(xs):
+        times = 1
+        while at + times < len(xs) and xs[at + times] == xs[at]:
+            times += 1
+        once = number(xs[at])
+        often = [251] + number(times) + once
+        out += often if len(often) < times * len(once) else times * once
+        at += times
+    return out
+
+
 def counted(xs):
-    return number(len(xs)) + numbers(xs)
+    return number(len(xs)) + row(xs)
 
 
 def three(bands):
@@ -92,6 +108,10 @@ class Calls:
         self.state = list(words)
         self.add([0] + counted(words), None)
 
+    def poke(self, at, value):
+        self.state = self.state[:at] + [value] + self.state[at + 1:]
+        self.add([5] + numbers([at, value]), None)
+
     def start(self, role, count, bands, style, planes, size, answer, words=None, from_crate=True):
         bands = three(bands)
         after = [STATE] * size if answer else list(words)
@@ -100,7 +120,7 @@ class Calls:
             lent = [STATE] * size
             code = (self.model.start_writer if role == 1 else self.model.start_reader)(count, bands, style, planes, lent)
             same((code, lent), (answer, after), "start")
-        self.add([1] + numbers([role, count] + [x for b in bands for x in b] + [style, size]) + counted(planes) + numbers([answer, check(after)]), from_crate)
+        self.add([1] + numbers([role, count]) + row([x for b in bands for x in b]) + numbers([style, size]) + counted(planes) + numbers([answer, check(after)]), from_crate)
         self.state = after
 
     def lists(self, scratch, sop, eph, packet, counts, lengths, marks):
@@ -151,7 +171,7 @@ class Calls:
             answer = self.model.read(state, lent, sop, eph, data, *lists)
             same((list(answer), state, lent, [[x for r in rs for x in r] for rs in lists]), (list(told), after, left, want), "read")
         self.add([4] + numbers([scratch, sop + 2 * eph, len(data)]) + list(data) + numbers([reports, records] + list(told))
-                 + [b for x, rest in zip(rows, rests) for b in numbers([len(x), rest] + x)] + numbers([check(after), check(left)]), from_crate)
+                 + [b for x, rest in zip(rows, rests) for b in numbers([len(x), rest]) + row(x)] + numbers([check(after), check(left)]), from_crate)
         self.state = after
 
     def bytes(self):
@@ -213,7 +233,7 @@ def fits(run, side):
             return False
         if len(c.get("after", c.get("words"))) > 200:
             return False
-    return run.blocks <= COUNTS_MOST
+    return True
 
 
 def marker_run(rng, run):
@@ -441,9 +461,11 @@ def refusal_list(model, oracle):
         bad = [(0, 3 - role), (0, 0), (1, 0), (1, 4), (2, 64), (3, 1000), (4, 65), (5, 65), (6, 999), (7, 1), (9, 1), (12, 1),
                (first, 1000), (first + 1, 1000), (first + 2, 2), (block - 3, 1000), (block - 2, 1000), (block - 1, 2),
                (block, 165), (block, 0), (block + 1, 2), (block + 1, 33), (block + 1, 0), (block + 2, 5), (block + 3, 11), (block + 5, 3), (block + 6, 1), (block + 7, 1)]
+        calls.load(words)
         for at, value in bad:
-            calls.load(words[:at] + [value] + words[at + 1:])
+            calls.poke(at, value)
             refused(calls, role, 5)
+            calls.poke(at, words[at])
         for size in (len(words) - 1, len(words) + 1, HEADER_WORDS, HEADER_WORDS - 1, 0):
             calls.load((words + [0])[:size])
             refused(calls, role, 5)
@@ -513,95 +535,41 @@ def started(role, bands, style):
 
 # ---- big geometries
 
-BIG_STATE, BIG_BLOCKS, BIG_PASSES, BIG_BODY, BIG_OUTPUT = 147463, 12288, 40000, 600000, 700000
+def big_case(calls, oracles, seed, bands, style, most):
+    """Layers with some blocks of a big precinct each, written, and read from what was written."""
+    rng = random.Random("big/%d/%s" % (seed, bands))
+    writer, reader = Asked(calls, oracles[0]), Asked(calls, oracles[1])
+    blocks, passes, fronts = blocks_of(bands), None, []
+    # a few values side by side keep the list short
+    planes = []
+    for w, h, p in bands:
+        while len(planes) < sum(a * b for a, b, _ in bands[:1 + bands.index((w, h, p))]):
+            planes += [max(0, p - rng.randrange(4))] * rng.randrange(w, 4 * w + 1)
+        planes = planes[:sum(a * b for a, b, _ in bands[:1 + bands.index((w, h, p))])]
+    passes = [0] * blocks
+    writer.start(1, bands, style, planes)
+    for _ in range(2):
+        counts = [0] * blocks
+        for at in [rng.randrange(blocks) for _ in range(most)] + [0, blocks - 1]:
+            counts[at] = rng.choice([1, 1, 2, 3, 7])
+        marks = generator.some_marks(rng, style, passes, counts, "matching")
+        lengths = [rng.randrange(40) for _ in marks]
+        passes = [p + c for p, c in zip(passes, counts)]
+        sop, eph = rng.randrange(2), rng.randrange(2)
+        fronts.append((sop, eph, writer.write(counts, lengths, marks, sop=sop, eph=eph, packet=rng.randrange(1 << 17))))
+    reader.start(2, bands, style, [])
+    for sop, eph, front in fronts:
+        reader.read(front, sop, eph)
 
 
-class Draws:
-    """The numbers that the program draws too."""
-
-    def __init__(self, seed):
-        self.seed = seed
-
-    def draw(self):
-        self.seed = (self.seed * 1664525 + 1013904223) % (1 << 32)
-        return self.seed >> 16
-
-    def planes(self, n, most, spread):
-        return [max(0, most - self.draw() % spread) for _ in range(n)]
-
-    def counts(self, n, sparse):
-        out = []
-        for _ in range(n):
-            k = self.draw()
-            out.append(1 + k // 256 % 3 if k % sparse == 0 else 0)
-        return out
-
-    def lengths(self, n):
-        return [self.draw() % 32 for _ in range(n)]
-
-
-class Big:
-    """Cases, answers, and then each case: band count, nine numbers of bands, style, words of the state, blocks, the planes of all bands, their
-    spread, a seed, the mark of every pass, layers; of the writer's and of the reader's start: answer, check(state); then each layer: SOP + 2 EPH,
-    packet number, one of how many blocks comes; of the write: refusal, bytes, check(output), check(state), check(scratch); of the read of
-    those bytes: the six numbers, check(reports), check(records), check(state), check(scratch)."""
-
-    def __init__(self, oracles):
-        self.writer, self.reader = oracles[:2]
-        self.data, self.cases, self.answers = [], 0, 0
-
-    def case(self, bands, style, planes, spread, seed, mark, layers):
-        draws = Draws(seed)
-        blocks = blocks_of(bands)
-        given = draws.planes(blocks, planes, spread)
-        shape = "%d %s %d" % (len(bands), spaced(spaced(b) for b in bands), style)
-        self.writer.ask("start writer 0 %s %s" % (shape, spaced(given)))
-        self.reader.ask("start reader 0 %s" % shape)
-        states = [self.writer.words(), self.reader.words()]
-        assert len(states[0]) <= BIG_STATE and blocks <= BIG_BLOCKS
-        self.cases += 1
-        self.answers += 2
-        self.data += numbers([len(bands)] + [x for b in three(bands) for x in b] + [style, len(states[0]), blocks, planes, spread, seed, mark, len(layers)])
-        self.data += numbers([0, check(states[0]), 0, check(states[1])])
-        for sop, eph, packet, sparse in layers:
-            counts = draws.counts(blocks, sparse)
-            lengths = draws.lengths(sum(counts))
-            assert len(lengths) <= BIG_PASSES and sum(lengths) <= BIG_BODY
-            wrote = self.writer.ask("write %d %d %d %d / %s / %s / %s / *" % (
-                sop, eph, packet, BIG_OUTPUT, spaced(counts), spaced(lengths), spaced([mark] * len(lengths)))).split()
-            front = list(bytes.fromhex(wrote[2]))
-            packet_bytes = front + body_of(sum(lengths))
-            assert wrote[0] == "ok" and wrote[3] == "body=" and int(wrote[1]) == len(packet_bytes)
-            output = packet_bytes + [OUTPUT] * (BIG_OUTPUT - len(packet_bytes))
-            state = check(self.writer.words())
-            told = self.reader.ask("read %d %d %s" % (sop, eph, hexed(packet_bytes)))
-            assert told.startswith("ok ")
-            first, reports, records = [[int(x) for x in part.split()] for part in told[3:].split("/")]
-            assert first[1] == len(front)
-            left = records + [RECORDS] * (4 * BIG_PASSES - len(records))
-            after = check(self.reader.words())
-            self.data += numbers([sop + 2 * eph, packet, sparse, 0, len(packet_bytes), check(output), state, state])
-            self.data += numbers([0] + first + [check(reports), check(left), after, after])
-            self.answers += 2
-
-    def bytes(self):
-        return numbers([self.cases, self.answers]) + self.data
-
-
-def big_list(oracles):
-    big = Big(oracles)
-    plain, both = (0, 0, 0, 2), (1, 1, 65537, 3)
-    big.case([(64, 64, 9)], 0, 9, 4, 11, 0, [plain, both, (0, 1, 3, 1)])
-    big.case([(64, 64, 8)], 4, 8, 3, 12, 1, [(1, 0, 1, 5), (0, 0, 2, 2)])
-    big.case([(64, 64, 8), (64, 64, 8), (64, 64, 8)], 1, 8, 3, 13, 0, [(0, 0, 0, 3), both, (1, 0, 4, 2)])
-    big.case([(64, 1, 12), (1, 64, 12), (33, 63, 12)], 0, 12, 9, 14, 0, [plain, both, plain])
-    big.case([(63, 64, 7), (64, 63, 7)], 0x2a, 7, 2, 15, 0, [both, plain])
-    big.case([(32, 32, 20), (31, 33, 20), (17, 16, 20)], 0, 20, 20, 16, 0, [(0, 0, 9, 7), (0, 1, 9, 7), (1, 0, 9, 7), (1, 1, 9, 7)])
-    big.case([(5, 64, 998), (64, 3, 998), (0, 64, 998)], 4, 998, 30, 17, 1, [(0, 1, 9, 4), (1, 1, 9, 1)])
-    big.case([(48, 48, 0), (64, 64, 0)], 0, 0, 1, 18, 0, [(0, 0, 1, 60), (0, 0, 2, 9), (1, 1, 3, 1)])
-    big.case([(9, 9, 6), (10, 10, 6), (64, 64, 6)], 5, 6, 5, 19, 1, [plain, plain])
-    big.case([(2, 64, 6), (64, 2, 6), (64, 64, 6)], 0, 6, 1, 20, 0, [(0, 0, 0, 1), (0, 0, 0, 1), (1, 1, 70000, 1)])
-    return big
+def big_list(model, oracles, seed):
+    calls = Calls("big", "The crate's answers on big geometries, up to three bands of 64 × 64", model)
+    for bands, style, most in (
+            ([(64, 64, 9)], 0, 8), ([(64, 64, 8)], 4, 5), ([(64, 64, 7), (64, 64, 8), (64, 64, 9)], 1, 8), ([(64, 1, 12), (1, 64, 12), (33, 63, 10)], 0, 6),
+            ([(63, 64, 7), (64, 63, 6)], 0x2a, 5), ([(32, 32, 20), (31, 33, 21), (17, 16, 22)], 5, 4), ([(5, 64, 998), (64, 3, 998), (0, 64, 1)], 4, 4),
+            ([(64, 64, 0), (2, 1, 3)], 0, 5), ([(9, 9, 6), (10, 10, 7)], 1, 6)):
+        big_case(calls, oracles, seed, bands, style, most)
+    return calls
 
 
 # ---- the lists
@@ -611,36 +579,35 @@ def main():
     parser.add_argument("oracle")
     parser.add_argument("--seed", type=int, default=6)
     parser.add_argument("--model")
+    parser.add_argument("--out", help="another folder for the lists")
     args = parser.parse_args()
     model = None
     if args.model:
         spec = importlib.util.spec_from_file_location("model", args.model)
         model = importlib.util.module_from_spec(spec)
         spec.loader.exec_module(model)
-    folder = os.path.join(os.path.dirname(os.path.abspath(__file__)), "..", "crates", "vectors", "src")
+    folder = args.out or os.path.join(os.path.dirname(os.path.abspath(__file__)), "..", "crates", "vectors", "src")
     oracles = [Oracle(args.oracle) for _ in range(3)]
 
     crate = "The crate's answers to random runs: "
     lists = [hand_list(model, oracles[0]), published_list(model, oracles[0])]
     for name, text, kinds, side, answers in (
-            ("writes", "packets written", [generator.writer_run, generator.trip_run], "writer", 170),
-            ("loaded", "packets written from loaded states", [generator.loaded_writer_run], "writer", 80),
-            ("reads", "packets read as they were written", [generator.trip_run], "reader", 100),
-            ("damaged", "packets damaged, cut or made of other bytes", [generator.reader_run], "reader", 120),
-            ("markers", "packets with a marker missing, cut or where none is due", [marker_run], "reader", 80),
-            ("reloaded", "packets read from loaded states", [generator.loaded_reader_run], "reader", 80)):
-        lists.append(put_random(Calls(name, crate + text, model), oracles, args.seed, kinds, side, answers, 75))
+            ("writes", "packets written", [generator.writer_run, generator.trip_run], "writer", 110),
+            ("loaded", "packets written from loaded states", [generator.loaded_writer_run], "writer", 60),
+            ("reads", "packets read as they were written", [generator.trip_run], "reader", 70),
+            ("damaged", "packets damaged, cut or made of other bytes", [generator.reader_run], "reader", 90),
+            ("markers", "packets with a marker missing, cut or where none is due", [marker_run], "reader", 60),
+            ("reloaded", "packets read from loaded states", [generator.loaded_reader_run], "reader", 60)):
+        lists.append(put_random(Calls(name, crate + text, model), oracles, args.seed, kinds, side, answers, 60))
+    lists.append(big_list(model, oracles, args.seed))
     lists.append(refusal_list(model, oracles[0]))
     for calls in lists:
         calls.write_file(folder, args.seed if calls.name not in ("hand", "published", "refusals") else None)
-    big = big_list(oracles)
-    write_list(folder, "big", big.bytes(), "The crate's answers on big geometries, up to 64 × 64", None)
     for o in oracles:
         o.close()
     for calls in lists:
         print("  %-10s %4d answers, %4d of them the crate's" % (calls.name, calls.answers, calls.crate))
-    print("  big        %4d answers, all the crate's" % big.answers)
-    print("the crate's answers: %d" % (sum(c.crate for c in lists) + big.answers))
+    print("the crate's answers: %d" % sum(c.crate for c in lists))
 
 
 if __name__ == "__main__":

@@ -1,7 +1,10 @@
 // Runs fixed lists of packet calls and compares every answer; tools/make_vectors.py made the lists (seed in the head of each) from the answers of crate openjp2 0.6.1's own code.
+ghost use mathlib.Core.Path.{_≡_};
 ghost use Prim.Native.Nat.{_≤_};
+ghost use lib.ListN.{length};
 ghost use Rattle.io.specs.Counts.{Counts};
 
+mod big;
 mod damaged;
 mod hand;
 mod loaded;
@@ -12,6 +15,7 @@ mod refusals;
 mod reloaded;
 mod writes;
 
+use big::BIG;
 use damaged::DAMAGED;
 use hand::HAND;
 use loaded::LOADED;
@@ -118,17 +122,65 @@ fn to_byte(n: u64) -> u8 {
     if n <= 255 { n as u8 } else { 0 }
 }
 
-// The place behind the numbers taken.
+// A number of a row, how often it comes again, and the place behind it.
+struct Repeated {
+    value: u64,
+    left: u64,
+    next: usize,
+}
+
+fn begin(at: usize) -> Repeated {
+    Repeated {
+        value: 0,
+        left: 0,
+        next: at,
+    }
+}
+
+fn one_less(n: u64) -> u64 {
+    if 0 < n { n - 1 } else { 0 }
+}
+
+// A byte 251 says that how often and what follow.
+fn take(list: &[u32], at: usize) -> Repeated {
+    if wide(byte(list, at)) == 251 {
+        let times = number(list, skip(at, 1));
+        let n = number(list, times.next);
+        return Repeated {
+            value: n.value,
+            left: one_less(times.value),
+            next: n.next,
+        };
+    }
+    let n = number(list, at);
+    Repeated {
+        value: n.value,
+        left: 0,
+        next: n.next,
+    }
+}
+
+fn turn(list: &[u32], r: Repeated) -> Repeated {
+    if 0 < r.left {
+        return Repeated {
+            value: r.value,
+            left: r.left - 1,
+            next: r.next,
+        };
+    }
+    take(list, r.next)
+}
+
+// The place behind the row.
 fn fill(list: &[u32], at: usize, to: &mut [u32]) -> usize {
-    let mut next = at;
+    let mut r = begin(at);
     let mut i: usize = 0;
     while i < to.len() {
-        let n = number(list, next);
-        to[i] = to_word(n.value);
-        next = n.next;
+        r = turn(list, r);
+        to[i] = to_word(r.value);
         i += 1;
     }
-    next
+    r.next
 }
 
 fn fill_bytes(list: &[u32], at: usize, to: &mut [u8]) -> usize {
@@ -212,10 +264,6 @@ fn step(sum: u64, x: u32) -> u64 {
     (sum % 4294967291 * 65599 + x as u64 + 1) % 4294967291
 }
 
-fn byte_step(sum: u64, x: u8) -> u64 {
-    step(sum, x as u32)
-}
-
 // Of the length and every word.
 fn checksum(words: &[u32]) -> u64 {
     let mut sum = words.len() as u64;
@@ -227,44 +275,43 @@ fn checksum(words: &[u32]) -> u64 {
     sum
 }
 
-fn checksum_bytes(bytes: &[u8]) -> u64 {
-    let mut sum = bytes.len() as u64;
-    let mut i: usize = 0;
-    while i < bytes.len() {
-        sum = byte_step(sum, bytes[i]);
-        i += 1;
-    }
-    sum
-}
-
 fn expect_checksum(list: &[u32], so_far: Compared, words: &[u32]) -> Compared {
     expect(list, so_far, checksum(words))
 }
 
-// So many listed words, and from there on one word over and over.
+// So many words of a row, and from there on one word over and over.
+fn expect_row(list: &[u32], at: usize, listed: usize, rest: u64, words: &[u32]) -> Compared {
+    let mut r = begin(at);
+    let mut good = true;
+    let mut i: usize = 0;
+    while i < words.len() {
+        r = wanted_word(list, r, i, listed, rest);
+        good = both(good, r.value == wide_word(words[i]));
+        i += 1;
+    }
+    Compared { next: r.next, good }
+}
+
 fn expect_words(list: &[u32], so_far: Compared, words: &[u32]) -> Compared {
     let n = number(list, so_far.next);
     let rest = number(list, n.next);
     let listed = to_size(n.value);
-    let mut next = rest.next;
-    let mut good = both(so_far.good, listed <= words.len());
-    let mut i: usize = 0;
-    while i < words.len() {
-        let w = wanted_word(list, next, i, listed, rest.value);
-        next = w.next;
-        good = both(good, w.value == wide_word(words[i]));
-        i += 1;
+    let c = expect_row(list, rest.next, listed, rest.value, words);
+    let fits = both(so_far.good, listed <= words.len());
+    Compared {
+        next: c.next,
+        good: both(fits, c.good),
     }
-    Compared { next, good }
 }
 
-fn wanted_word(list: &[u32], at: usize, i: usize, listed: usize, rest: u64) -> Taken {
+fn wanted_word(list: &[u32], r: Repeated, i: usize, listed: usize, rest: u64) -> Repeated {
     if i < listed {
-        return number(list, at);
+        return turn(list, r);
     }
-    Taken {
+    Repeated {
         value: rest,
-        next: at,
+        left: 0,
+        next: r.next,
     }
 }
 
@@ -301,16 +348,42 @@ fn expect_output(list: &[u32], so_far: Compared, output: &[u8]) -> Compared {
 
 // ---- calls
 
-// Room for the lists of one call.
-const STATE_MOST: usize = 1000;
+// Room for the lists of one call. The contracts give the lengths alone, which lending asks.
+fn state_room(value: u32) -> [u32; 147463]
+    ensures { λ r. ⌜ 147463 ≡ length r ⌝ }
+{
+    [value; 147463]
+}
 
-const COUNTS_MOST: usize = 64;
+fn reports_room(value: u32) -> [u32; 49152]
+    ensures { λ r. ⌜ 49152 ≡ length r ⌝ }
+{
+    [value; 49152]
+}
 
-const PASSES_MOST: usize = 700;
+fn blocks_room() -> [u32; 12288]
+    ensures { λ r. ⌜ 12288 ≡ length r ⌝ }
+{
+    [0; 12288]
+}
 
-const BYTES_MOST: usize = 4000;
+fn passes_room() -> [u32; 700]
+    ensures { λ r. ⌜ 700 ≡ length r ⌝ }
+{
+    [0; 700]
+}
 
-const RECORDS_MOST: usize = 4000;
+fn marks_room() -> [u8; 700]
+    ensures { λ r. ⌜ 700 ≡ length r ⌝ }
+{
+    [0; 700]
+}
+
+fn bytes_room(value: u8) -> [u8; 4000]
+    ensures { λ r. ⌜ 4000 ≡ length r ⌝ }
+{
+    [value; 4000]
+}
 
 // What fills a list before it is lent.
 const SCRATCH: u32 = 5;
@@ -331,6 +404,8 @@ const START: u64 = 1;
 const MEASURE: u64 = 2;
 
 const READ: u64 = 4;
+
+const POKE: u64 = 5;
 
 fn so_far(at: usize) -> Compared {
     Compared {
@@ -409,7 +484,7 @@ fn start_in(
 ) -> Compared {
     set_all(state, STATE);
     let n = number(list, at);
-    let mut planes = [0u32; COUNTS_MOST];
+    let mut planes = blocks_room();
     let size = fit(n.value, &planes);
     start_with(
         list,
@@ -487,7 +562,7 @@ fn written_of(
 ) -> Compared {
     fill_body(body);
     let n = number(list, at);
-    let mut output = [OUTPUT; BYTES_MOST];
+    let mut output = bytes_room(OUTPUT);
     let size = fit_bytes(n.value, &output);
     written_to(
         list,
@@ -516,7 +591,7 @@ fn written(
     scratch: &mut [u32],
 ) -> Compared {
     let n = number(list, at);
-    let mut body = [0u8; BYTES_MOST];
+    let mut body = bytes_room(0);
     let size = fit_bytes(n.value, &body);
     written_of(
         list,
@@ -574,7 +649,7 @@ fn with_lengths(
 ) -> Compared {
     let next = fill(list, at, lengths);
     let n = number(list, next);
-    let mut marks = [0u8; PASSES_MOST];
+    let mut marks = marks_room();
     let size = fit_bytes(n.value, &marks);
     with_marks(
         list,
@@ -602,7 +677,7 @@ fn with_counts(
 ) -> Compared {
     let next = fill(list, at, counts);
     let n = number(list, next);
-    let mut lengths = [0u32; PASSES_MOST];
+    let mut lengths = passes_room();
     let size = fit(n.value, &lengths);
     with_lengths(
         list,
@@ -627,7 +702,7 @@ fn contribute(
     let m = number(list, at);
     let packet = number(list, m.next);
     let n = number(list, packet.next);
-    let mut counts = [0u32; COUNTS_MOST];
+    let mut counts = blocks_room();
     let size = fit(n.value, &counts);
     with_counts(
         list,
@@ -680,7 +755,7 @@ fn with_reports(
     reports: &mut [u32],
 ) -> Compared {
     let n = number(list, at);
-    let mut records = [RECORDS; RECORDS_MOST];
+    let mut records = reports_room(RECORDS);
     let size = fit(n.value, &records);
     read_into(
         list,
@@ -704,7 +779,7 @@ fn with_input(
 ) -> Compared {
     let next = fill_bytes(list, at, input);
     let n = number(list, next);
-    let mut reports = [REPORTS; RECORDS_MOST];
+    let mut reports = reports_room(REPORTS);
     let size = fit(n.value, &reports);
     with_reports(
         list,
@@ -720,7 +795,7 @@ fn with_input(
 fn read_in(list: &[u32], at: usize, state: &mut [u32], scratch: &mut [u32]) -> Compared {
     let m = number(list, at);
     let n = number(list, m.next);
-    let mut input = [0u8; BYTES_MOST];
+    let mut input = bytes_room(0);
     let size = fit_bytes(n.value, &input);
     with_input(
         list,
@@ -749,7 +824,7 @@ fn packet_call(
 
 fn with_scratch(list: &[u32], at: usize, kind: u64, state: &mut [u32]) -> Compared {
     let n = number(list, at);
-    let mut scratch = [SCRATCH; STATE_MOST];
+    let mut scratch = state_room(SCRATCH);
     let size = fit(n.value, &scratch);
     packet_call(list, n.next, kind, state, &mut scratch[..size])
 }
@@ -784,6 +859,23 @@ fn load(list: &[u32], at: usize, state: &mut [u32]) -> Done {
     }
 }
 
+fn put(state: &mut [u32], i: usize, value: u32) {
+    if i < state.len() {
+        state[i] = value;
+    }
+}
+
+fn poke(list: &[u32], at: usize, words: usize, state: &mut [u32]) -> Done {
+    let i = number(list, at);
+    let value = number(list, i.next);
+    put(state, to_size(i.value), to_word(value.value));
+    Done {
+        next: value.next,
+        words,
+        good: 0,
+    }
+}
+
 fn start(list: &[u32], at: usize, state: &mut [u32]) -> Done {
     let role = number(list, at);
     let count = number(list, role.next);
@@ -812,6 +904,9 @@ fn call(list: &[u32], at: usize, words: usize, state: &mut [u32]) -> Done {
     if kind.value == START {
         return start(list, kind.next, state);
     }
+    if kind.value == POKE {
+        return poke(list, kind.next, words, state);
+    }
     let size = fit(words as u64, state);
     let c = with_scratch(list, kind.next, kind.value, &mut state[..size]);
     ended(c, size)
@@ -832,8 +927,7 @@ fn plus(sum: u64, n: u32) -> u64 {
 }
 
 // A list begins with its calls and its answers, and goes on with the calls.
-fn run(list: &[u32]) -> Score {
-    let mut state = [0u32; STATE_MOST];
+fn run_on(list: &[u32], state: &mut [u32]) -> Score {
     let calls = number(list, 0);
     let answers = number(list, calls.next);
     let mut next = answers.next;
@@ -842,7 +936,7 @@ fn run(list: &[u32]) -> Score {
     let mut left = calls.value;
     while 0 < left {
         left -= 1;
-        let d = call(list, next, words, &mut state);
+        let d = call(list, next, words, state);
         next = d.next;
         words = d.words;
         good = plus(good, d.good);
@@ -851,6 +945,11 @@ fn run(list: &[u32]) -> Score {
         good,
         of: answers.value,
     }
+}
+
+fn run(list: &[u32]) -> Score {
+    let mut state = state_room(0);
+    run_on(list, &mut state)
 }
 
 fn print(name: &[u8], s: Score) {
@@ -911,6 +1010,11 @@ fn reloaded_score() -> Score {
     run(&list)
 }
 
+fn big_score() -> Score {
+    let list = BIG;
+    run(&list)
+}
+
 fn refusals_score() -> Score {
     let list = REFUSALS;
     run(&list)
@@ -936,6 +1040,7 @@ fn main() {
     let damaged = group(b"damaged reads", reads, damaged_score());
     let markers = group(b"marker cases", damaged, markers_score());
     let reloaded = group(b"reads from loaded states", markers, reloaded_score());
-    let refusals = group(b"refusals by document 01 alone", reloaded, refusals_score());
+    let big = group(b"big geometries", reloaded, big_score());
+    let refusals = group(b"refusals by document 01 alone", big, refusals_score());
     print(b"all", refusals);
 }

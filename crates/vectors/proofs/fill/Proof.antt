@@ -7,16 +7,19 @@ use Rattle.vectors.proofs.fill.Statement.{statement}
 use Rattle.vectors.proofs.fill.Tie as tie
 
 abbrev Inv-loop : tie.InvT-loop
-Inv-loop list at to₀ next₀ i₀ to next i = length to ≡ length to₀
+Inv-loop list at to₀ r₀ i₀ to r i = length to ≡ length to₀
 
 abbrev μ-loop : tie.MeasureT-loop
-μ-loop list at to₀ next₀ i₀ to next i = length to₀ - i
+μ-loop list at to₀ r₀ i₀ to r i = length to₀ - i
+
+begin-requires : tie.Need-begin-requires Inv-loop μ-loop
+begin-requires c κs = search needs
 
 loop-holds : tie.Need-loop-holds Inv-loop μ-loop
 loop-holds c = refl
 
-number-requires : tie.Need-number-requires Inv-loop μ-loop
-number-requires c κs = search needs
+turn-requires : tie.Need-turn-requires Inv-loop μ-loop
+turn-requires c κs = search needs
 
 to-word-requires : tie.Need-to-word-requires Inv-loop μ-loop
 to-word-requires c κs = search needs
@@ -48,8 +51,9 @@ fill-spec =
     (tie.spec
     Inv-loop
     μ-loop
+    begin-requires
     loop-holds
-    number-requires
+    turn-requires
     to-word-requires
     mul-to
     slice-write-to

@@ -1,9 +1,9 @@
--- `vectors::run` is safe and ends.
+-- `vectors::run_on` is safe and ends.
 use lib.ListN.{length}
 use mathlib.Core.Path.{_≡_, refl}
 use borrow.Author.Needs.{needs}
-use Rattle.vectors.proofs.run.Statement.{statement}
-use Rattle.vectors.proofs.run.Tie as tie
+use Rattle.vectors.proofs.run_on.Statement.{statement}
+use Rattle.vectors.proofs.run_on.Tie as tie
 
 abbrev Inv-loop : tie.InvT-loop
 Inv-loop list state₀ answers next₀ words₀ good₀ left₀ state next words good left = length state ≡ length state₀
@@ -23,9 +23,6 @@ loop-holds c = refl
 sub-left : tie.Need-sub-left Inv-loop μ-loop
 sub-left c = search needs
 
-slice-aggregate-call : tie.Need-slice-aggregate-call Inv-loop μ-loop
-slice-aggregate-call c = search needs
-
 call-requires : tie.Need-call-requires Inv-loop μ-loop
 call-requires c κs = search needs
 
@@ -38,11 +35,14 @@ loop-less c = search needs
 loop-again : tie.Need-loop-again Inv-loop μ-loop
 loop-again c = search needs
 
+same-length : tie.Need-same-length Inv-loop μ-loop
+same-length c = search needs
+
 returns : tie.Need-returns Inv-loop μ-loop
 returns c = tt
 
-pub run-spec : {M : Type 1} → statement M
-run-spec =
+pub run-on-spec : {M : Type 1} → statement M
+run-on-spec =
     tie.close
     (tie.spec
     Inv-loop
@@ -51,9 +51,9 @@ run-spec =
     number-requires-2
     loop-holds
     sub-left
-    slice-aggregate-call
     call-requires
     plus-requires
     loop-less
     loop-again
+    same-length
     returns)
