@@ -27,6 +27,7 @@ use reloaded::RELOADED;
 use t800::Band;
 use t800::Markers;
 use t800::ReadAnswer;
+use t800::WriteAnswer;
 use writes::WRITES;
 
 // ---- a list: bytes, four to a word, the first lowest
@@ -517,6 +518,21 @@ fn measured(
     expect_checksum(list, c, scratch)
 }
 
+fn expect_written(
+    list: &[u32],
+    at: usize,
+    r: WriteAnswer,
+    state: &[u32],
+    scratch: &[u32],
+    output: &[u8],
+) -> Compared {
+    let a = expect(list, so_far(at), r.refusal as u64);
+    let b = expect(list, a, r.bytes);
+    let c = expect_output(list, b, output);
+    let d = expect_checksum(list, c, state);
+    expect_checksum(list, d, scratch)
+}
+
 fn written_to(
     list: &[u32],
     at: usize,
@@ -541,11 +557,7 @@ fn written_to(
         packet,
         output,
     );
-    let a = expect(list, so_far(at), r.refusal as u64);
-    let b = expect(list, a, r.bytes);
-    let c = expect_output(list, b, output);
-    let d = expect_checksum(list, c, state);
-    expect_checksum(list, d, scratch)
+    expect_written(list, at, r, state, scratch, output)
 }
 
 fn written_of(
@@ -727,6 +739,22 @@ fn expect_answer(list: &[u32], at: usize, r: ReadAnswer) -> Compared {
     expect(list, e, r.eph as u64)
 }
 
+fn expect_read(
+    list: &[u32],
+    at: usize,
+    r: ReadAnswer,
+    state: &[u32],
+    scratch: &[u32],
+    reports: &[u32],
+    records: &[u32],
+) -> Compared {
+    let a = expect_answer(list, at, r);
+    let b = expect_words(list, a, reports);
+    let c = expect_words(list, b, records);
+    let d = expect_checksum(list, c, state);
+    expect_checksum(list, d, scratch)
+}
+
 fn read_into(
     list: &[u32],
     at: usize,
@@ -738,11 +766,7 @@ fn read_into(
     records: &mut [u32],
 ) -> Compared {
     let r = t2::read(state, scratch, input, markers, reports, records);
-    let a = expect_answer(list, at, r);
-    let b = expect_words(list, a, reports);
-    let c = expect_words(list, b, records);
-    let d = expect_checksum(list, c, state);
-    expect_checksum(list, d, scratch)
+    expect_read(list, at, r, state, scratch, reports, records)
 }
 
 fn with_reports(
