@@ -1,4 +1,4 @@
-// Runs fixed lists of packet calls and compares every answer; tools/make_vectors.py made the lists (seed in the head of each) from the answers of crate openjp2 0.6.1's own code.
+// Runs fixed lists of packet calls and compares every answer: tools/make_vectors.py made the lists (seed in the head of each) from what crate openjp2 0.6.1's own code answered, and from document 01 alone for the refusals that the crate has not.
 ghost use mathlib.Core.Path.{_≡_};
 ghost use Prim.Native.Nat.{_≤_};
 ghost use lib.ListN.{length};
