@@ -110,6 +110,7 @@ class Run:
         self.blocks = sum(w * h for w, h, _ in bands)
         self.empty = rng.randrange(2)
         self.steps = []        # text of a step
+        self.calls = []        # the same calls for other tools: side, name, what was given and told
         self.log = []          # (steps so far, side, command, answer)
         self.passes = [0] * self.blocks
         self.layer = 0         # of the loaded state
@@ -130,13 +131,14 @@ class Run:
         geometry = spaced(spaced(b) for b in self.bands)
         planes = self.planes if side == "writer" else []
         self.tell(side, "start %s %d %d %s %d %s" % (side, self.empty, len(self.bands), geometry, self.style, spaced(planes)))
-        self.holds(side)
+        self.calls.append((side, "start", dict(after=self.holds(side))))
 
     def load(self, side, words):
         self.tell(side, "load %d %s" % (self.empty, spaced(words)))
         self.steps.append("loads-%s %s" % (side, nats(words)))
         self.layer = words[3]
         self.holds(side)
+        self.calls.append((side, "load", dict(words=words)))
 
     def holds(self, side):
         words = (self.writer if side == "writer" else self.reader).words()
@@ -188,7 +190,8 @@ class Run:
             self.tally["headers written that end in FF 00"] += front[-2 - 2 * eph:len(front) - 2 * eph] == [0xff, 0]
             self.passes = [p + c for p, c in zip(self.passes, counts)]
             self.counts.update(c for c in counts if c)
-        self.holds("writer")
+        self.calls.append(("writer", name, dict(
+            before=words, sop=sop, eph=eph, number=number, counts=counts, lengths=lengths, marks=marks, room=room, refusal=why, front=front, after=self.holds("writer"))))
         return front if why == 0 else None
 
     def cost_of(self, words, answer):
@@ -232,7 +235,8 @@ class Run:
             self.tally["reads with more zero planes than the band has"] += any(x > NOT_YET for x in reports)
             self.tally["reads with 999 zero planes"] += bool(told[1]) and any(x == NOT_YET for x in reports[1::4])
             self.tally["reads with a length of 2^31 or more"] += any(x >= 1 << 31 for x in records[3::4])
-        self.holds("reader")
+        self.calls.append(("reader", "reads", dict(
+            sop=sop, eph=eph, data=data, reports=4 * self.blocks, records=4 * lent, told=told, rows=(reports, records), after=self.holds("reader"))))
         return told[0]
 
     def row(self, steps=None):

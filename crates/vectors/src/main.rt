@@ -1,0 +1,1070 @@
+// Runs fixed lists of packet calls and compares every answer: tools/make_vectors.py made the lists (seed in the head of each) from what crate openjp2 0.6.1's own code answered, and from document 01 alone for the refusals that the crate has not.
+ghost use mathlib.Core.Path.{_≡_};
+ghost use Prim.Native.Nat.{_≤_};
+ghost use lib.ListN.{length};
+ghost use Rattle.io.specs.Counts.{Counts};
+
+mod big;
+mod damaged;
+mod hand;
+mod loaded;
+mod markers;
+mod published;
+mod reads;
+mod refusals;
+mod reloaded;
+mod writes;
+
+use big::BIG;
+use damaged::DAMAGED;
+use hand::HAND;
+use loaded::LOADED;
+use markers::MARKERS;
+use published::PUBLISHED;
+use reads::READS;
+use refusals::REFUSALS;
+use reloaded::RELOADED;
+use t800::Band;
+use t800::Markers;
+use t800::ReadAnswer;
+use t800::WriteAnswer;
+use writes::WRITES;
+
+// ---- a list: bytes, four to a word, the first lowest
+
+// A number of the list, and the place behind it.
+struct Taken {
+    value: u64,
+    next: usize,
+}
+
+// A place that never goes round.
+fn skip(at: usize, n: usize) -> usize {
+    if at < 0xffff_ffff {
+        if n < 0xffff_ffff {
+            return at + n;
+        }
+    }
+    at
+}
+
+// Nothing is found beyond the end but zeros.
+fn word(list: &[u32], i: usize) -> u32 {
+    if i < list.len() { list[i] } else { 0 }
+}
+
+fn byte(list: &[u32], at: usize) -> u8 {
+    let w = word(list, at / 4);
+    let k = at % 4;
+    if k == 0 {
+        return (w % 256) as u8;
+    }
+    if k == 1 {
+        return (w / 256 % 256) as u8;
+    }
+    if k == 2 {
+        return (w / 65536 % 256) as u8;
+    }
+    (w / 16777216) as u8
+}
+
+fn wide_word(w: u32) -> u64 {
+    w as u64
+}
+
+fn wide(b: u8) -> u64 {
+    b as u64
+}
+
+// So many bytes, the highest first.
+fn long_number(list: &[u32], at: usize, bytes: u32) -> Taken {
+    let mut value: u64 = 0;
+    let mut next = at;
+    let mut left = bytes;
+    while 0 < left {
+        left -= 1;
+        value = (value << 8) | wide(byte(list, next));
+        next = skip(next, 1);
+    }
+    Taken { value, next }
+}
+
+// A byte below 252 is the number itself; above, it says how many bytes the number takes.
+fn number(list: &[u32], at: usize) -> Taken {
+    let first = wide(byte(list, at));
+    let next = skip(at, 1);
+    if first < 252 {
+        return Taken { value: first, next };
+    }
+    if first == 252 {
+        return long_number(list, next, 1);
+    }
+    if first == 253 {
+        return long_number(list, next, 2);
+    }
+    if first == 254 {
+        return long_number(list, next, 4);
+    }
+    long_number(list, next, 8)
+}
+
+// The number as a word; none of a list's words is larger.
+fn to_word(n: u64) -> u32 {
+    if n <= 0xffff_ffff { n as u32 } else { 0 }
+}
+
+fn to_size(n: u64) -> usize
+    ensures { λ r. ⌜ r ≤ n ⌝ }
+{
+    if n <= 0xffff_ffff { n as usize } else { 0 }
+}
+
+fn to_byte(n: u64) -> u8 {
+    if n <= 255 { n as u8 } else { 0 }
+}
+
+// A number of a row, how often it comes again, and the place behind it.
+struct Repeated {
+    value: u64,
+    left: u64,
+    next: usize,
+}
+
+fn begin(at: usize) -> Repeated {
+    Repeated {
+        value: 0,
+        left: 0,
+        next: at,
+    }
+}
+
+fn one_less(n: u64) -> u64 {
+    if 0 < n { n - 1 } else { 0 }
+}
+
+// A byte 251 says that how often and what follow.
+fn take(list: &[u32], at: usize) -> Repeated {
+    if wide(byte(list, at)) == 251 {
+        let times = number(list, skip(at, 1));
+        let n = number(list, times.next);
+        return Repeated {
+            value: n.value,
+            left: one_less(times.value),
+            next: n.next,
+        };
+    }
+    let n = number(list, at);
+    Repeated {
+        value: n.value,
+        left: 0,
+        next: n.next,
+    }
+}
+
+fn turn(list: &[u32], r: Repeated) -> Repeated {
+    if 0 < r.left {
+        return Repeated {
+            value: r.value,
+            left: r.left - 1,
+            next: r.next,
+        };
+    }
+    take(list, r.next)
+}
+
+// The place behind the row.
+fn fill(list: &[u32], at: usize, to: &mut [u32]) -> usize {
+    let mut r = begin(at);
+    let mut i: usize = 0;
+    while i < to.len() {
+        r = turn(list, r);
+        to[i] = to_word(r.value);
+        i += 1;
+    }
+    r.next
+}
+
+fn fill_bytes(list: &[u32], at: usize, to: &mut [u8]) -> usize {
+    let mut next = at;
+    let mut i: usize = 0;
+    while i < to.len() {
+        to[i] = byte(list, next);
+        next = skip(next, 1);
+        i += 1;
+    }
+    next
+}
+
+// ---- what is lent
+
+fn least(n: u64, most: usize) -> usize
+    ensures { λ r. ⌜ r ≤ most ⌝ }
+{
+    if n < most as u64 {
+        return to_size(n);
+    }
+    most
+}
+
+// How much of the room a list of n takes: all that there is, if it is too small.
+fn fit(n: u64, room: &[u32]) -> usize
+    ensures { λ r. ⌜ Counts r (now (room .entry)) ⌝ }
+{
+    least(n, room.len())
+}
+
+fn fit_bytes(n: u64, room: &[u8]) -> usize
+    ensures { λ r. ⌜ Counts r (now (room .entry)) ⌝ }
+{
+    least(n, room.len())
+}
+
+fn set_all(to: &mut [u32], value: u32) {
+    let mut i: usize = 0;
+    while i < to.len() {
+        to[i] = value;
+        i += 1;
+    }
+}
+
+fn body_byte(i: usize) -> u8 {
+    let k = i % 256;
+    ((7 * k + 3) % 256) as u8
+}
+
+fn fill_body(to: &mut [u8]) {
+    let mut i: usize = 0;
+    while i < to.len() {
+        to[i] = body_byte(i);
+        i += 1;
+    }
+}
+
+// ---- comparing
+
+// The place in the list behind what was compared, and whether all was as listed.
+struct Compared {
+    next: usize,
+    good: bool,
+}
+
+fn both(a: bool, b: bool) -> bool {
+    if a { b } else { false }
+}
+
+fn expect(list: &[u32], so_far: Compared, value: u64) -> Compared {
+    let n = number(list, so_far.next);
+    let same = n.value == value;
+    Compared {
+        next: n.next,
+        good: both(so_far.good, same),
+    }
+}
+
+fn step(sum: u64, x: u32) -> u64 {
+    (sum % 4294967291 * 65599 + x as u64 + 1) % 4294967291
+}
+
+// Of the length and every word.
+fn checksum(words: &[u32]) -> u64 {
+    let mut sum = words.len() as u64;
+    let mut i: usize = 0;
+    while i < words.len() {
+        sum = step(sum, words[i]);
+        i += 1;
+    }
+    sum
+}
+
+fn expect_checksum(list: &[u32], so_far: Compared, words: &[u32]) -> Compared {
+    expect(list, so_far, checksum(words))
+}
+
+// So many words of a row, and from there on one word over and over.
+fn expect_row(list: &[u32], at: usize, listed: usize, rest: u64, words: &[u32]) -> Compared {
+    let mut r = begin(at);
+    let mut good = true;
+    let mut i: usize = 0;
+    while i < words.len() {
+        r = wanted_word(list, r, i, listed, rest);
+        good = both(good, r.value == wide_word(words[i]));
+        i += 1;
+    }
+    Compared { next: r.next, good }
+}
+
+fn expect_words(list: &[u32], so_far: Compared, words: &[u32]) -> Compared {
+    let n = number(list, so_far.next);
+    let rest = number(list, n.next);
+    let listed = to_size(n.value);
+    let c = expect_row(list, rest.next, listed, rest.value, words);
+    let fits = both(so_far.good, listed <= words.len());
+    Compared {
+        next: c.next,
+        good: both(fits, c.good),
+    }
+}
+
+fn wanted_word(list: &[u32], r: Repeated, i: usize, listed: usize, rest: u64) -> Repeated {
+    if i < listed {
+        return turn(list, r);
+    }
+    Repeated {
+        value: rest,
+        left: 0,
+        next: r.next,
+    }
+}
+
+fn wanted_byte(list: &[u32], at: usize, i: usize, front: usize, body: usize, rest: u64) -> u64 {
+    if i < front {
+        return wide(byte(list, skip(at, i)));
+    }
+    let k = i - front;
+    if k < body {
+        return wide(body_byte(k));
+    }
+    rest
+}
+
+// So many listed bytes, so many of a body, and from there on one byte over and over.
+fn expect_output(list: &[u32], so_far: Compared, output: &[u8]) -> Compared {
+    let f = number(list, so_far.next);
+    let b = number(list, f.next);
+    let rest = number(list, b.next);
+    let front = to_size(f.value);
+    let body = to_size(b.value);
+    let mut good = so_far.good;
+    let mut i: usize = 0;
+    while i < output.len() {
+        let w = wanted_byte(list, rest.next, i, front, body, rest.value);
+        good = both(good, w == wide(output[i]));
+        i += 1;
+    }
+    Compared {
+        next: skip(rest.next, front),
+        good: both(good, front <= output.len()),
+    }
+}
+
+// ---- calls
+
+// Room for the lists of one call. The contracts give the lengths alone, which lending asks.
+fn state_room(value: u32) -> [u32; 147463]
+    ensures { λ r. ⌜ 147463 ≡ length r ⌝ }
+{
+    [value; 147463]
+}
+
+fn reports_room(value: u32) -> [u32; 49152]
+    ensures { λ r. ⌜ 49152 ≡ length r ⌝ }
+{
+    [value; 49152]
+}
+
+fn blocks_room() -> [u32; 12288]
+    ensures { λ r. ⌜ 12288 ≡ length r ⌝ }
+{
+    [0; 12288]
+}
+
+fn passes_room() -> [u32; 700]
+    ensures { λ r. ⌜ 700 ≡ length r ⌝ }
+{
+    [0; 700]
+}
+
+fn marks_room() -> [u8; 700]
+    ensures { λ r. ⌜ 700 ≡ length r ⌝ }
+{
+    [0; 700]
+}
+
+fn bytes_room(value: u8) -> [u8; 4000]
+    ensures { λ r. ⌜ 4000 ≡ length r ⌝ }
+{
+    [value; 4000]
+}
+
+// What fills a list before it is lent.
+const SCRATCH: u32 = 5;
+
+const STATE: u32 = 7;
+
+const RECORDS: u32 = 8;
+
+const REPORTS: u32 = 9;
+
+const OUTPUT: u8 = 165;
+
+// What a call in the list is.
+const LOAD: u64 = 0;
+
+const START: u64 = 1;
+
+const MEASURE: u64 = 2;
+
+const READ: u64 = 4;
+
+const POKE: u64 = 5;
+
+fn so_far(at: usize) -> Compared {
+    Compared {
+        next: at,
+        good: true,
+    }
+}
+
+fn markers_of(n: u64) -> Markers {
+    Markers {
+        sop: n % 2 == 1,
+        eph: n / 2 % 2 == 1,
+    }
+}
+
+fn bands_of(g: [u32; 9]) -> [Band; 3] {
+    [
+        Band {
+            across: g[0],
+            down: g[1],
+            planes: g[2],
+        },
+        Band {
+            across: g[3],
+            down: g[4],
+            planes: g[5],
+        },
+        Band {
+            across: g[6],
+            down: g[7],
+            planes: g[8],
+        },
+    ]
+}
+
+// ---- start
+
+fn start_for(
+    role: u32,
+    count: u32,
+    bands: [Band; 3],
+    style: u8,
+    planes: &[u32],
+    state: &mut [u32],
+) -> u32 {
+    if role == 1 {
+        return t2::start_writer(count, bands, style, planes, state);
+    }
+    t2::start_reader(count, bands, style, planes, state)
+}
+
+fn start_with(
+    list: &[u32],
+    at: usize,
+    role: u32,
+    count: u32,
+    bands: [Band; 3],
+    style: u8,
+    planes: &mut [u32],
+    state: &mut [u32],
+) -> Compared {
+    let next = fill(list, at, planes);
+    let answer = start_for(role, count, bands, style, planes, state);
+    let a = expect(list, so_far(next), answer as u64);
+    expect_checksum(list, a, state)
+}
+
+fn start_in(
+    list: &[u32],
+    at: usize,
+    role: u32,
+    count: u32,
+    bands: [Band; 3],
+    style: u8,
+    state: &mut [u32],
+) -> Compared {
+    set_all(state, STATE);
+    let n = number(list, at);
+    let mut planes = blocks_room();
+    let size = fit(n.value, &planes);
+    start_with(
+        list,
+        n.next,
+        role,
+        count,
+        bands,
+        style,
+        &mut planes[..size],
+        state,
+    )
+}
+
+// ---- measure and write
+
+fn measured(
+    list: &[u32],
+    at: usize,
+    markers: Markers,
+    counts: &[u32],
+    lengths: &[u32],
+    marks: &[u8],
+    state: &[u32],
+    scratch: &mut [u32],
+) -> Compared {
+    let r = t2::measure(state, scratch, counts, lengths, marks, markers);
+    let a = expect(list, so_far(at), r.refusal as u64);
+    let b = expect(list, a, r.header);
+    let c = expect(list, b, r.body);
+    expect_checksum(list, c, scratch)
+}
+
+fn expect_written(
+    list: &[u32],
+    at: usize,
+    r: WriteAnswer,
+    state: &[u32],
+    scratch: &[u32],
+    output: &[u8],
+) -> Compared {
+    let a = expect(list, so_far(at), r.refusal as u64);
+    let b = expect(list, a, r.bytes);
+    let c = expect_output(list, b, output);
+    let d = expect_checksum(list, c, state);
+    expect_checksum(list, d, scratch)
+}
+
+fn written_to(
+    list: &[u32],
+    at: usize,
+    markers: Markers,
+    packet: u32,
+    counts: &[u32],
+    lengths: &[u32],
+    marks: &[u8],
+    body: &[u8],
+    state: &mut [u32],
+    scratch: &mut [u32],
+    output: &mut [u8],
+) -> Compared {
+    let r = t2::write(
+        state,
+        scratch,
+        counts,
+        lengths,
+        marks,
+        body,
+        markers,
+        packet,
+        output,
+    );
+    expect_written(list, at, r, state, scratch, output)
+}
+
+fn written_of(
+    list: &[u32],
+    at: usize,
+    markers: Markers,
+    packet: u32,
+    counts: &[u32],
+    lengths: &[u32],
+    marks: &[u8],
+    body: &mut [u8],
+    state: &mut [u32],
+    scratch: &mut [u32],
+) -> Compared {
+    fill_body(body);
+    let n = number(list, at);
+    let mut output = bytes_room(OUTPUT);
+    let size = fit_bytes(n.value, &output);
+    written_to(
+        list,
+        n.next,
+        markers,
+        packet,
+        counts,
+        lengths,
+        marks,
+        body,
+        state,
+        scratch,
+        &mut output[..size],
+    )
+}
+
+fn written(
+    list: &[u32],
+    at: usize,
+    markers: Markers,
+    packet: u32,
+    counts: &[u32],
+    lengths: &[u32],
+    marks: &[u8],
+    state: &mut [u32],
+    scratch: &mut [u32],
+) -> Compared {
+    let n = number(list, at);
+    let mut body = bytes_room(0);
+    let size = fit_bytes(n.value, &body);
+    written_of(
+        list,
+        n.next,
+        markers,
+        packet,
+        counts,
+        lengths,
+        marks,
+        &mut body[..size],
+        state,
+        scratch,
+    )
+}
+
+fn with_marks(
+    list: &[u32],
+    at: usize,
+    kind: u64,
+    markers: Markers,
+    packet: u32,
+    counts: &[u32],
+    lengths: &[u32],
+    marks: &mut [u8],
+    state: &mut [u32],
+    scratch: &mut [u32],
+) -> Compared {
+    let next = fill_bytes(list, at, marks);
+    if kind == MEASURE {
+        return measured(list, next, markers, counts, lengths, marks, state, scratch);
+    }
+    written(
+        list,
+        next,
+        markers,
+        packet,
+        counts,
+        lengths,
+        marks,
+        state,
+        scratch,
+    )
+}
+
+fn with_lengths(
+    list: &[u32],
+    at: usize,
+    kind: u64,
+    markers: Markers,
+    packet: u32,
+    counts: &[u32],
+    lengths: &mut [u32],
+    state: &mut [u32],
+    scratch: &mut [u32],
+) -> Compared {
+    let next = fill(list, at, lengths);
+    let n = number(list, next);
+    let mut marks = marks_room();
+    let size = fit_bytes(n.value, &marks);
+    with_marks(
+        list,
+        n.next,
+        kind,
+        markers,
+        packet,
+        counts,
+        lengths,
+        &mut marks[..size],
+        state,
+        scratch,
+    )
+}
+
+fn with_counts(
+    list: &[u32],
+    at: usize,
+    kind: u64,
+    markers: Markers,
+    packet: u32,
+    counts: &mut [u32],
+    state: &mut [u32],
+    scratch: &mut [u32],
+) -> Compared {
+    let next = fill(list, at, counts);
+    let n = number(list, next);
+    let mut lengths = passes_room();
+    let size = fit(n.value, &lengths);
+    with_lengths(
+        list,
+        n.next,
+        kind,
+        markers,
+        packet,
+        counts,
+        &mut lengths[..size],
+        state,
+        scratch,
+    )
+}
+
+fn contribute(
+    list: &[u32],
+    at: usize,
+    kind: u64,
+    state: &mut [u32],
+    scratch: &mut [u32],
+) -> Compared {
+    let m = number(list, at);
+    let packet = number(list, m.next);
+    let n = number(list, packet.next);
+    let mut counts = blocks_room();
+    let size = fit(n.value, &counts);
+    with_counts(
+        list,
+        n.next,
+        kind,
+        markers_of(m.value),
+        to_word(packet.value),
+        &mut counts[..size],
+        state,
+        scratch,
+    )
+}
+
+// ---- read
+
+fn expect_answer(list: &[u32], at: usize, r: ReadAnswer) -> Compared {
+    let a = expect(list, so_far(at), r.refusal as u64);
+    let b = expect(list, a, r.present as u64);
+    let c = expect(list, b, r.taken);
+    let d = expect(list, c, r.segments);
+    let e = expect(list, d, r.sop as u64);
+    expect(list, e, r.eph as u64)
+}
+
+fn expect_read(
+    list: &[u32],
+    at: usize,
+    r: ReadAnswer,
+    state: &[u32],
+    scratch: &[u32],
+    reports: &[u32],
+    records: &[u32],
+) -> Compared {
+    let a = expect_answer(list, at, r);
+    let b = expect_words(list, a, reports);
+    let c = expect_words(list, b, records);
+    let d = expect_checksum(list, c, state);
+    expect_checksum(list, d, scratch)
+}
+
+fn read_into(
+    list: &[u32],
+    at: usize,
+    markers: Markers,
+    input: &[u8],
+    state: &mut [u32],
+    scratch: &mut [u32],
+    reports: &mut [u32],
+    records: &mut [u32],
+) -> Compared {
+    let r = t2::read(state, scratch, input, markers, reports, records);
+    expect_read(list, at, r, state, scratch, reports, records)
+}
+
+fn with_reports(
+    list: &[u32],
+    at: usize,
+    markers: Markers,
+    input: &[u8],
+    state: &mut [u32],
+    scratch: &mut [u32],
+    reports: &mut [u32],
+) -> Compared {
+    let n = number(list, at);
+    let mut records = reports_room(RECORDS);
+    let size = fit(n.value, &records);
+    read_into(
+        list,
+        n.next,
+        markers,
+        input,
+        state,
+        scratch,
+        reports,
+        &mut records[..size],
+    )
+}
+
+fn with_input(
+    list: &[u32],
+    at: usize,
+    markers: Markers,
+    input: &mut [u8],
+    state: &mut [u32],
+    scratch: &mut [u32],
+) -> Compared {
+    let next = fill_bytes(list, at, input);
+    let n = number(list, next);
+    let mut reports = reports_room(REPORTS);
+    let size = fit(n.value, &reports);
+    with_reports(
+        list,
+        n.next,
+        markers,
+        input,
+        state,
+        scratch,
+        &mut reports[..size],
+    )
+}
+
+fn read_in(list: &[u32], at: usize, state: &mut [u32], scratch: &mut [u32]) -> Compared {
+    let m = number(list, at);
+    let n = number(list, m.next);
+    let mut input = bytes_room(0);
+    let size = fit_bytes(n.value, &input);
+    with_input(
+        list,
+        n.next,
+        markers_of(m.value),
+        &mut input[..size],
+        state,
+        scratch,
+    )
+}
+
+// ---- one call after another
+
+fn packet_call(
+    list: &[u32],
+    at: usize,
+    kind: u64,
+    state: &mut [u32],
+    scratch: &mut [u32],
+) -> Compared {
+    if kind == READ {
+        return read_in(list, at, state, scratch);
+    }
+    contribute(list, at, kind, state, scratch)
+}
+
+fn with_scratch(list: &[u32], at: usize, kind: u64, state: &mut [u32]) -> Compared {
+    let n = number(list, at);
+    let mut scratch = state_room(SCRATCH);
+    let size = fit(n.value, &scratch);
+    packet_call(list, n.next, kind, state, &mut scratch[..size])
+}
+
+// The place behind a call, the words of the state in use, and 1 for an answer as listed.
+struct Done {
+    next: usize,
+    words: usize,
+    good: u32,
+}
+
+fn one_if(good: bool) -> u32 {
+    if good { 1 } else { 0 }
+}
+
+fn ended(c: Compared, words: usize) -> Done {
+    Done {
+        next: c.next,
+        words,
+        good: one_if(c.good),
+    }
+}
+
+fn load(list: &[u32], at: usize, state: &mut [u32]) -> Done {
+    let n = number(list, at);
+    let size = fit(n.value, state);
+    let next = fill(list, n.next, &mut state[..size]);
+    Done {
+        next,
+        words: size,
+        good: 0,
+    }
+}
+
+fn put(state: &mut [u32], i: usize, value: u32) {
+    if i < state.len() {
+        state[i] = value;
+    }
+}
+
+fn poke(list: &[u32], at: usize, words: usize, state: &mut [u32]) -> Done {
+    let i = number(list, at);
+    let value = number(list, i.next);
+    put(state, to_size(i.value), to_word(value.value));
+    Done {
+        next: value.next,
+        words,
+        good: 0,
+    }
+}
+
+fn start(list: &[u32], at: usize, state: &mut [u32]) -> Done {
+    let role = number(list, at);
+    let count = number(list, role.next);
+    let mut g = [0u32; 9];
+    let behind = fill(list, count.next, &mut g);
+    let style = number(list, behind);
+    let n = number(list, style.next);
+    let size = fit(n.value, state);
+    let c = start_in(
+        list,
+        n.next,
+        to_word(role.value),
+        to_word(count.value),
+        bands_of(g),
+        to_byte(style.value),
+        &mut state[..size],
+    );
+    ended(c, size)
+}
+
+fn call(list: &[u32], at: usize, words: usize, state: &mut [u32]) -> Done {
+    let kind = number(list, at);
+    if kind.value == LOAD {
+        return load(list, kind.next, state);
+    }
+    if kind.value == START {
+        return start(list, kind.next, state);
+    }
+    if kind.value == POKE {
+        return poke(list, kind.next, words, state);
+    }
+    let size = fit(words as u64, state);
+    let c = with_scratch(list, kind.next, kind.value, &mut state[..size]);
+    ended(c, size)
+}
+
+// How many answers were as listed, of how many.
+struct Score {
+    good: u64,
+    of: u64,
+}
+
+fn plus(sum: u64, n: u32) -> u64 {
+    if sum < 0xffff_ffff {
+        sum + n as u64
+    } else {
+        sum
+    }
+}
+
+// A list begins with its calls and its answers, and goes on with the calls.
+fn run_on(list: &[u32], state: &mut [u32]) -> Score {
+    let calls = number(list, 0);
+    let answers = number(list, calls.next);
+    let mut next = answers.next;
+    let mut words: usize = 0;
+    let mut good: u64 = 0;
+    let mut left = calls.value;
+    while 0 < left {
+        left -= 1;
+        let d = call(list, next, words, state);
+        next = d.next;
+        words = d.words;
+        good = plus(good, d.good);
+    }
+    Score {
+        good,
+        of: answers.value,
+    }
+}
+
+fn run(list: &[u32]) -> Score {
+    let mut state = state_room(0);
+    run_on(list, &mut state)
+}
+
+fn print(name: &[u8], s: Score) {
+    io::write_all(1, name);
+    io::write_all(1, b": ");
+    io::print_decimal(1, s.good);
+    io::write_all(1, b" of ");
+    io::print_decimal(1, s.of);
+    io::write_all(1, b"\n");
+}
+
+fn sum(a: Score, b: Score) -> Score {
+    Score {
+        good: plus(a.good, to_word(b.good)),
+        of: plus(a.of, to_word(b.of)),
+    }
+}
+
+// ---- the groups
+
+fn hand_score() -> Score {
+    let list = HAND;
+    run(&list)
+}
+
+fn published_score() -> Score {
+    let list = PUBLISHED;
+    run(&list)
+}
+
+fn writes_score() -> Score {
+    let list = WRITES;
+    run(&list)
+}
+
+fn loaded_score() -> Score {
+    let list = LOADED;
+    run(&list)
+}
+
+fn reads_score() -> Score {
+    let list = READS;
+    run(&list)
+}
+
+fn damaged_score() -> Score {
+    let list = DAMAGED;
+    run(&list)
+}
+
+fn markers_score() -> Score {
+    let list = MARKERS;
+    run(&list)
+}
+
+fn reloaded_score() -> Score {
+    let list = RELOADED;
+    run(&list)
+}
+
+fn big_score() -> Score {
+    let list = BIG;
+    run(&list)
+}
+
+fn refusals_score() -> Score {
+    let list = REFUSALS;
+    run(&list)
+}
+
+// A group's line; the sum with the groups before.
+fn group(name: &[u8], before: Score, s: Score) -> Score {
+    print(name, s);
+    sum(before, s)
+}
+
+fn main() {
+    let none = Score { good: 0, of: 0 };
+    let hand = group(
+        b"document 01's other packets, and slips near them",
+        none,
+        hand_score(),
+    );
+    let published = group(b"worked headers of T.800", hand, published_score());
+    let writes = group(b"writes", published, writes_score());
+    let loaded = group(b"writes from loaded states", writes, loaded_score());
+    let reads = group(b"reads", loaded, reads_score());
+    let damaged = group(b"damaged reads", reads, damaged_score());
+    let markers = group(b"marker cases", damaged, markers_score());
+    let reloaded = group(b"reads from loaded states", markers, reloaded_score());
+    let big = group(b"big geometries", reloaded, big_score());
+    let refusals = group(b"refusals by document 01 alone", big, refusals_score());
+    print(b"all", refusals);
+}

@@ -1,0 +1,614 @@
+#!/usr/bin/env python3
+"""Writes the lists of crates/vectors: calls of the engine with the answers that they must give.
+
+    python3 tools/make_vectors.py ORACLE [--seed 6] [--model FILE]
+
+ORACLE is the program that runs the code of crate openjp2 0.6.1 behind a line protocol (see compare_definitions.py, whose generator makes
+the random runs). Every answer of a list, and the state behind it, comes from ORACLE, but for those of the lists `hand` and `refusals` that
+document 01 gives alone: the crate has no such refusal, and there the number stands in this file, with the buffers as document 01 leaves
+them. With --model, a Python file with document 01's calls (start_writer, start_reader, measure, write, read), each call is run on it too and any
+difference ends this program.
+
+A list is a constant array of words in crates/vectors/src/NAME.rt, four bytes to a word, the first lowest. A number below 251 is one byte;
+else 252, 253, 254 or 255 and then 1, 2, 4 or 8 bytes, the highest first. In a row of numbers 251, how often, and a number stand for that
+number so often. A list is its calls, its answers, and then each call:
+
+    0 load      n, row of words
+    1 start     role, band count, row of nine numbers of bands, style, words of the state, n, row of block planes; answer, check(state)
+    2 measure   words of scratch, SOP + 2 EPH, packet number, n, row of counts, n, row of lengths, n, marks (bytes); refusal, header, body, check(scratch)
+    3 write     the same up to the marks, body bytes, output bytes; refusal, bytes, front n, body n, rest, front (bytes), check(state), check(scratch)
+    4 read      words of scratch, SOP + 2 EPH, n, input (bytes), words of reports, words of records; refusal, present, taken, segments, SOP mark,
+                EPH mark, then of reports and of records: n, rest, row of n words; check(state), check(scratch)
+    5 poke      place and word: the state's word there is set
+
+A list that is lent is filled before: state 7, scratch 5, output 165, reports 9, records 8; a body has (7 i + 3) mod 256 at i.
+check(xs) is h = length; for each x: h = (h * 65599 + x + 1) mod 4294967291.
+"""
+import argparse
+import collections
+import importlib.util
+import os
+import random
+
+import compare_definitions as generator
+from compare_definitions import AMPLE, Oracle, Run, Unexpected, hexed, spaced
+
+STATE, SCRATCH, OUTPUT, REPORTS, RECORDS = 7, 5, 165, 9, 8
+STATE_MOST, COUNTS_MOST, PASSES_MOST, BYTES_MOST, RECORDS_MOST = 147463, 12288, 700, 4000, 49152
+HEADER_WORDS = 13
+
+
+def check(words):
+    h = len(words)
+    for x in words:
+        h = (h * 65599 + x + 1) % 4294967291
+    return h
+
+
+def body_of(n):
+    return [(7 * i + 3) % 256 for i in range(n)]
+
+
+def number(n):
+    if n < 251:
+        return [n]
+    for first, size in ((252, 1), (253, 2), (254, 4), (255, 8)):
+        if n < 1 << 8 * size:
+            return [first] + list(n.to_bytes(size, "big"))
+    raise ValueError(n)
+
+
+def numbers(xs):
+    return [b for x in xs for b in number(x)]
+
+
+def row(xs):
+    """Numbers, those that come often behind one another once."""
+    out, at = [], 0
+    while at < len(xs):
+        times = 1
+        while at + times < len(xs) and xs[at + times] == xs[at]:
+            times += 1
+        once = number(xs[at])
+        often = [251] + number(times) + once
+        out += often if len(often) < times * len(once) else times * once
+        at += times
+    return out
+
+
+def counted(xs):
+    return number(len(xs)) + row(xs)
+
+
+def three(bands):
+    return (list(bands) + [(0, 0, 0)] * 3)[:3]
+
+
+def same(a, b, what):
+    if a != b:
+        raise SystemExit("the model differs at %s: %s, not %s" % (what, a, b))
+
+
+class Calls:
+    """One list in the making. `crate` counts the answers that came from the crate."""
+
+    def __init__(self, name, comment, model):
+        self.name, self.comment, self.model = name, comment, model
+        self.data, self.calls, self.answers, self.crate = [], 0, 0, 0
+        self.state = []
+
+    def add(self, data, from_crate):
+        self.data += data
+        self.calls += 1
+        self.answers += from_crate is not None
+        self.crate += from_crate is True
+
+    def load(self, words):
+        assert len(words) <= STATE_MOST
+        self.state = list(words)
+        self.add([0] + counted(words), None)
+
+    def poke(self, at, value):
+        self.state = self.state[:at] + [value] + self.state[at + 1:]
+        self.add([5] + numbers([at, value]), None)
+
+    def start(self, role, count, bands, style, planes, size, answer, words=None, from_crate=True):
+        bands = three(bands)
+        after = [STATE] * size if answer else list(words)
+        assert size == len(after) <= STATE_MOST and len(planes) <= COUNTS_MOST
+        if self.model:
+            lent = [STATE] * size
+            code = (self.model.start_writer if role == 1 else self.model.start_reader)(count, bands, style, planes, lent)
+            same((code, lent), (answer, after), "start")
+        self.add([1] + numbers([role, count]) + row([x for b in bands for x in b]) + numbers([style, size]) + counted(planes) + numbers([answer, check(after)]), from_crate)
+        self.state = after
+
+    def lists(self, scratch, sop, eph, packet, counts, lengths, marks):
+        assert scratch <= STATE_MOST and len(counts) <= COUNTS_MOST and max(len(lengths), len(marks)) <= PASSES_MOST
+        return numbers([scratch, sop + 2 * eph, packet]) + counted(counts) + counted(lengths) + number(len(marks)) + list(marks)
+
+    def measure(self, sop, eph, counts, lengths, marks, answer, after=None, scratch=None, from_crate=True):
+        """answer: refusal, header, body; after: the state behind the packet."""
+        scratch = len(self.state) if scratch is None else scratch
+        left = [SCRATCH] * scratch if answer[0] else list(after)
+        if self.model:
+            lent = [SCRATCH] * scratch
+            told = self.model.measure(list(self.state), lent, sop, eph, counts, lengths, marks)
+            same((tuple(told), lent), (tuple(answer), left), "measure")
+        self.add([2] + self.lists(scratch, sop, eph, 0, counts, lengths, marks) + numbers(list(answer) + [check(left)]), from_crate)
+
+    def write(self, sop, eph, packet, counts, lengths, marks, body, room, refusal, front=(), after=None, scratch=None, from_crate=True):
+        scratch = len(self.state) if scratch is None else scratch
+        size = len(front) + body if refusal == 0 else 0
+        after = list(after) if refusal == 0 else self.state
+        left = after if refusal == 0 else [0 if refusal == 11 else SCRATCH] * scratch
+        rest = 0 if refusal == 11 else OUTPUT
+        output = (list(front) + body_of(body) + [rest] * (room - size)) if refusal == 0 else [rest] * room
+        assert body <= BYTES_MOST and len(output) == room <= BYTES_MOST
+        if self.model:
+            state, lent, out = list(self.state), [SCRATCH] * scratch, [OUTPUT] * room
+            told = self.model.write(state, lent, sop, eph, packet, counts, lengths, marks, body_of(body), out)
+            same((tuple(told), state, lent, out), ((refusal, size), after, left, output), "write")
+        front = list(front) if refusal == 0 else []
+        self.add([3] + self.lists(scratch, sop, eph, packet, counts, lengths, marks) + numbers([body, room, refusal, size])
+                 + numbers([len(front), body if refusal == 0 else 0, rest]) + front + numbers([check(after), check(left)]), from_crate)
+        self.state = after
+
+    def read(self, sop, eph, data, reports, records, told, rows=((), ()), after=None, scratch=None, from_crate=True):
+        """told: refusal, present, taken, segments, marks; rows: words of the reports and of the records."""
+        scratch = len(self.state) if scratch is None else scratch
+        refusal = told[0]
+        wiped = refusal in (9, 12, 13)
+        after = list(after) if refusal == 0 else self.state
+        left = after if refusal == 0 else [0 if wiped else SCRATCH] * scratch
+        rows = [list(x) if refusal == 0 else [] for x in rows]
+        rests = [0 if wiped else REPORTS, 0 if wiped else RECORDS]
+        want = [x + [rest] * (n - len(x)) for x, rest, n in zip(rows, rests, (reports, records))]
+        assert len(data) <= BYTES_MOST and max(reports, records) <= RECORDS_MOST and [len(x) for x in want] == [reports, records]
+        if self.model and reports % 4 == 0 and records % 4 == 0:
+            state, lent = list(self.state), [SCRATCH] * scratch
+            lists = [[rest] * 4 for rest in [REPORTS] * (reports // 4)], [[rest] * 4 for rest in [RECORDS] * (records // 4)]
+            answer = self.model.read(state, lent, sop, eph, data, *lists)
+            same((list(answer), state, lent, [[x for r in rs for x in r] for rs in lists]), (list(told), after, left, want), "read")
+        self.add([4] + numbers([scratch, sop + 2 * eph, len(data)]) + list(data) + numbers([reports, records] + list(told))
+                 + [b for x, rest in zip(rows, rests) for b in numbers([len(x), rest]) + row(x)] + numbers([check(after), check(left)]), from_crate)
+        self.state = after
+
+    def bytes(self):
+        return numbers([self.calls, self.answers]) + self.data
+
+    def write_file(self, folder, seed):
+        write_list(folder, self.name, self.bytes(), self.comment, seed)
+
+
+def write_list(folder, name, data, comment, seed):
+    data = data + [0] * (-len(data) % 4)
+    words = [int.from_bytes(bytes(data[i:i + 4]), "little") for i in range(0, len(data), 4)]
+    with open(os.path.join(folder, name + ".rt"), "w", encoding="utf-8") as f:
+        f.write("// %s. Written by tools/make_vectors.py%s; its head says how a list is read.\n" % (comment, ", seed %d" % seed if seed is not None else ""))
+        f.write("pub const %s: [u32; %d] = [\n" % (name.upper(), len(words)))
+        for w in words:
+            f.write("    0x%08x,\n" % w)
+        f.write("];\n")
+    print("  %-10s %5d words" % (name, len(words)))
+
+
+# ---- runs of the generator as calls
+
+def blocks_of(bands):
+    return sum(w * h for w, h, _ in bands)
+
+
+def put_run(calls, run, side):
+    """One side's calls of a run, up to the first that has no room."""
+    for who, name, c in run.calls:
+        if who != side:
+            continue
+        if name == "start":
+            calls.start(1 if side == "writer" else 2, len(run.bands), run.bands, run.style, run.planes if side == "writer" else [], len(c["after"]), 0, c["after"])
+        elif name == "load":
+            calls.load(c["words"])
+        elif name == "reads":
+            calls.read(c["sop"], c["eph"], c["data"], c["reports"], c["records"], c["told"], c["rows"], c["after"])
+        elif name == "writes":
+            body = sum(c["lengths"])
+            calls.write(c["sop"], c["eph"], c["number"], c["counts"], c["lengths"], c["marks"], body, c["room"], c["refusal"], c["front"], c["after"])
+        else:
+            total = sum(c["lengths"])
+            calls.measure(c["sop"], c["eph"], c["counts"], c["lengths"], c["marks"], (c["refusal"], len(c["front"]), total) if c["refusal"] == 0 else (c["refusal"], 0, 0), c["after"])
+            if c["refusal"] == 0:
+                # the crate has no measuring: its state moved on, and that of the list does not
+                return
+
+
+def fits(run, side):
+    for who, name, c in run.calls:
+        if who != side:
+            continue
+        if name == "writes" and (c["room"] > BYTES_MOST or len(c["lengths"]) > PASSES_MOST):
+            return False
+        if name == "heads" and len(c["lengths"]) > PASSES_MOST:
+            return False
+        if name == "reads" and (max(c["reports"], c["records"]) > RECORDS_MOST or len(c["data"]) > 80):
+            return False
+        if len(c.get("after", c.get("words"))) > 200:
+            return False
+    return True
+
+
+def marker_run(rng, run):
+    """A reader whose inputs have a marker missing, cut or where none is due."""
+    run.start("reader")
+    geometry = spaced(spaced(b) for b in run.bands)
+    run.writer.ask("start writer %d %d %s %d %s" % (run.empty, len(run.bands), geometry, run.style, spaced(run.planes)))
+    for _ in range(rng.randrange(2, 6)):
+        counts, lengths, marks = generator.some_contribution(rng, run, "matching", 5, 0.6, 0)
+        sop, eph = rng.choice([(0, 1), (1, 0), (1, 1)])
+        answer = run.writer.ask("write %d %d %d %d / %s / %s / %s / !" % (sop, eph, generator.some_number(rng), AMPLE, spaced(counts), spaced(lengths), spaced(marks))).split()
+        if answer[0] != "ok":
+            raise Unexpected(spaced(answer))
+        run.passes = [p + c for p, c in zip(run.passes, counts)]
+        front = list(bytes.fromhex(answer[2]))
+        if rng.random() < 0.3:
+            sop, eph = 1, 1
+        if run.read(sop, eph, generator.marker_trouble(rng, front, eph)) != 0:
+            return
+
+
+def put_random(calls, oracles, seed, kinds, side, answers, most):
+    """Runs of the kinds given until the list has so many answers; a run that takes more than so many bytes an answer is left out."""
+    tally = collections.Counter()
+    for k in range(40 * answers):
+        if calls.answers >= answers:
+            break
+        rng = random.Random("%s/%d/%d" % (calls.name, seed, k))
+        fill = rng.choice(kinds)
+        run = Run(rng, oracles, tally, *generator.some_shape(rng), kind=calls.name)
+        try:
+            fill(rng, run)
+        except Unexpected:
+            continue
+        if not fits(run, side):
+            continue
+        part = Calls(calls.name, "", calls.model)
+        put_run(part, run, side)
+        if part.answers and len(part.data) <= most * part.answers:
+            calls.data += part.data
+            calls.calls += part.calls
+            calls.answers += part.answers
+            calls.crate += part.crate
+    return calls
+
+
+# ---- calls made by hand, answered by the crate
+
+class Asked:
+    """A writer or a reader of the crate, and the list that its answers go to."""
+
+    def __init__(self, calls, oracle):
+        self.calls, self.oracle = calls, oracle
+
+    def start(self, role, bands, style, planes):
+        self.bands = bands
+        self.ask("start %s 0 %d %s %d %s" % ("writer" if role == 1 else "reader", len(bands), spaced(spaced(b) for b in bands), style, spaced(planes)))
+        words = self.oracle.words()
+        self.calls.start(role, len(bands), bands, style, planes, len(words), 0, words)
+
+    def ask(self, line):
+        answer = self.oracle.ask(line)
+        if "note:" in answer or answer == "bad":
+            raise SystemExit("%s -> %s" % (line, answer))
+        return answer
+
+    def measure(self, sop, eph, counts, lengths, marks):
+        before = self.oracle.words()
+        answer = self.ask("write %d %d 0 %d / %s / %s / %s / !" % (sop, eph, AMPLE, spaced(counts), spaced(lengths), spaced(marks))).split()
+        if answer[0] == "ok":
+            self.calls.measure(sop, eph, counts, lengths, marks, (0, int(answer[1]), sum(lengths)), self.oracle.words())
+        else:
+            self.calls.measure(sop, eph, counts, lengths, marks, ({"panic": 9}[answer[0]], 0, 0))
+        self.ask("load 0 " + spaced(before))
+
+    def write(self, counts, lengths, marks, room=None, sop=0, eph=0, packet=0, front=None):
+        """front: the bytes that a paper gives."""
+        before, body = self.oracle.words(), sum(lengths)
+        lists = "/ %s / %s / %s / *" % (spaced(counts), spaced(lengths), spaced(marks))
+        ample = self.ask("write %d %d %d %d %s" % (sop, eph, packet, AMPLE, lists)).split()
+        after = self.oracle.words()
+        room = int(ample[1]) if room is None else room
+        self.ask("load 0 " + spaced(before))
+        answer = self.ask("write %d %d %d %d %s" % (sop, eph, packet, room, lists)).split()
+        if answer[0] == "failed":
+            self.calls.write(sop, eph, packet, counts, lengths, marks, body, room, 11)
+            return None
+        got = list(bytes.fromhex(answer[2]))
+        if answer[3] != "body=" or (front and got != list(bytes.fromhex(front))):
+            raise SystemExit("the crate writes %s, not %s" % (answer[2], front))
+        self.calls.write(sop, eph, packet, counts, lengths, marks, body, room, 0, got, after)
+        return got
+
+    def read(self, data, sop=0, eph=0, records=None, reports=None, rows=None):
+        """reports, rows: what a paper gives."""
+        blocks = blocks_of(self.bands)
+        answer = self.ask("read %d %d %s" % (sop, eph, hexed(data)))
+        if answer.startswith("ok "):
+            first, told, got = [[int(x) for x in part.split()] for part in answer[3:].split("/")]
+            if (reports and told != [x for r in reports for x in r]) or (rows and got != [x for r in rows for x in r]):
+                raise SystemExit("the crate reads %s" % answer)
+            self.calls.read(sop, eph, data, 4 * blocks, 4 * (first[2] if records is None else records), [0] + first, (told, got), self.oracle.words())
+        else:
+            refusal = {"failed width": 9, "failed align": 12}[answer]
+            self.calls.read(sop, eph, data, 4 * blocks, 4 * (4 if records is None else records), [refusal, 0, 0, 0, 0, 0])
+
+
+ONE = [(1, 1, 8)]
+
+
+def last(n, total):
+    """Pass lengths, all in the last."""
+    return [0] * (n - 1) + [total]
+
+
+def hand_list(model, oracle):
+    calls = Calls("hand", "Document 01's packets that are no rows of its table, and the slips that it names", model)
+    w = Asked(calls, oracle)
+    w.start(1, ONE, 0, [8])
+    w.write([1], [5], [0], room=5)
+    w.write([1], [5], [0], room=6, front="e5")
+    for inc in (29, 30):
+        w.start(2, ONE, 0, [])
+        w.read(generator.stuffed([1, 1, 1, 0] + [1] * inc + [0] + [1] * 32), records=2)
+    w.start(1, ONE, 0, [8])
+    calls.write(0, 0, 0, [165], [0] * 165, [0] * 165, 0, 100, 7, from_crate=False)
+    w.write([164], last(164, 164), [0] * 164)
+    # zero planes counted from the threshold
+    for zero in (0, 1, 3, 8):
+        w.start(1, ONE, 0, [8 - zero])
+        front = w.write([1], [5], [0])
+        w.start(2, ONE, 0, [])
+        w.read(front, reports=[[1, zero, 8 - zero, 1]], rows=[[0, 1, 1, 5]])
+    # widths from all passes of the block; length bits set back to 3 each layer
+    for first, second in (((4, 9), (1, 5)), ((1, 200), (1, 5)), ((2, 300), (3, 7)), ((8, 1), (2, 15))):
+        w.start(1, ONE, 0, [8])
+        fronts = [w.write([n], last(n, size), [0] * n) for n, size in (first, second)]
+        w.start(2, ONE, 0, [])
+        w.read(fronts[0], rows=[[0, 1, first[0], first[1]]])
+        w.read(fronts[1], reports=[[2, 0, 0, second[0]]], rows=[[0, 0, second[0], second[1]]])
+    # no 00 behind a last FF
+    w.start(1, ONE, 0, [8])
+    front = w.write([16], last(16, 511), [0] * 16, front="feadff00")
+    w.start(2, ONE, 0, [])
+    w.read(front[:3])
+    w.read(front, rows=[[0, 1, 16, 511]])
+    # a missing marker treated as a refusal
+    for data in ("e5", "e500", "e50000", "ff91000400", "ff9100040001e5", "ff9100040001e5ff", "ff9100040001e5ff91", "ff9200040001e5ff92", "e5ff92", ""):
+        w.start(2, ONE, 0, [])
+        w.read(list(bytes.fromhex(data)), 1, 1, records=2)
+    return calls
+
+
+def bits(text):
+    return generator.stuffed([int(x) for x in text if x in "01"])
+
+
+def published_list(model, oracle):
+    calls = Calls("published", "Worked packet headers of T.800: the tag tree of B.10.2, the two packets of B.10.8, the two of the codestream in J.10.1", model)
+    w = Asked(calls, oracle)
+    # B.10.8: zero planes 3 4 7 / 3 3 6; its first packet spends one length bit more than it must, so that it is read and not written
+    band, planes = [(3, 2, 10)], [7, 6, 3, 7, 7, 4]
+    first = bits("1 111 000111 1100 0 0100 1 01 10 10 00100 0 0 0")
+    second = bits("1 1 1100 0 1010 0 10 0 1 1 0 0 001 1 00011 0 0 010")
+    none = [0, 0, 0, 0]
+    w.start(2, band, 0, [])
+    w.read(first, reports=[[1, 3, 7, 3], [1, 4, 6, 2], none, none, none, none], rows=[[0, 1, 3, 4], [1, 1, 2, 4]])
+    w.read(second, reports=[[2, 0, 0, 3], none, none, none, [1, 3, 7, 1], [1, 6, 4, 1]], rows=[[0, 0, 3, 10], [4, 1, 1, 1], [5, 1, 1, 2]])
+    w.start(1, band, 0, planes)
+    w.write([3, 2, 0, 0, 0, 0], last(3, 4) + last(2, 4), [0] * 5, front=bytes(bits("1 111 000111 1100 0 0100 1 01 10 0 0100 0 0 0")).hex())
+    w.write([3, 0, 0, 0, 1, 1], last(3, 10) + [1, 2], [0] * 5, front=bytes(second).hex())
+    # J.10.1: one column of nine samples, one decomposition; LL of 9 planes, then HL and HH without blocks and LH of 10 planes
+    for bands, planes, n, size, front, zero in (
+            ([(1, 1, 9)], [6], 16, 6, "c7d40c", 3),
+            ([(0, 0, 10), (1, 1, 10), (0, 0, 11)], [3], 7, 3, "c07c2180", 7)):
+        w.start(1, bands, 0, planes)
+        w.measure(0, 0, [n], last(n, size), [0] * n)
+        w.write([n], last(n, size), [0] * n, front=front)
+        w.start(2, bands, 0, [])
+        w.read(list(bytes.fromhex(front)), reports=[[1, zero, planes[0], n]], rows=[[0, 1, n, size]])
+    # B.10.2: its first leaves are coded 01111, 001, 101
+    leaves = [1, 3, 2, 3, 2, 3, 2, 2, 1, 4, 3, 2, 2, 2, 2, 2, 1, 2]
+    w.start(1, [(6, 3, 8)], 0, [8 - z for z in leaves])
+    front = w.write([1] * 18, [1] * 18, [0] * 18)
+    text = "".join("{:08b}".format(b) for b in front)
+    if not text.startswith("1" "1111" "01111" "0" "0" "001" "1" "001" "0" "0" "001" "11" "101"):
+        raise SystemExit("not the tag tree's bits: " + text)
+    w.start(2, [(6, 3, 8)], 0, [])
+    w.read(front, reports=[[1, z, 8 - z, 1] for z in leaves], rows=[[k, 1, 1, 1] for k in range(18)])
+    return calls
+
+
+def words_in_range(role, oracle):
+    """A state with one block included and one not, from the crate."""
+    bands = [(2, 1, 8)]
+    oracle.ask("start writer 0 1 2 1 8 1 8 5")
+    front = oracle.ask("write 0 0 0 100 / 1 0 / 5 / 0 / *").split()[2]
+    if role == 2:
+        oracle.ask("start reader 0 1 2 1 8 1")
+        oracle.ask("read 0 0 " + front)
+    return bands, oracle.words()
+
+
+def refusal_list(model, oracle):
+    """Refusals that the crate has not."""
+    calls = Calls("refusals", "Refusals that the crate has not, by document 01's numbers and order", model)
+    given = dict(from_crate=False)
+    for answer, count, bands, style, planes, size in (
+            (1, 0, ONE, 0xc0, [], 5), (1, 4, ONE, 0, [], 5), (1, 1, [(65, 1, 999)], 0x40, [], 5), (1, 1, [(1, 65, 8)], 0, [8], 23),
+            (1, 2, [(1, 1, 8), (64, 65, 8)], 0, [8], 23), (2, 1, ONE, 0x40, [], 5), (2, 1, ONE, 0x80, [9], 23), (3, 1, ONE, 0, [8], 22),
+            (3, 1, ONE, 0, [8], 24), (3, 1, [(1, 1, 999)], 0, [8], 22), (3, 1, ONE, 0, [8, 8], 23)):
+        for role in (1, 2):
+            calls.start(role, count, bands, style, planes, size, answer, **given)
+    calls.start(1, 1, ONE, 0, [], 23, 3, **given)
+    calls.start(2, 1, ONE, 0, [8], 23, 3, **given)
+    calls.start(1, 1, [(1, 1, 999)], 0, [8], 23, 4, **given)
+    calls.start(2, 1, [(1, 1, 999)], 0, [], 23, 4, **given)
+    calls.start(1, 1, ONE, 0, [9], 23, 4, **given)
+    calls.start(1, 2, [(1, 1, 8), (1, 1, 5)], 0, [8, 6], 33, 4, **given)
+    # 5: each word out of its range, then lengths and roles
+    for role in (1, 2):
+        _, words = words_in_range(role, oracle)
+        first = HEADER_WORDS
+        block = first + 2 * 3 * 3
+        bad = [(0, 3 - role), (0, 0), (1, 0), (1, 4), (2, 64), (3, 1000), (4, 65), (5, 65), (6, 999), (7, 1), (9, 1), (12, 1),
+               (first, 1000), (first + 1, 1000), (first + 2, 2), (block - 3, 1000), (block - 2, 1000), (block - 1, 2),
+               (block, 165), (block, 0), (block + 1, 2), (block + 1, 33), (block + 1, 0), (block + 2, 5), (block + 3, 11), (block + 5, 3), (block + 6, 1), (block + 7, 1)]
+        calls.load(words)
+        for at, value in bad:
+            calls.poke(at, value)
+            refused(calls, role, 5)
+            calls.poke(at, words[at])
+        for size in (len(words) - 1, len(words) + 1, HEADER_WORDS, HEADER_WORDS - 1, 0):
+            calls.load((words + [0])[:size])
+            refused(calls, role, 5)
+        calls.load(words)
+        for size in (len(words) - 1, len(words) + 1, 0):
+            refused(calls, role, 5, scratch=size)
+        refused(calls, 3 - role, 5)
+        calls.load(words[:3] + [999] + words[4:])
+        refused(calls, role, 6)
+    writer_order(calls, given)
+    reader_order(calls, given)
+    return calls
+
+
+def refused(calls, role, number, scratch=None):
+    """A call that would be accepted, on a state or a scratch that is not."""
+    if role == 1:
+        calls.write(0, 0, 0, [0, 1], [3], [0], 3, 40, number, scratch=scratch, from_crate=False)
+        calls.measure(0, 0, [0, 1], [3], [0], (number, 0, 0), scratch=scratch, from_crate=False)
+    else:
+        calls.read(0, 0, [0xd5, 0x15, 0, 0], 8, 16, [number, 0, 0, 0, 0, 0], scratch=scratch, from_crate=False)
+
+
+def writer_order(calls, given):
+    top = 1 << 31
+    calls.start(1, 1, [(2, 1, 8)], 0, [8, 8], 39, 0, started(1, [(2, 1, 8)], 0), **given)
+    for number, counts, lengths, marks, body, room in (
+            (3, [165], [0] * 165, [0] * 165, 0, 0), (3, [165, 0], [0] * 164, [0] * 165, 0, 0), (3, [165, 0], [0] * 165, [0] * 164, 0, 0),
+            (3, [1, 1, 1], [0] * 3, [0] * 3, 0, 0), (3, [], [], [], 0, 9), (3, [(1 << 32) - 1, 1], [], [], 0, 9),
+            (7, [165, 1], [top] + [0] * 165, [0] * 166, 0, 0), (7, [0, 165], [0] * 165, [0] * 165, 0, 99),
+            (8, [1, 1], [top, 0], [0, 0], 0, 0), (8, [2, 1], [top // 2, top // 2, 0], [0] * 3, 0, 0),
+            (8, [8, 1], [top - 1] + [0] * 6 + [1, top], [1] + [0] * 8, 0, 0), (9, [8, 1], [top - 1] + [0] * 6 + [1, 0], [1] + [0] * 8, 0, 0),
+            (10, [1, 1], [2, 2], [0, 0], 3, 0), (10, [1, 1], [2, 2], [0, 0], 5, 0), (10, [1, 1], [2, 2], [0, 0], 0, 40),
+            (11, [1, 1], [2, 2], [0, 0], 4, 0), (11, [1, 1], [2, 2], [0, 0], 4, 6)):
+        calls.write(0, 0, 0, counts, lengths, marks, body, room, number, **given)
+        if number < 10 and len(lengths) < 20:
+            calls.measure(1, 1, counts, lengths, marks, (number, 0, 0), **given)
+
+
+def reader_order(calls, given):
+    no = lambda n: [n, 0, 0, 0, 0, 0]
+    calls.start(2, 1, ONE, 4, [], 23, 0, started(2, ONE, 4), **given)
+    wide = generator.stuffed([1, 1, 1, 0] + [1] * 30 + [0])
+    cut = [0xfe, 0xad, 0xff]
+    calls.read(0, 0, [0xe5], 0, 0, no(3), **given)
+    calls.read(0, 0, [0xe5], 8, 0, no(3), **given)
+    calls.read(0, 0, [0xe5], 5, 4, no(3), **given)
+    calls.read(0, 0, [0xe5], 4, 0, no(13), **given)
+    calls.read(0, 0, [0xe5], 4, 3, no(13), **given)
+    calls.read(0, 0, wide, 4, 0, no(9), **given)
+    calls.read(0, 0, wide, 4, 16, no(9), **given)
+    calls.read(0, 0, cut, 4, 60, no(13), **given)
+    calls.start(2, 1, ONE, 0, [], 23, 0, started(2, ONE, 0), **given)
+    calls.read(0, 0, cut, 4, 0, no(13), **given)
+    calls.read(0, 0, cut, 4, 4, no(12), **given)
+
+
+def started(role, bands, style):
+    """The words of a started state as document 01 says them, for blocks of the same planes as their band."""
+    words = [role, len(bands), style, 0] + [x for b in three(bands) for x in b]
+    for w, h, _ in bands:
+        nodes = sum(generator.level_sizes(w, h))
+        fresh, zero = [999, 0, 0], [0 if role == 1 else 999, 0, 0]
+        words += fresh * nodes + zero * nodes + [0, 0, 0, 0] * (w * h)
+    return words
+
+
+# ---- big geometries
+
+def big_case(calls, oracles, seed, bands, style, most):
+    """Layers with some blocks of a big precinct each, written, and read from what was written."""
+    rng = random.Random("big/%d/%s" % (seed, bands))
+    writer, reader = Asked(calls, oracles[0]), Asked(calls, oracles[1])
+    blocks, passes, fronts = blocks_of(bands), None, []
+    # a few values side by side keep the list short
+    planes = []
+    for w, h, p in bands:
+        while len(planes) < sum(a * b for a, b, _ in bands[:1 + bands.index((w, h, p))]):
+            planes += [max(0, p - rng.randrange(4))] * rng.randrange(w, 4 * w + 1)
+        planes = planes[:sum(a * b for a, b, _ in bands[:1 + bands.index((w, h, p))])]
+    passes = [0] * blocks
+    writer.start(1, bands, style, planes)
+    for _ in range(2):
+        counts = [0] * blocks
+        for at in [rng.randrange(blocks) for _ in range(most)] + [0, blocks - 1]:
+            counts[at] = rng.choice([1, 1, 2, 3, 7])
+        marks = generator.some_marks(rng, style, passes, counts, "matching")
+        lengths = [rng.randrange(40) for _ in marks]
+        passes = [p + c for p, c in zip(passes, counts)]
+        sop, eph = rng.randrange(2), rng.randrange(2)
+        fronts.append((sop, eph, writer.write(counts, lengths, marks, sop=sop, eph=eph, packet=rng.randrange(1 << 17))))
+    reader.start(2, bands, style, [])
+    for sop, eph, front in fronts:
+        reader.read(front, sop, eph)
+
+
+def big_list(model, oracles, seed):
+    calls = Calls("big", "The crate's answers on big geometries, up to three bands of 64 × 64", model)
+    for bands, style, most in (
+            ([(64, 64, 9)], 0, 8), ([(64, 64, 8)], 4, 5), ([(64, 64, 7), (64, 64, 8), (64, 64, 9)], 1, 8), ([(64, 1, 12), (1, 64, 12), (33, 63, 10)], 0, 6),
+            ([(63, 64, 7), (64, 63, 6)], 0x2a, 5), ([(32, 32, 20), (31, 33, 21), (17, 16, 22)], 5, 4), ([(5, 64, 998), (64, 3, 998), (0, 64, 1)], 4, 4),
+            ([(64, 64, 0), (2, 1, 3)], 0, 5), ([(9, 9, 6), (10, 10, 7)], 1, 6)):
+        big_case(calls, oracles, seed, bands, style, most)
+    return calls
+
+
+# ---- the lists
+
+def main():
+    parser = argparse.ArgumentParser(description=__doc__, formatter_class=argparse.RawDescriptionHelpFormatter)
+    parser.add_argument("oracle")
+    parser.add_argument("--seed", type=int, default=6)
+    parser.add_argument("--model")
+    parser.add_argument("--out", help="another folder for the lists")
+    args = parser.parse_args()
+    model = None
+    if args.model:
+        spec = importlib.util.spec_from_file_location("model", args.model)
+        model = importlib.util.module_from_spec(spec)
+        spec.loader.exec_module(model)
+    folder = args.out or os.path.join(os.path.dirname(os.path.abspath(__file__)), "..", "crates", "vectors", "src")
+    oracles = [Oracle(args.oracle) for _ in range(3)]
+
+    crate = "The crate's answers to random runs: "
+    lists = [hand_list(model, oracles[0]), published_list(model, oracles[0])]
+    for name, text, kinds, side, answers in (
+            ("writes", "packets written", [generator.writer_run, generator.trip_run], "writer", 110),
+            ("loaded", "packets written from loaded states", [generator.loaded_writer_run], "writer", 60),
+            ("reads", "packets read as they were written", [generator.trip_run], "reader", 70),
+            ("damaged", "packets damaged, cut or made of other bytes", [generator.reader_run], "reader", 90),
+            ("markers", "packets with a marker missing, cut or where none is due", [marker_run], "reader", 60),
+            ("reloaded", "packets read from loaded states", [generator.loaded_reader_run], "reader", 60)):
+        lists.append(put_random(Calls(name, crate + text, model), oracles, args.seed, kinds, side, answers, 60))
+    lists.append(big_list(model, oracles, args.seed))
+    lists.append(refusal_list(model, oracles[0]))
+    for calls in lists:
+        calls.write_file(folder, args.seed if calls.name not in ("hand", "published", "refusals") else None)
+    for o in oracles:
+        o.close()
+    for calls in lists:
+        print("  %-10s %4d answers, %4d of them the crate's" % (calls.name, calls.answers, calls.crate))
+    print("the crate's answers: %d" % sum(c.crate for c in lists))
+
+
+if __name__ == "__main__":
+    main()
