@@ -1,0 +1,62 @@
+-- The lent list of answer words, and the calls with one of the right length or another.
+use Prim.Native.Nat.{ℕ}
+use native.Mathlib.Omega.{arith}
+use mathlib.Core.Bool.{true, false, cond}
+use mathlib.Core.Path.{_≡_, refl, ap}
+use mathlib.Core.Logic.{_≢_}
+use mathlib.Core.List.{List, [], _∷_}
+use lib.ListN.{length, set, take}
+use lib.Dec.{eqb}
+use borrow.Author.Tests.{eq-eqb, ne-eqb}
+use Rattle.t800.specs.declared.Band.{Band}
+use Rattle.t800.specs.declared.Markers.{Markers}
+use Rattle.t800.specs.declared.MeasureAnswer.{MeasureAnswer}
+use Rattle.t800.specs.declared.WriteAnswer.{WriteAnswer}
+use Rattle.t800.specs.State.{stateLength}
+use Rattle.t800.specs.Ranges.{badShape}
+use Rattle.t800.specs.WriteHeader.{Contribution}
+use Rattle.t800.specs.Packet.{MeasureResult, measure, WriteResult, write}
+use Rattle.capi.specs.Calls.{stateLengthOf, MeasureCall, measured, measureCall, WriteCall, written, writeCall}
+
+-- ---- all words of a list set
+
+pub one-set : (l : List ℕ) (a : ℕ) → length l ≡ 1 → set l 0 a ≡ a ∷ []
+one-set [] a e = absurd (omega arith)
+one-set (x ∷ []) a e = refl
+one-set (x ∷ y ∷ l) a e = absurd (omega arith)
+
+pub two-set : (l : List ℕ) (a b : ℕ) → length l ≡ 2 → set (set l 0 a) 1 b ≡ a ∷ b ∷ []
+two-set [] a b e = absurd (omega arith)
+two-set (x ∷ l) a b e = ap (λ (t : List ℕ). a ∷ t) (one-set l b (omega arith))
+
+-- ---- the calls
+
+pub length-refused : (n : ℕ) (bs : List Band) → badShape n (take n bs) ≡ true → 0 ≡ stateLengthOf n bs
+unfolding stateLengthOf
+length-refused n bs e = rw e
+
+pub length-given : (n : ℕ) (bs : List Band) → badShape n (take n bs) ≡ false → stateLength (take n bs) ≡ stateLengthOf n bs
+unfolding stateLengthOf
+length-given n bs e = rw e
+
+module _ (ws scratch : List ℕ) (p : Contribution) (m : Markers) (answer : List ℕ) where
+
+  pub measure-unlisted : length answer ≢ 2 → record { refusal = 3; scratch = scratch; answer = answer } ≡ measureCall ws scratch p m answer
+  unfolding measureCall
+  measure-unlisted h = rw (ne-eqb (length answer) 2 h)
+
+  pub measure-listed : (r : MeasureAnswer) (s l : List ℕ) → length answer ≡ 2 → record { answer = r; scratch = s } ≡ measure ws scratch p m → l ≡ r .header ∷ r .body ∷ []
+      → record { refusal = r .refusal; scratch = s; answer = l } ≡ measureCall ws scratch p m answer
+  unfolding measureCall
+  measure-listed r s l h e g = rw (eq-eqb (length answer) 2 h, g) (ap measured e)
+
+module _ (ws scratch : List ℕ) (p : Contribution) (body : List ℕ) (m : Markers) (number : ℕ) (output answer : List ℕ) where
+
+  pub write-unlisted : length answer ≢ 1 → record { refusal = 3; state = ws; scratch = scratch; output = output; answer = answer } ≡ writeCall ws scratch p body m number output answer
+  unfolding writeCall
+  write-unlisted h = rw (ne-eqb (length answer) 1 h)
+
+  pub write-listed : (r : WriteAnswer) (vs s o l : List ℕ) → length answer ≡ 1 → record { answer = r; state = vs; scratch = s; output = o } ≡ write ws scratch p body m number output → l ≡ r .bytes ∷ []
+      → record { refusal = r .refusal; state = vs; scratch = s; output = o; answer = l } ≡ writeCall ws scratch p body m number output answer
+  unfolding writeCall
+  write-listed r vs s o l h e g = rw (eq-eqb (length answer) 1 h, g) (ap written e)
