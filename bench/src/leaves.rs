@@ -406,4 +406,6 @@ fn main() {
         bench.trees(&mut rng, side, "layers 0 to 3", 0, 4, &[1, 2, 3, 4]);
         bench.trees(&mut rng, side, "zero planes 4 to 11", 4, 12, &[999]);
     }
+    // the threshold 0 puts and reads no bit: what is left is a call's set-up
+    bench.trees(&mut rng, 1, "set-up", 0, 4, &[0, 0]);
 }

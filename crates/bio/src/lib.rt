@@ -144,11 +144,14 @@ fn write_chunks(out: &mut [u8], b: Bio, v: u32, n: u32) -> Bio
     bio
 }
 
-// Most numbers fit the held byte.
+// Most numbers have one bit, or fit the held byte.
 pub fn opj_bio_write(out: &mut [u8], b: Bio, v: u32, n: u32) -> Bio
     requires { ⌜ (FreeBitsClear b) × (n ≤ 32) ⌝ }
     ensures { λ r. ⌜ output (now (out .exit)) r ≡ putBits (output (now (out .entry)) b) (bitsOf n v) ⌝ }
 {
+    if n == 1 {
+        return opj_bio_putbit(out, b, v & 1);
+    }
     if n <= b.ct {
         return hold_bits(b, v, n);
     }
@@ -244,11 +247,14 @@ fn read_chunks(src: &[u8], b: Bio, n: u32) -> Decoded
     Decoded { value, bio }
 }
 
-// Most numbers lie within the held byte.
+// Most numbers have one bit, or lie within the held byte.
 pub fn opj_bio_read(src: &[u8], b: Bio, n: u32) -> Decoded
     requires { ⌜ (b .ct ≤ 8) × (n ≤ 32) ⌝ }
     ensures { λ r. ⌜ decoded r ≡ readBits (now (src .entry)) n b ⌝ }
 {
+    if n == 1 {
+        return opj_bio_getbit(src, b);
+    }
     if n <= b.ct {
         return held_bits(b, n);
     }

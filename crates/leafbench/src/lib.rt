@@ -33,11 +33,8 @@ fn write_number(out: &mut [u8], b: Bio, v: u32, width: u8) -> Bio
     requires { ⌜ FreeBitsClear b ⌝ }
     ensures { λ r. ⌜ output (now (out .exit)) r ≡ putBits (output (now (out .entry)) b) (bitsOf (min width 32) v) ⌝ }
 {
-    let n = wide(width);
-    if n < 32 {
-        return bio::opj_bio_write(out, b, v, n);
-    }
-    bio::opj_bio_write(out, b, v, 32)
+    let n = math::opj_uint_min(wide(width), 32);
+    bio::opj_bio_write(out, b, v, n)
 }
 
 fn write_numbers(out: &mut [u8], b: Bio, values: &[u32], widths: &[u8], n: usize) -> Bio
@@ -68,11 +65,8 @@ fn read_number(src: &[u8], b: Bio, width: u8) -> Decoded
     requires { ⌜ b .ct ≤ 8 ⌝ }
     ensures { λ r. ⌜ decoded r ≡ readBits (now (src .entry)) (min width 32) b ⌝ }
 {
-    let n = wide(width);
-    if n < 32 {
-        return bio::opj_bio_read(src, b, n);
-    }
-    bio::opj_bio_read(src, b, 32)
+    let n = math::opj_uint_min(wide(width), 32);
+    bio::opj_bio_read(src, b, n)
 }
 
 fn read_numbers(src: &[u8], b: Bio, values: &mut [u32], widths: &[u8], n: usize) -> Bio

@@ -3,3 +3,4 @@ pub mod Setting
 pub mod Coding
 pub mod Seeking
 pub mod Reading
+pub mod OneNode

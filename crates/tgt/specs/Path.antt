@@ -33,6 +33,12 @@ pub record PathIn (size base : ℕ) (row : List ℕ) (depth x : ℕ) : Type 0 wh
   pub long : depth ≤ length row
   pub inside : (i : ℕ) → i < depth → base + 3 * (getD row i 0 + x / 2 ^ i) + 2 < size
 
+-- the nodes on the first levels alone, of which there may be none
+pub record NodesIn (size base : ℕ) (row : List ℕ) (levels x : ℕ) : Type 0 where
+  pub atMostSeven : levels ≤ 7
+  pub long : levels ≤ length row
+  pub inside : (i : ℕ) → i < levels → base + 3 * (getD row i 0 + x / 2 ^ i) + 2 < size
+
 abbrev pub noLevel : Level
 noLevel = record { w = 0; h = 0 }
 

@@ -145,6 +145,10 @@ heldBits-is src b k h = (λ i. found (behind-none i) (heldBits b k .bio)) ∙ sy
     behind-none : heldBits b k .value ≡ 0 * 2 ^ k + heldBits b k .value
     behind-none = omega arith
 
+pub getBit-read : (src : List ℕ) (b : Bio) → getBit src b ≡ readBits src 1 b
+unfolding readBits readBitsOnto
+getBit-read src b = let e : getBit src b .value ≡ 0 * 2 + getBit src b .value = omega arith in λ i. found (e i) (getBit src b .bio)
+
 -- ---- a turn
 
 onto-split : (src : List ℕ) (k m v : ℕ) (b : Bio) → readBitsOnto src (k + m) v b ≡ readBitsOnto src m (readBitsOnto src k v b .value) (readBitsOnto src k v b .bio)

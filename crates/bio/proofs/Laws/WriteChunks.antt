@@ -58,6 +58,10 @@ pub holdBit-is : (b : Bio) (bit : ℕ) → bit ≤ 1 → holdBits b bit 1 ≡ ho
 unfolding holdBits holdBit
 holdBit-is b bit h = let e : bit % 2 ≡ bit = omega arith in rw e
 
+pub putBit-is : (o : Output) (v bit : ℕ) → bit ≡ v % 2 → putBit o bit ≡ putBits o (bitsOf 1 v)
+unfolding putBits bitsOf
+putBit-is o v bit e = let q : bit ≡ v / 2 ^ 0 % 2 = omega arith in ap (putBit o) q
+
 -- ---- room is made once
 
 pub makeRoom-twice : (o : Output) → FreeBitsClear (o .bio) → makeRoom (makeRoom o) ≡ makeRoom o

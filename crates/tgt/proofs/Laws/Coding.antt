@@ -1,14 +1,14 @@
 -- Coding a node in the steps of the code, and a path node by node.
 use mathlib.Core.Path.{_≡_, refl, sym, ap, _∙_, subst}
-use mathlib.Core.Bool.{Bool, true, false, cond, _&&_, _||_, true≢false}
+use mathlib.Core.Bool.{Bool, true, false, cond, _&&_, true≢false}
 use mathlib.Core.List.{List, [], _∷_, _++_, append-nil}
 use Prim.Native.Nat.{ℕ, zero, suc, _+_, _-_, _*_, _^_, _≤_, _<_, max, min}
 use native.Mathlib.Nat.{suc-add, zero-add}
 use native.Mathlib.Omega.{arith}
-use lib.Dec.{eqb, leb}
+use lib.Dec.{eqb, ltb, leb}
 use lib.ListN.{set, replicate}
 use lib.Seq.{getD-set-other, set-getD}
-use borrow.Author.Tests.{lt-ltb, le-ltb, leb-true, leb-false, eqb-true}
+use borrow.Author.Tests.{lt-ltb, le-ltb, ltb-true, ltb-false, leb-true, eqb-true}
 use Rattle.t800.specs.declared.Bio.{Bio}
 use Rattle.t800.specs.TagTree.{codePath, lowAfter, nodeBits, knownAfter, value, low, known}
 use Rattle.t800.proofs.Laws.Tests.{if-ne}
@@ -63,6 +63,10 @@ zeros-turn o b left h =
 
 -- ---- a node
 
+pub both : (a b : Bool) → a && b ≡ true → (a ≡ true) × (b ≡ true)
+both true b e = (refl, e)
+both false b e = absurd (true≢false (sym e))
+
 module _ (t at from : ℕ) (ws : List ℕ) (o : Output) where
   -- storing known again, behind a new low
   known-again : (to : ℕ) → set (set ws (at + 1) to) (at + 2) (known ws at) ≡ set ws (at + 1) to
@@ -87,7 +91,7 @@ module _ (t at from : ℕ) (ws : List ℕ) (o : Output) where
       rw (q, sym e, lt-ltb to t h, getD-set-other ws (at + 1) (at + 2) to 0 n, putBits-append o (replicate {A = ℕ} (to - from) 0) (cond (eqb (known ws at) 0) (1 ∷ []) []))
 
   -- low lies at the threshold or above it
-  code-past : t ≤ from → codeFrom t at from ws o ≡ record { words = set ws (at + 1) from; output = o; low = from }
+  pub code-past : t ≤ from → codeFrom t at from ws o ≡ record { words = set ws (at + 1) from; output = o; low = from }
   unfolding lowAfter putBits
   code-past h =
       let z : from - from ≡ 0 = omega arith in
@@ -102,17 +106,36 @@ module _ (t at from : ℕ) (ws : List ℕ) (o : Output) where
       let w : set (set ws (at + 1) from) (at + 2) 1 ≡ set ws (at + 1) from = subst (λ (j : ℕ). set (set ws (at + 1) from) (at + 2) j ≡ set ws (at + 1) from) k (known-again from) in
       rw (e, lt-ltb from t h, z, k, w)
 
-  -- nothing but low changes
-  pub code-nothing : leb t from || (leb (value ws at) from && eqb (known ws at) 1) ≡ true
-      → codeFrom t at from ws o ≡ record { words = set ws (at + 1) from; output = o; low = from }
-  code-nothing h = by (leb t from) (leb (value ws at) from) (eqb (known ws at) 1) refl refl refl h
-    where
-      by : (a b c : Bool) → leb t from ≡ a → leb (value ws at) from ≡ b → eqb (known ws at) 1 ≡ c → a || (b && c) ≡ true
-          → codeFrom t at from ws o ≡ record { words = set ws (at + 1) from; output = o; low = from }
-      by true b c e f g r = code-past (leb-true t from e)
-      by false true true e f g r = code-known (leb-false t from e) (leb-true _ _ f) (eqb-true _ _ g)
-      by false true false e f g r = absurd (true≢false (sym r))
-      by false false c e f g r = absurd (true≢false (sym r))
+  -- the same by its test
+  pub code-told : from < t → leb (value ws at) from && eqb (known ws at) 1 ≡ true → codeFrom t at from ws o ≡ record { words = set ws (at + 1) from; output = o; low = from }
+  code-told h e = let b = both (leb (value ws at) from) (eqb (known ws at) 1) e in code-known h (leb-true _ _ (b .0)) (eqb-true _ _ (b .1))
+
+pub bit-le : (b : Bool) → cond b 1 0 ≤ 1
+bit-le true = omega arith
+bit-le false = omega arith
+
+-- one bit, low being one under the threshold and the value not told
+module _ (t at : ℕ) (ws : List ℕ) (o : Output) (pos : 1 ≤ t) (untold : known ws at ≡ 0) where
+  one-by : (p : Bool) → ltb (value ws at) t ≡ p
+      → codeFrom t at (t - 1) ws o ≡ record { words = set (set ws (at + 1) (t - cond p 1 0)) (at + 2) (cond p 1 0); output = putBit o (cond p 1 0); low = t - cond p 1 0 }
+  unfolding codeFrom nodeBits knownAfter lowAfter putBits
+  one-by true e =
+      let v = ltb-true (value ws at) t e in
+      let m : max (t - 1) (min (value ws at) t) ≡ t - 1 = omega arith in
+      let z : t - 1 - (t - 1) ≡ 0 = omega arith in
+      rw (m, z, untold, lt-ltb (t - 1) t (omega arith))
+  one-by false e =
+      let v = ltb-false (value ws at) t e in
+      let m : max (t - 1) (min (value ws at) t) ≡ t = omega arith in
+      let z : t - (t - 1) ≡ 1 = omega arith in
+      let d : t ≡ t - 0 = omega arith in
+      rw (m, z, untold, le-ltb t t (omega arith)) (λ i. record { words = set (set ws (at + 1) (d i)) (at + 2) 0; output = putBit o 0; low = d i })
+
+  pub code-one : (bit : ℕ) → bit ≡ cond (ltb (value ws at) t) 1 0
+      → codeFrom t at (t - 1) ws o ≡ record { words = set (set ws (at + 1) (t - bit)) (at + 2) bit; output = putBit o bit; low = t - bit }
+  code-one bit e =
+      one-by (ltb (value ws at) t) refl
+      ∙ ap (λ (n : ℕ). record { words = set (set ws (at + 1) (t - n)) (at + 2) n; output = putBit o n; low = t - n }) (sym e)
 
 pub codeFrom-clear : (t at from : ℕ) (ws : List ℕ) (o : Output) → FreeBitsClear (o .bio) → FreeBitsClear (codeFrom t at from ws o .output .bio)
 unfolding codeFrom

@@ -1,6 +1,6 @@
--- `tgt::decode_path` meets its contract. The invariant: the nodes that are left, read into the present words, give the whole.
+-- `tgt::decode_path` meets its contract.
 -- Assumes nothing.
-use mathlib.Core.Path.{_≡_, refl, sym, ap, _∙_, subst}
+use mathlib.Core.Path.{_≡_, sym, ap, _∙_, subst}
 use mathlib.Core.List.{List, reverse}
 use Prim.Native.Nat.{ℕ, _+_, _-_, _*_, _/_, _^_, _≤_, _<_}
 use native.Mathlib.Omega.{arith}
@@ -14,81 +14,78 @@ use borrow.Author.Needs.{needs}
 use Rattle.tgt.proofs.decode_path.Statement.{statement}
 use Rattle.tgt.proofs.decode_path.Tie as tie
 
-abbrev Inv-loop : tie.InvT-loop
-Inv-loop words₀ src base row depth x threshold bio₀ low₀ i₀ words bio low i = (bio .ct ≤ 8)
-    × (length words ≡ length words₀)
-    × (i ≤ depth)
-    × (readPath src base threshold (reverse (nodesOver (take i row) x)) low words bio ≡ readPath src base threshold (reverse (nodesOver (take depth row) x)) 0 words₀ bio₀)
+sub-top : tie.Need-sub-top
+sub-top c = search needs
 
-abbrev μ-loop : tie.MeasureT-loop
-μ-loop words₀ src base row depth x threshold bio₀ low₀ i₀ words bio low i = i
+mul-first-word : tie.Need-mul-first-word
+mul-first-word c = search needs
 
-loop-holds : tie.Need-loop-holds Inv-loop μ-loop
-loop-holds c = (c .before .before .pre .0, refl, omega arith, refl)
+element-copy-out-first-word : tie.Need-element-copy-out-first-word
+element-copy-out-first-word c = search needs
 
-sub-i : tie.Need-sub-i Inv-loop μ-loop
-sub-i c = omega arith
-
-mul-first-word : tie.Need-mul-first-word Inv-loop μ-loop
-mul-first-word c = omega (arith, c .before .before .before .before .pre .1 .atMostSeven)
-
-element-copy-out-first-word : tie.Need-element-copy-out-first-word Inv-loop μ-loop
-element-copy-out-first-word c = omega (arith, c .before .before .before .before .pre .1 .atMostSeven)
-
-first-word-requires : tie.Need-first-word-requires Inv-loop μ-loop
-first-word-requires c κs = let s = c .before .before .before .before .before in
-    let l = c .before .before .loop in
+first-word-requires : tie.Need-first-word-requires
+first-word-requires c κs =
+    let s = c .before .before .before in
     let n : length (s .args .words .now) < 0x1_0000_0000_0000_0000 = search needs in
-    (omega (arith, s .pre .1 .atMostSeven), omega (arith, s .pre .1 .inside (l .i - 1) (omega arith)))
+    (omega (arith, s .pre .1 .atMostSeven, s .pre .1 .some), omega (arith, s .pre .1 .inside (s .args .depth - 1) (omega (arith, s .pre .1 .some))))
 
-decode-node-requires : tie.Need-decode-node-requires Inv-loop μ-loop
-decode-node-requires c κs = let s = c .before .before .before .before .before .before .before in
-    let l = c .before .before .before .before .loop in
-    (l .inv .0, omega (arith, c .before .first-word .ensures, l .inv .1, s .pre .1 .inside (l .i - 1) (omega arith)))
+decode-node-requires : tie.Need-decode-node-requires
+decode-node-requires c κs =
+    let s = c .before .before .before .before .before in
+    (s .pre .0, omega (arith, c .before .first-word .ensures, s .pre .1 .inside (s .args .depth - 1) (omega (arith, s .pre .1 .some))))
 
-loop-less : tie.Need-loop-less Inv-loop μ-loop
-loop-less c = omega arith
-
-loop-again : tie.Need-loop-again Inv-loop μ-loop
-loop-again c = let s = c .before .before .before .before .before .before .before .before .before .before .before in
-    let l = c .before .before .before .before .before .before .before .before .loop in
+decode-below-requires : tie.Need-decode-below-requires
+decode-below-requires c κs =
+    let s = c .before .before .before .before .before .before .before .before .before in
     let r = c .before .before .before .decode-node in
     let src = s .args .src .now in
     let row = s .args .row .now in
+    let ws = s .args .words .now in
     let base = s .args .base in
     let t = s .args .threshold in
+    let d = s .args .depth in
     let x = s .args .x in
-    let n = getD row (l .i - 1) 0 + x / 2 ^ (l .i - 1) in
+    let n = getD row (d - 1) 0 + x / 2 ^ (d - 1) in
     let k = nodeAfter (r .last .0) (r .result) in
-    let e : k ≡ readAt src t (base + 3 * n) (l .low) (l .words) (l .bio) = r .ensures ∙ ap (λ (a : ℕ). readAt src t a (l .low) (l .words) (l .bio)) (c .before .before .before .before .before .first-word .ensures) in (
-      subst (λ (j : NodeAfter). j .bio .ct ≤ 8) (sym e) (readAt-ct src t (base + 3 * n) (l .low) (l .words) (l .bio) (l .inv .0)),
-      r .kept .0 ∙ l .inv .1,
-      omega arith,
-      read-turn src base t n (reverse (nodesOver (take (l .i - 1) row) x)) (l .low) (l .words) (l .bio) k e
-          ∙ ap (λ (ns : List ℕ). readPath src base t ns (l .low) (l .words) (l .bio)) (sym (node-down row (l .i) x (omega arith) (omega (arith, s .pre .1 .long))))
-          ∙ l .inv .3,
+    let e : k ≡ readAt src t (base + 3 * n) 0 ws (s .args .b) = r .ensures ∙ ap (λ (a : ℕ). readAt src t a 0 ws (s .args .b)) (c .before .before .before .before .before .first-word .ensures) in (
+      subst (λ (j : NodeAfter). j .bio .ct ≤ 8) (sym e) (readAt-ct src t (base + 3 * n) 0 ws (s .args .b) (s .pre .0)),
+      record {
+        atMostSeven = omega (arith, s .pre .1 .atMostSeven);
+        long = omega (arith, s .pre .1 .long);
+        inside = λ i h. omega (arith, r .kept .0, s .pre .1 .inside i (omega arith));
+      },
     )
 
-same-length : tie.Need-same-length Inv-loop μ-loop
-same-length c = c .before .loop .inv .1
+same-length : tie.Need-same-length
+same-length c = search needs
 
-returns : tie.Need-returns Inv-loop μ-loop
-unfolding nodesOver readPath
-returns c = let l = c .before .loop in let e : l .i ≡ 0 = omega arith in rw e at (l .inv .3)
+returns : tie.Need-returns
+returns c =
+    let s = c .before .before .before .before .before .before .before .before .before .before .before .before in
+    let r = c .before .before .before .before .before .before .decode-node in
+    let src = s .args .src .now in
+    let row = s .args .row .now in
+    let ws = s .args .words .now in
+    let base = s .args .base in
+    let t = s .args .threshold in
+    let d = s .args .depth in
+    let x = s .args .x in
+    let n = getD row (d - 1) 0 + x / 2 ^ (d - 1) in
+    let k = nodeAfter (r .last .0) (r .result) in
+    let e : k ≡ readAt src t (base + 3 * n) 0 ws (s .args .b) = r .ensures ∙ ap (λ (a : ℕ). readAt src t a 0 ws (s .args .b)) (c .before .before .before .before .before .before .before .before .first-word .ensures) in
+    c .before .before .decode-below .ensures
+    ∙ read-turn src base t n (reverse (nodesOver (take (d - 1) row) x)) 0 ws (s .args .b) k e
+    ∙ ap (λ (ns : List ℕ). readPath src base t ns 0 ws (s .args .b)) (sym (node-down row d x (s .pre .1 .some) (s .pre .1 .long)))
 
 pub decode-path-spec : {M : Type 1} → statement M
 decode-path-spec =
     tie.close
     (tie.spec
-    Inv-loop
-    μ-loop
-    loop-holds
-    sub-i
+    sub-top
     mul-first-word
     element-copy-out-first-word
     first-word-requires
     decode-node-requires
-    loop-less
-    loop-again
+    decode-below-requires
     same-length
     returns)

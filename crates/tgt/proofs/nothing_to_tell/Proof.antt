@@ -5,13 +5,10 @@ use Rattle.tgt.proofs.nothing_to_tell.Statement.{statement}
 use Rattle.tgt.proofs.nothing_to_tell.Tie as tie
 
 returns : tie.Need-returns
-returns c = simp (le-leb _ _ (c .if1 .taken))
+returns c = simp (lt-leb _ _ (c .if1 .taken))
 
 returns-2 : tie.Need-returns-2
-returns-2 c = simp (lt-leb _ _ (c .before .if1 .left), lt-leb _ _ (c .if2 .taken))
-
-returns-3 : tie.Need-returns-3
-returns-3 c = simp (lt-leb _ _ (c .before .if1 .left), le-leb _ _ (c .if2 .left))
+returns-2 c = simp (le-leb _ _ (c .if1 .left))
 
 pub nothing-to-tell-spec : {M : Type 1} → statement M
-nothing-to-tell-spec = tie.close (tie.spec returns returns-2 returns-3)
+nothing-to-tell-spec = tie.close (tie.spec returns returns-2)

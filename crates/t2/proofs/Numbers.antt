@@ -1,0 +1,309 @@
+-- Demand 1 of the calls, from their contracts.
+use mathlib.Core.Path.{_≡_, refl, sym, ap, _∙_, subst}
+use mathlib.Core.Logic.{_≢_}
+use mathlib.Core.Bool.{Bool, true, false, cond, not, _&&_, _||_, true≢false}
+use mathlib.Core.List.{List, [], _∷_, _++_, reverse}
+use Prim.Native.Nat.{ℕ, zero, suc, _+_, _-_, _*_, _/_, _≤_, _<_}
+use native.Mathlib.Omega.{arith}
+use lib.ListN.{length, take, set}
+use lib.Dec.{ltb, leb, eqb}
+use borrow.Author.Tests.{eq-eqb, ne-eqb, eqb-true, eqb-false}
+use Rattle.t800.specs.declared.Bio.{Bio}
+use Rattle.t800.specs.Bits.{Decoded, bioAt, getBit, endsInFF}
+use Rattle.t800.specs.State.{Block, reader, notYetIncluded, layer, bands, blocks, lengthBits}
+use Rattle.t800.specs.Ranges.{validState}
+use Rattle.t800.specs.Segments.{width, readComma}
+use Rattle.t800.specs.PassCount.{readPasses}
+use Rattle.t800.specs.TagTree.{PathRead, value, readPath}
+use Rattle.t800.specs.Reports.{absent}
+use Rattle.t800.specs.Start.{StartResult, startRefusal, start}
+use Rattle.t800.specs.MarkerSegments.{readSop}
+use Rattle.t800.specs.ReadHeader.{HeaderRead, refused, movedTo, withReport, readSegment, readSegments, readIncluded, readNewBlock, readOldBlock, readBlock, readBlocks, readHeader, passesTaken}
+use Rattle.t800.specs.WriteHeader.{isNew}
+use Rattle.t800.specs.Packet.{MeasureResult, measureRefusal, measure, WriteResult, writeRefusal, write, ReadResult, readRefusal, readAbsent, readPresent, read}
+use Rattle.t800.specs.RoundTrip.{WriteCall, writeOf, ReadCall, readOf}
+use Rattle.t800.proofs.Laws.Tests.{if-true, if-false, if-eq, if-ne, either, on-eq}
+use Rattle.t2.specs.Calls.{Started, Measured, Written, WasRead}
+use Rattle.t2.specs.Numbers.{Check, check, startChecks, measureChecks, bodyChecks, writeChecks, readChecks, NoneHolds, NumberIs, NumbersOfCalls}
+
+-- ---- the first check that holds
+
+unfoldable firstOf : List Check → ℕ
+firstOf [] = 0
+firstOf (c ∷ cs) = cond (c .holds) (c .number) (firstOf cs)
+
+abbrev NotAmong : ℕ → List Check → Type 0
+NotAmong n [] = n ≢ 0
+NotAmong n (c ∷ cs) = (n ≢ c .number) × NotAmong n cs
+
+-- no number comes twice, none is 0, all are at most 13
+abbrev Distinct : List Check → Type 0
+Distinct [] = Unit {0}
+Distinct (c ∷ cs) = NotAmong (c .number) cs × (c .number ≤ 13) × Distinct cs
+
+not-first : (n : ℕ) (cs : List Check) → NotAmong n cs → firstOf cs ≢ n
+unfolding firstOf
+not-first n [] a = λ e. a (sym e)
+not-first n (c ∷ cs) a = either (λ (z : ℕ). z ≢ n) (c .holds) _ _ (λ e. a .0 (sym e)) (not-first n cs (a .1))
+
+not-zero : (n : ℕ) (cs : List Check) → NotAmong n cs → n ≢ 0
+not-zero n [] a = a
+not-zero n (c ∷ cs) a = not-zero n cs (a .1)
+
+first-up-to : (cs : List Check) → Distinct cs → firstOf cs ≤ 13
+unfolding firstOf
+first-up-to [] d = omega arith
+first-up-to (c ∷ cs) d = either (λ (z : ℕ). z ≤ 13) (c .holds) _ _ (d .1) (first-up-to cs (d .2))
+
+on-bool {ℓ} : {X : Type ℓ} (b : Bool) → (b ≡ true → X) → (b ≡ false → X) → X
+on-bool true f g = f refl
+on-bool false f g = g refl
+
+none-then : (cs : List Check) → Distinct cs → firstOf cs ≡ 0 → NoneHolds cs
+unfolding firstOf
+none-then [] d e = tt
+none-then (c ∷ cs) d e =
+    on-bool (c .holds)
+    (λ t. absurd (not-zero (c .number) cs (d .0) (sym (if-true (c .holds) (c .number) (firstOf cs) t) ∙ e)))
+    (λ f. (f, none-then cs (d .2) (sym (if-false (c .holds) (c .number) (firstOf cs) f) ∙ e)))
+
+then-zero : (cs : List Check) → NoneHolds cs → firstOf cs ≡ 0
+unfolding firstOf
+then-zero [] n = refl
+then-zero (c ∷ cs) n = if-false (c .holds) (c .number) (firstOf cs) (n .0) ∙ then-zero cs (n .1)
+
+among-later : (n : ℕ) (earlier later : List Check) (c : Check) → NotAmong n (earlier ++ c ∷ later) → n ≢ c .number
+among-later n [] later c a = a .0
+among-later n (e ∷ es) later c a = among-later n es later c (a .1)
+
+given-then : (earlier later : List Check) (c : Check) → Distinct (earlier ++ c ∷ later) → firstOf (earlier ++ c ∷ later) ≡ c .number → NoneHolds earlier × (c .holds ≡ true)
+unfolding firstOf
+given-then [] later c d e =
+    on-bool (c .holds) (λ t. (tt, t)) (λ f. absurd (not-first (c .number) later (d .0) (sym (if-false (c .holds) (c .number) (firstOf later) f) ∙ e)))
+given-then (b ∷ es) later c d e =
+    let rest : List Check = es ++ c ∷ later in
+    on-bool (b .holds)
+    (λ t. absurd (among-later (b .number) es later c (d .0) (sym (if-true (b .holds) (b .number) (firstOf rest) t) ∙ e)))
+    (λ f. let r = given-then es later c (d .2) (sym (if-false (b .holds) (b .number) (firstOf rest) f) ∙ e) in ((f, r .0), r .1))
+
+then-given : (earlier later : List Check) (c : Check) → NoneHolds earlier → c .holds ≡ true → firstOf (earlier ++ c ∷ later) ≡ c .number
+unfolding firstOf
+then-given [] later c n t = if-true (c .holds) (c .number) (firstOf later) t
+then-given (b ∷ es) later c n t = if-false (b .holds) (b .number) (firstOf (es ++ c ∷ later)) (n .0) ∙ then-given es later c (n .1) t
+
+number-is : (cs : List Check) (n : ℕ) → Distinct cs → n ≡ firstOf cs → NumberIs cs n
+number-is cs n d e =
+    record {
+      up-to-13 = rw e (first-up-to cs d);
+      accepts = ((λ z. none-then cs d (sym e ∙ z)), (λ h. e ∙ then-zero cs h));
+      exactly = λ earlier later c s. (
+        (λ z. given-then earlier later c (subst Distinct s d) (sym (ap firstOf s) ∙ sym e ∙ z)),
+        (λ h t. e ∙ ap firstOf s ∙ then-given earlier later c h t),
+      );
+    }
+
+-- ---- start
+
+start-number : (r : ℕ) (s : Started r) → s .result .answer ≡ firstOf (startChecks r s)
+unfolding firstOf start startRefusal
+start-number r s = ap (λ (z : StartResult). z .answer) (s .met)
+
+start-stays : (r : ℕ) (s : Started r) → s .result .answer ≢ 0 → s .result .state ≡ s .lent
+unfolding start
+start-stays r s h =
+    let e = s .met in
+    let why : ℕ = startRefusal r (s .count) (s .bands) (s .style) (s .planes) (s .lent) in
+    ap (λ (z : StartResult). z .state) e ∙ if-ne why 0 _ (s .lent) (λ z. h (ap (λ (x : StartResult). x .answer) e ∙ z))
+
+-- ---- measure and write
+
+measure-number : (m : Measured) → m .result .answer .refusal ≡ firstOf (measureChecks (m .state) (m .call))
+unfolding firstOf measure measureRefusal
+measure-number m =
+    let why : ℕ = measureRefusal (m .state) (m .call .scratch) (m .call .contribution) in
+    ap (λ (z : MeasureResult). z .answer .refusal) (m .met) ∙ number why _ _ refl refl
+  where
+    number : (why : ℕ) (done other : MeasureResult) → done .answer .refusal ≡ 0 → other .answer .refusal ≡ why → cond (eqb why 0) done other .answer .refusal ≡ why
+    number why done other d o = on-eq why 0
+        (λ e. ap (λ (z : MeasureResult). z .answer .refusal) (if-eq why 0 done other e) ∙ d ∙ sym e)
+        (λ e. ap (λ (z : MeasureResult). z .answer .refusal) (if-ne why 0 done other e) ∙ o)
+
+-- the checks cs, and behind them ds
+first-append : (cs ds : List Check) → Distinct cs → firstOf (cs ++ ds) ≡ cond (not (eqb (firstOf cs) 0)) (firstOf cs) (firstOf ds)
+unfolding firstOf
+first-append [] ds d = refl
+first-append (c ∷ cs) ds d =
+    on-bool (c .holds)
+    (λ t. rw t (sym (if-true (not (eqb (c .number) 0)) (c .number) (firstOf ds) (ap not (ne-eqb (c .number) 0 (not-zero (c .number) cs (d .0)))))))
+    (λ f. rw f (first-append cs ds (d .2)))
+
+measure-distinct : (ws : List ℕ) (c : WriteCall) → Distinct (measureChecks ws c)
+measure-distinct ws c = omega arith
+
+module _ (w : Written) where
+  abbrev writeWhy : ℕ
+  writeWhy = writeRefusal (w .state) (w .call .scratch) (w .call .contribution) (w .call .body) (w .call .markers) (w .call .number) (w .call .output)
+
+  write-why : w .result .answer .refusal ≡ writeWhy
+  unfolding write
+  write-why = ap (λ (z : WriteResult). z .answer .refusal) (w .met) ∙ number writeWhy _ _ _ refl refl refl
+    where
+      number : (why : ℕ) (done noSpace unchanged : WriteResult) → done .answer .refusal ≡ 0 → noSpace .answer .refusal ≡ why → unchanged .answer .refusal ≡ why
+          → cond (eqb why 0) done (cond (eqb why 11) noSpace unchanged) .answer .refusal ≡ why
+      number why done noSpace unchanged d n u = on-eq why 0
+          (λ e. ap (λ (z : WriteResult). z .answer .refusal) (if-eq why 0 done _ e) ∙ d ∙ sym e)
+          (λ e. ap (λ (z : WriteResult). z .answer .refusal) (if-ne why 0 done _ e) ∙ either (λ (z : WriteResult). z .answer .refusal ≡ why) (eqb why 11) noSpace unchanged n u)
+
+  write-number : w .result .answer .refusal ≡ firstOf (writeChecks (w .state) (w .call))
+  unfolding firstOf measureRefusal writeRefusal
+  write-number = write-why ∙ sym (first-append (measureChecks (w .state) (w .call)) (bodyChecks (w .state) (w .call)) (measure-distinct (w .state) (w .call)))
+
+  write-stays : w .result .answer .refusal ≢ 0 → w .result .state ≡ w .state
+  unfolding write
+  write-stays h =
+      ap (λ (z : WriteResult). z .state) (w .met ∙ if-ne writeWhy 0 _ _ (λ e. h (write-why ∙ e)))
+      ∙ either (λ (z : WriteResult). z .state ≡ w .state) (eqb writeWhy 11) _ _ refl refl
+
+-- ---- read
+
+-- a header gives none of the other numbers
+record HeaderNumber (r : HeaderRead) : Type 0 where
+  one-of : (eqb (r .refusal) 0 || eqb (r .refusal) 9 || eqb (r .refusal) 13 || eqb (r .refusal) 12) ≡ true
+
+same-number : (r z : HeaderRead) → z .refusal ≡ r .refusal → HeaderNumber r → HeaderNumber z
+same-number r z e h = record { one-of = rw e (h .one-of) }
+
+given-9 : HeaderNumber (refused 9)
+given-9 = record { one-of = refl }
+
+given-13 : HeaderNumber (refused 13)
+given-13 = record { one-of = refl }
+
+given-12 : HeaderNumber (refused 12)
+given-12 = record { one-of = refl }
+
+module _ (src : List ℕ) (room : ℕ) where
+  segment-number : (i : ℕ) (k : Block) (n : ℕ) (r : HeaderRead) → HeaderNumber r → HeaderNumber (readSegment src room i k n r)
+  unfolding readSegment
+  segment-number i k n r h = either HeaderNumber (ltb 32 (width (lengthBits (r .words) (k .at)) n)) _ _ given-9 (either HeaderNumber (leb room (length (r .records))) _ _ given-13 (same-number r _ refl h))
+
+  segments-number : (i : ℕ) (k : Block) (f left : ℕ) (r : HeaderRead) → HeaderNumber r → HeaderNumber (readSegments src room i k f left r)
+  unfolding readSegments
+  segments-number i k zero left r h = h
+  segments-number i k (suc f) left r h =
+      let n : ℕ = passesTaken (r .words) k left in
+      let a = segment-number i k n r h in
+      either HeaderNumber (eqb (readSegment src room i k n r .refusal) 0 && ltb 0 (left - n)) _ _ (segments-number i k f (left - n) (readSegment src room i k n r) a) a
+
+  included-number : (i : ℕ) (k : Block) (r : HeaderRead) → HeaderNumber r → HeaderNumber (readIncluded src room i k r)
+  unfolding readIncluded
+  included-number i k r h = segments-number i k _ _ _ (same-number r _ refl h)
+
+  new-number : (t i : ℕ) (k : Block) (r : HeaderRead) → HeaderNumber r → HeaderNumber (readNewBlock src room t i k r)
+  unfolding readNewBlock
+  new-number t i k r h =
+      let w : PathRead = readPath src (k .inclTree) (t + 1) (reverse (k .path)) 0 (r .words) (r .bio) in
+      let moved : HeaderNumber (movedTo (w .words) (w .bio) r) = same-number r _ refl h in
+      either HeaderNumber (ltb (value (w .words) (k .inclTree + 3 * k .leaf)) (t + 1)) (readIncluded src room i k (movedTo (w .words) (w .bio) r)) (withReport absent (movedTo (w .words) (w .bio) r)) (included-number i k _ moved) (same-number r _ refl h)
+
+  old-number : (i : ℕ) (k : Block) (r : HeaderRead) → HeaderNumber r → HeaderNumber (readOldBlock src room i k r)
+  unfolding readOldBlock
+  old-number i k r h =
+      let b : Decoded = getBit src (r .bio) in
+      let moved : HeaderNumber (movedTo (r .words) (b .bio) r) = same-number r _ refl h in
+      either HeaderNumber (eqb (b .value) 0) (withReport absent (movedTo (r .words) (b .bio) r)) (readIncluded src room i k (movedTo (r .words) (b .bio) r)) (same-number r _ refl h) (included-number i k _ moved)
+
+  block-number : (t i : ℕ) (k : Block) (r : HeaderRead) → HeaderNumber r → HeaderNumber (readBlock src room t i k r)
+  unfolding readBlock
+  block-number t i k r h = either HeaderNumber (isNew (r .words) k) (readNewBlock src room t i k r) (readOldBlock src room i k r) (new-number t i k r h) (old-number i k r h)
+
+  blocks-number : (t i : ℕ) (ks : List Block) (r : HeaderRead) → HeaderNumber r → HeaderNumber (readBlocks src room t i ks r)
+  unfolding readBlocks
+  blocks-number t i [] r h = h
+  blocks-number t i (k ∷ ks) r h =
+      let a = block-number t i k r h in
+      either HeaderNumber (eqb (readBlock src room t i k r .refusal) 0) _ _ (blocks-number t (i + 1) ks (readBlock src room t i k r) a) a
+
+  header-number : (ws : List ℕ) (b : Bio) → HeaderNumber (readHeader src room ws b)
+  unfolding readHeader
+  header-number ws b =
+      let r : HeaderRead = record { refusal = 0; words = ws; bio = b; reports = []; records = [] } in
+      either HeaderNumber (eqb (readBlocks src room (layer ws) 0 (blocks (bands ws)) r .refusal) 0 && endsInFF src (readBlocks src room (layer ws) 0 (blocks (bands ws)) r .bio)) _ _ given-12 (blocks-number (layer ws) 0 (blocks (bands ws)) r (record { one-of = refl }))
+
+-- its number is that of the check that holds
+of-header : (h : ℕ) (present : Bool) → (eqb h 0 || eqb h 9 || eqb h 13 || eqb h 12) ≡ true
+    → firstOf (check 9 (present && eqb h 9) ∷ check 13 (present && eqb h 13) ∷ check 12 (present && eqb h 12) ∷ []) ≡ cond present h 0
+unfolding firstOf
+of-header h false e = refl
+of-header h true e =
+    on-eq h 9 (λ q. if-eq h 9 9 _ q ∙ sym q)
+    (λ n. if-ne h 9 9 _ n ∙ on-eq h 13 (λ q. if-eq h 13 13 _ q ∙ sym q)
+    (λ m. if-ne h 13 13 _ m ∙ on-eq h 12 (λ q. if-eq h 12 12 _ q ∙ sym q)
+    (λ l. if-ne h 12 12 _ l ∙ sym (none-of h n m l e))))
+  where
+    none-of : (h : ℕ) → h ≢ 9 → h ≢ 13 → h ≢ 12 → (eqb h 0 || eqb h 9 || eqb h 13 || eqb h 12) ≡ true → h ≡ 0
+    none-of h n m l e = eqb-true h 0 (last (eqb h 0) (rw (ne-eqb h 9 n, ne-eqb h 13 m, ne-eqb h 12 l) at e))
+      where
+        last : (b : Bool) → (b || false || false || false) ≡ true → b ≡ true
+        last true e = refl
+        last false e = e
+
+module _ (r : WasRead) where
+  abbrev call : ReadCall
+  call = r .call
+
+  abbrev early : ℕ
+  early = readRefusal (r .state) (call .scratch) (call .reports)
+
+  abbrev firstBit : ℕ
+  firstBit = getBit (call .input) (bioAt (readSop (call .markers) (call .input) .skip)) .value
+
+  abbrev header : HeaderRead
+  header = readHeader (call .input) (length (call .records) / 4) (r .state) (getBit (call .input) (bioAt (readSop (call .markers) (call .input) .skip)) .bio)
+
+  abbrev readWhy : ℕ
+  readWhy = cond (not (eqb early 0)) early (cond (not (eqb firstBit 0)) (header .refusal) 0)
+
+  read-why : r .result .answer .refusal ≡ readWhy
+  unfolding read readAbsent readPresent
+  read-why = ap (λ (z : ReadResult). z .answer .refusal) (r .met) ∙ number (not (eqb early 0)) (eqb firstBit 0) (eqb (header .refusal) 0) refl _ _ _ _ refl refl refl refl
+    where
+      number : (refused absent done : Bool) → eqb (header .refusal) 0 ≡ done → (a b c d : ReadResult) → a .answer .refusal ≡ early → b .answer .refusal ≡ 0 → c .answer .refusal ≡ 0 → d .answer .refusal ≡ header .refusal
+          → cond refused a (cond absent b (cond done c d)) .answer .refusal ≡ cond refused early (cond (not absent) (header .refusal) 0)
+      number true absent done e a b c d p q s t = p
+      number false true done e a b c d p q s t = q
+      number false false true e a b c d p q s t = s ∙ sym (eqb-true (header .refusal) 0 e)
+      number false false false e a b c d p q s t = t
+
+  read-number : r .result .answer .refusal ≡ firstOf (readChecks (r .state) call)
+  unfolding firstOf readRefusal
+  read-number =
+      let early-checks : List Check = check 5 (not (validState reader (r .state) (length (call .scratch)))) ∷ check 6 (eqb (layer (r .state)) notYetIncluded) ∷ check 3 (not (eqb (length (call .reports)) (4 * length (blocks (bands (r .state)))))) ∷ [] in
+      let present : Bool = not (eqb firstBit 0) in
+      let late : List Check = check 9 (present && eqb (header .refusal) 9) ∷ check 13 (present && eqb (header .refusal) 13) ∷ check 12 (present && eqb (header .refusal) 12) ∷ [] in
+      let d : Distinct early-checks = omega arith in
+      read-why
+      ∙ ap (λ (z : ℕ). cond (not (eqb early 0)) early z) (sym (of-header (header .refusal) present (header-number (call .input) (length (call .records) / 4) (r .state) _ .one-of)))
+      ∙ sym (first-append early-checks late d)
+
+  read-stays : r .result .answer .refusal ≢ 0 → r .result .state ≡ r .state
+  unfolding read readAbsent readPresent
+  read-stays h = ap (λ (z : ReadResult). z .state) (r .met) ∙ kept (not (eqb early 0)) (eqb firstBit 0) (eqb (header .refusal) 0) _ _ _ _ (λ e. h (ap (λ (z : ReadResult). z .answer .refusal) (r .met) ∙ e)) refl refl refl refl
+    where
+      kept : (refused absent done : Bool) (a b c d : ReadResult) → cond refused a (cond absent b (cond done c d)) .answer .refusal ≢ 0 → a .state ≡ r .state → b .answer .refusal ≡ 0 → c .answer .refusal ≡ 0 → d .state ≡ r .state
+          → cond refused a (cond absent b (cond done c d)) .state ≡ r .state
+      kept true absent done a b c d n p q s t = p
+      kept false true done a b c d n p q s t = absurd (n q)
+      kept false false true a b c d n p q s t = absurd (n s)
+      kept false false false a b c d n p q s t = t
+
+-- ---- together
+
+pub numbers-of-calls : NumbersOfCalls
+unfolding NumbersOfCalls
+numbers-of-calls = (
+  (λ r s. (number-is (startChecks r s) (s .result .answer) (omega arith) (start-number r s), start-stays r s)),
+  (λ m. number-is (measureChecks (m .state) (m .call)) (m .result .answer .refusal) (measure-distinct (m .state) (m .call)) (measure-number m)),
+  (λ w. (number-is (writeChecks (w .state) (w .call)) (w .result .answer .refusal) (omega arith, omega arith, (omega arith, omega arith, omega arith)) (write-number w), write-stays w)),
+  (λ r. (number-is (readChecks (r .state) (r .call)) (r .result .answer .refusal) (omega arith) (read-number r), read-stays r)),
+)
