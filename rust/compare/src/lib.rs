@@ -1,0 +1,4 @@
+//! The engine against document 01, written once more as plain Rust, and against crate openjp2's own packet functions.
+pub mod model;
+#[cfg(openjp2)]
+pub mod openjp2;
