@@ -1,3 +1,4 @@
 pub mod Front
 pub mod Calls
 pub mod Numbers
+pub mod Layer

@@ -63,8 +63,9 @@ fn next_segment(lengths: &[u32], marks: &[u8], from: usize) -> SegmentLength
     SegmentLength { passes, bytes }
 }
 
-fn field_width(lenbits: u32, passes: u32) -> u32
-    requires { ⌜ (lenbits ≤ 32) × (passes ≤ 164) ⌝ }
+// Of a length field.
+pub fn field_width(lenbits: u32, passes: u32) -> u32
+    requires { ⌜ (lenbits ≤ 96) × (passes ≤ 164) ⌝ }
     ensures { λ r. ⌜ r ≡ width lenbits passes ⌝ }
 {
     let log = math::opj_uint_floorlog2(passes);
@@ -244,7 +245,7 @@ fn code_block(
 
 // ---- a row of blocks
 
-fn place_at(p: Place, i: usize) -> Place
+pub fn place_at(p: Place, i: usize) -> Place
     requires { ⌜ (p .x + i < 2 ^ 32) × (p .at + 4 * i < 2 ^ 63) ⌝ }
     ensures { λ r. ⌜ r ≡ placeAt p i ⌝ }
 {

@@ -19,14 +19,14 @@ use t800::Bio;
 use t800::Level;
 
 // Where a band's words begin, the nodes and levels of one of its trees, its blocks across.
-struct Grid {
-    start: usize,
-    nodes: usize,
-    depth: usize,
-    w: usize,
+pub struct Grid {
+    pub start: usize,
+    pub nodes: usize,
+    pub depth: usize,
+    pub w: usize,
 }
 
-fn grid_of(band: Band, start: usize) -> Grid
+pub fn grid_of(band: Band, start: usize) -> Grid
     requires { ⌜ SidesUpTo64 band ⌝ }
     ensures { λ r. ⌜ r ≡ gridOf start band ⌝ }
 {
@@ -40,14 +40,14 @@ fn grid_of(band: Band, start: usize) -> Grid
     }
 }
 
-fn rows(band: Band) -> usize
+pub fn rows(band: Band) -> usize
     ensures { λ r. ⌜ r ≡ band .down ⌝ }
 {
     band.down as usize
 }
 
 // Row y's first block.
-fn row_place(g: Grid, y: usize) -> Place
+pub fn row_place(g: Grid, y: usize) -> Place
     requires { ⌜ (g .w ≤ 64) × (y ≤ 64) × (g .start + 6 * g .nodes + 4 * (y * g .w) < 2 ^ 63) ⌝ }
     ensures { λ r. ⌜ r ≡ rowPlace g y ⌝ }
 {

@@ -56,7 +56,7 @@ nodes-before q base [] (suc d) x h = tt
 nodes-before q base (n ∷ ns) (suc d) x h =
     (omega (arith, h 0 (omega arith)), nodes-before q base ns d (x / 2) (λ i l. subst (λ (z : ℕ). base + 3 * (getD ns i 0 + z) + 2 < q) (sym (shr-shr x 1 i ∙ ap (λ (z : ℕ). x / 2 ^ z) (omega arith))) (h (suc i) (omega arith))))
 
-onto-before : (q base : ℕ) (js ks : List ℕ) → Before q base js → Before q base ks → Before q base (reverseAux js ks)
+pub onto-before : (q base : ℕ) (js ks : List ℕ) → Before q base js → Before q base ks → Before q base (reverseAux js ks)
 onto-before q base [] ks h g = g
 onto-before q base (j ∷ js) ks h g = onto-before q base js (j ∷ ks) (h .1) (h .0, g)
 

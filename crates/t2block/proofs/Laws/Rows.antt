@@ -80,7 +80,7 @@ module _ (size n i : ℕ) (p : Place) (row : List ℕ) (h : i < n) (r : RowIn si
         inside = omega (arith, r .inside);
       }
 
-  before-next : BlockBefore (p .at + 4 * (i + 1)) (blockOver (placeAt p i) row)
+  pub before-next : BlockBefore (p .at + 4 * (i + 1)) (blockOver (placeAt p i) row)
   before-next =
       record {
         incl = path-before _ (p .incl) row (p .depth) (p .x + i) (path-wider (p .at) _ (p .incl) row (p .depth) (p .x + i) (omega arith) (r .incl i h));

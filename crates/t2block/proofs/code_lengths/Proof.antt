@@ -41,7 +41,7 @@ field-width-requires c κs =
     let l = c .before .before .loop in
     let s = c .before .before .before .before .before .before in
     let b = begins (l .i) (s .args .lengths .now) (s .args .marks .now) _ (s .pre .1 .marked) (omega arith) (l .inv .3) (c .next-segment .ensures) in
-    (s .pre .2, omega (arith, b .most, s .pre .1 .few))
+    (omega (arith, s .pre .2), omega (arith, b .most, s .pre .1 .few))
 
 opj-bio-write-requires : tie.Need-opj-bio-write-requires Inv-loop μ-loop
 opj-bio-write-requires c κs =

@@ -93,7 +93,7 @@ count-from at b zero i = refl
 count-from at b (suc n) i = ap suc (count-from at b n (i + 1))
 
 module _ (size start : ℕ) (b : Band) (h : BandIn size start b) where
-  has-levels : tgt.TreeLevels (b .across) (b .down) (padded (levels (b .across) (b .down))) (length (levels (b .across) (b .down)))
+  pub has-levels : tgt.TreeLevels (b .across) (b .down) (padded (levels (b .across) (b .down))) (length (levels (b .across) (b .down)))
   unfolding padded
   has-levels = tgt.tree-levels (b .across) (b .down) _
 
@@ -127,7 +127,7 @@ module _ (size start : ℕ) (b : Band) (h : BandIn size start b) where
     pub at-row : (P : Place → List ℕ → ℕ → Type 0) (p : Place) (r : List ℕ) (n : ℕ) → p ≡ place → r ≡ row → n ≡ b .across → P place row (b .across) → P p r n
     at-row P p r n a c d k = subst (λ (z : Place). P z r n) (sym a) (subst (λ (z : List ℕ). P place z n) (sym c) (subst (P place row) (sym d) k))
 
-    path-as : (x : ℕ) → x < b .across → pathOver row (place .depth) (0 + x) ≡ pathToRoot (b .across) (b .down) (y * b .across + x)
+    pub path-as : (x : ℕ) → x < b .across → pathOver row (place .depth) (0 + x) ≡ pathToRoot (b .across) (b .down) (y * b .across + x)
     path-as x k =
         ap (pathOver row (place .depth)) (zero-add x) ∙ tgt.path-climbs (b .across) (b .down) _ _ has-levels x y k l ∙ sym (tgt.climb (b .across) (b .down) _ _ has-levels x y k l .is)
 
@@ -179,7 +179,7 @@ module _ (size start : ℕ) (b : Band) (h : BandIn size start b) where
     abbrev left : ℕ → List Block
     left z = blocksFrom start b (b .across * (b .down - z)) (z * b .across)
 
-    split-row : left y ≡ blocksFrom start b (b .across) (y * b .across + 0) ++ left (y + 1)
+    pub split-row : left y ≡ blocksFrom start b (b .across) (y * b .across + 0) ++ left (y + 1)
     split-row =
         let e : b .across * (b .down - y) ≡ b .across + b .across * (b .down - (y + 1)) = let d : b .down - y ≡ suc (b .down - (y + 1)) = omega arith in ap (λ (z : ℕ). b .across * z) d ∙ omega arith in
         let f : y * b .across + b .across ≡ (y + 1) * b .across = omega arith in

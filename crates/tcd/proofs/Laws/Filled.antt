@@ -34,7 +34,7 @@ row-over lent xs n a b c d l h =
 
 -- ---- records
 
-length-records : (rs : List SegmentRecord) → length (recordWords rs) ≡ 4 * length rs
+pub length-records : (rs : List SegmentRecord) → length (recordWords rs) ≡ 4 * length rs
 unfolding recordWords
 length-records [] = refl
 length-records (r ∷ rs) = let i = length-records rs in omega arith
@@ -53,7 +53,7 @@ record-put lent rs r h =
 
 -- ---- reports
 
-length-reports : (rs : List BlockReport) → length (reportWords rs) ≡ 4 * length rs
+pub length-reports : (rs : List BlockReport) → length (reportWords rs) ≡ 4 * length rs
 unfolding reportWords
 length-reports [] = refl
 length-reports (r ∷ rs) = let i = length-reports rs in omega arith

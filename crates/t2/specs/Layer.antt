@@ -1,0 +1,72 @@
+-- One layer written and read back: what the book owes for it (document 01, "The round trip").
+use mathlib.Core.Path.{_≡_}
+use Prim.Native.Nat.{ℕ, _*_, _≤_}
+use mathlib.Core.List.{List, []}
+use lib.ListN.{length, take}
+use lib.Dec.{T}
+use Rattle.t800.specs.declared.Band.{Band}
+use Rattle.t800.specs.declared.Markers.{Markers}
+use Rattle.t800.specs.declared.ReadAnswer.{ReadAnswer}
+use Rattle.t800.specs.Base.{overwrite}
+use Rattle.t800.specs.State.{writer, reader}
+use Rattle.t800.specs.Start.{start}
+use Rattle.t800.specs.Reports.{reportWords, recordWords}
+use Rattle.t800.specs.WriteHeader.{Contribution}
+use Rattle.t800.specs.Packet.{front, WriteResult, write}
+use Rattle.t800.specs.Book.{Entry, newBook, entry, terminatedAsStyle}
+
+-- what a precinct is started with, and what its first layer brings
+pub record FirstLayer : Type 0 where
+  pub count : ℕ
+  pub bands : List Band
+  pub style : ℕ
+  pub planes : List ℕ
+  pub contribution : Contribution
+  pub body : List ℕ
+  pub markers : Markers
+  pub number : ℕ
+
+-- the book's entry for it
+abbrev pub entryOf : FirstLayer → Entry
+entryOf l = entry (l .style) (newBook (take (l .count) (l .bands)) (l .planes)) (l .contribution .counts) (l .contribution .lengths)
+
+-- the lists lent for it
+pub record Lent : Type 0 where
+  pub writer : List ℕ
+  pub reader : List ℕ
+  pub scratch : List ℕ
+  pub output : List ℕ
+  pub reports : List ℕ
+  pub records : List ℕ
+
+-- the writer's state before it
+abbrev pub startOf : FirstLayer → Lent → List ℕ
+startOf l b = start writer (l .count) (l .bands) (l .style) (l .planes) (b .writer) .state
+
+abbrev pub writeOfLayer : FirstLayer → Lent → WriteResult
+writeOfLayer l b = write (startOf l b) (b .scratch) (l .contribution) (l .body) (l .markers) (l .number) (b .output)
+
+-- nothing refuses the starts and the packet, and the premises of the round trip hold
+pub record Premises (l : FirstLayer) (b : Lent) : Type 0 where
+  pub writer-starts : start writer (l .count) (l .bands) (l .style) (l .planes) (b .writer) .answer ≡ 0
+  pub reader-starts : start reader (l .count) (l .bands) (l .style) [] (b .reader) .answer ≡ 0
+  pub accepted : writeOfLayer l b .answer .refusal ≡ 0
+  pub terminated : T (terminatedAsStyle (l .style) (newBook (take (l .count) (l .bands)) (l .planes)) (l .contribution .counts) (l .contribution .marks))
+  pub scratch-length : length (b .scratch) ≡ length (b .reader)
+  pub reports-length : length (b .reports) ≡ 4 * length (entryOf l .reports)
+  pub records-enough : 4 * length (entryOf l .records) ≤ length (b .records)
+
+-- then the answer, the reports and the records are the entry
+pub record ReadBack (l : FirstLayer) (b : Lent) (answer : ReadAnswer) (reports records : List ℕ) : Type 0 where
+  pub accepts : answer .refusal ≡ 0
+  pub present : answer .present ≡ 1
+  -- the packet's bytes less its body's
+  pub taken : answer .taken ≡ length (front (startOf l b) (l .contribution) (l .markers) (l .number))
+  pub segments : answer .segments ≡ length (entryOf l .records)
+  pub sop-mark : answer .sop ≡ 0
+  pub eph-mark : answer .eph ≡ 0
+  pub reports-are : reports ≡ reportWords (entryOf l .reports)
+  pub records-are : records ≡ overwrite (b .records) (recordWords (entryOf l .records))
+
+abbrev pub GivesEntry : FirstLayer → Lent → ReadAnswer → List ℕ → List ℕ → Type 0
+GivesEntry l b answer reports records = Premises l b → ReadBack l b answer reports records

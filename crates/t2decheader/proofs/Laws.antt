@@ -1,0 +1,4 @@
+pub mod BandBlocks
+pub mod ReadRows
+pub mod ReadBands
+pub mod HeaderEnd
