@@ -40,7 +40,7 @@ fn main() {
     let types: Vec<String> = TYPES.iter().map(|name| name.to_string()).collect();
     pick(&src, "t2.rs", |line| T2.iter().any(|item| declares(line, item)));
     pick(&src, "tcd.rs", |line| TCD.iter().any(|item| declares(line, item)));
-    pick(&src, "types.rs", |line| types.iter().any(|name| ["struct", "type", "union"].iter().any(|kind| declares(line, &format!("{kind} {name}")))));
+    pick(&src, "types.rs", |line| types.iter().any(|name| ["struct", "type", "union", "enum"].iter().any(|kind| declares(line, &format!("{kind} {name}")))));
 }
 
 /// The line begins this item.

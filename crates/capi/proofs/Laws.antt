@@ -12,11 +12,12 @@ use Rattle.t800.specs.declared.Band.{Band}
 use Rattle.t800.specs.declared.Markers.{Markers}
 use Rattle.t800.specs.declared.MeasureAnswer.{MeasureAnswer}
 use Rattle.t800.specs.declared.WriteAnswer.{WriteAnswer}
+use Rattle.t800.specs.declared.ReadAnswer.{ReadAnswer}
 use Rattle.t800.specs.State.{stateLength}
 use Rattle.t800.specs.Ranges.{badShape}
 use Rattle.t800.specs.WriteHeader.{Contribution}
-use Rattle.t800.specs.Packet.{MeasureResult, measure, WriteResult, write}
-use Rattle.capi.specs.Calls.{stateLengthOf, MeasureCall, measured, measureCall, WriteCall, written, writeCall}
+use Rattle.t800.specs.Packet.{MeasureResult, measure, WriteResult, write, ReadResult, read}
+use Rattle.capi.specs.Calls.{stateLengthOf, MeasureCall, measured, measureCall, WriteCall, written, writeCall, ReadCall, readAnswer, readOf, readCall}
 
 -- ---- all words of a list set
 
@@ -28,6 +29,12 @@ one-set (x ∷ y ∷ l) a e = absurd (omega arith)
 pub two-set : (l : List ℕ) (a b : ℕ) → length l ≡ 2 → set (set l 0 a) 1 b ≡ a ∷ b ∷ []
 two-set [] a b e = absurd (omega arith)
 two-set (x ∷ l) a b e = ap (λ (t : List ℕ). a ∷ t) (one-set l b (omega arith))
+
+pub five-set : (l : List ℕ) (a b c d e : ℕ) → length l ≡ 5 → set (set (set (set (set l 0 a) 1 b) 2 c) 3 d) 4 e ≡ a ∷ b ∷ c ∷ d ∷ e ∷ []
+five-set [] a b c d e h = absurd (omega arith)
+five-set (x ∷ []) a b c d e h = absurd (omega arith)
+five-set (x ∷ y ∷ []) a b c d e h = absurd (omega arith)
+five-set (x ∷ y ∷ z ∷ l) a b c d e h = ap (λ (t : List ℕ). a ∷ b ∷ c ∷ t) (two-set l d e (omega arith))
 
 -- ---- the calls
 
@@ -60,3 +67,14 @@ module _ (ws scratch : List ℕ) (p : Contribution) (body : List ℕ) (m : Marke
       → record { refusal = r .refusal; state = vs; scratch = s; output = o; answer = l } ≡ writeCall ws scratch p body m number output answer
   unfolding writeCall
   write-listed r vs s o l h e g = rw (eq-eqb (length answer) 1 h, g) (ap written e)
+
+module _ (ws scratch : List ℕ) (m : Markers) (src reports records answer : List ℕ) where
+
+  pub read-unlisted : length answer ≢ 5 → record { refusal = 3; state = ws; scratch = scratch; reports = reports; records = records; answer = answer } ≡ readCall ws scratch m src reports records answer
+  unfolding readCall
+  read-unlisted h = rw (ne-eqb (length answer) 5 h)
+
+  pub read-listed : (r : ReadAnswer) (vs s p q l : List ℕ) → length answer ≡ 5 → record { answer = r; state = vs; scratch = s; reports = p; records = q } ≡ read ws scratch m src reports records → l ≡ readAnswer r
+      → record { refusal = r .refusal; state = vs; scratch = s; reports = p; records = q; answer = l } ≡ readCall ws scratch m src reports records answer
+  unfolding readCall
+  read-listed r vs s p q l h e g = rw (eq-eqb (length answer) 5 h, g) (ap readOf e)

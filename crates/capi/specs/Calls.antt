@@ -8,10 +8,11 @@ use Rattle.t800.specs.declared.Band.{Band}
 use Rattle.t800.specs.declared.Markers.{Markers}
 use Rattle.t800.specs.declared.MeasureAnswer.{MeasureAnswer}
 use Rattle.t800.specs.declared.WriteAnswer.{WriteAnswer}
+use Rattle.t800.specs.declared.ReadAnswer.{ReadAnswer}
 use Rattle.t800.specs.State.{stateLength}
 use Rattle.t800.specs.Ranges.{badShape}
 use Rattle.t800.specs.WriteHeader.{Contribution}
-use Rattle.t800.specs.Packet.{MeasureResult, measure, WriteResult, write}
+use Rattle.t800.specs.Packet.{MeasureResult, measure, WriteResult, write, ReadResult, read}
 
 -- across, down and planes of a band
 abbrev pub band : ℕ → ℕ → ℕ → Band
@@ -55,3 +56,25 @@ unfoldable pub writeCall : List ℕ → List ℕ → Contribution → List ℕ �
 writeCall ws scratch p body m number output answer =
     cond (eqb (length answer) 1) (written (write ws scratch p body m number output))
     (record { refusal = 3; state = ws; scratch = scratch; output = output; answer = answer })
+
+-- ---- reading
+
+pub record ReadCall : Type 0 where
+  pub refusal : ℕ
+  pub state : List ℕ
+  pub scratch : List ℕ
+  pub reports : List ℕ
+  pub records : List ℕ
+  pub answer : List ℕ
+
+abbrev pub readAnswer : ReadAnswer → List ℕ
+readAnswer a = a .present ∷ a .taken ∷ a .segments ∷ a .sop ∷ a .eph ∷ []
+
+abbrev pub readOf : ReadResult → ReadCall
+readOf r = record { refusal = r .answer .refusal; state = r .state; scratch = r .scratch; reports = r .reports; records = r .records; answer = readAnswer (r .answer) }
+
+-- state, scratch, marker settings, input, block reports, segment records, the lent list of five words
+unfoldable pub readCall : List ℕ → List ℕ → Markers → List ℕ → List ℕ → List ℕ → List ℕ → ReadCall
+readCall ws scratch m src reports records answer =
+    cond (eqb (length answer) 5) (readOf (read ws scratch m src reports records))
+    (record { refusal = 3; state = ws; scratch = scratch; reports = reports; records = records; answer = answer })

@@ -5,7 +5,7 @@ ghost use lib.ListN.{length, take};
 ghost use Rattle.t800.specs.State.{writer, reader};
 ghost use Rattle.t800.specs.Start.{start};
 ghost use Rattle.t2check.specs.Refusals.{contribution};
-ghost use Rattle.capi.specs.Calls.{band, threeBands, stateLengthOf, measureCall, writeCall};
+ghost use Rattle.capi.specs.Calls.{band, threeBands, stateLengthOf, measureCall, writeCall, readCall};
 use t800::Band;
 use t800::Markers;
 
@@ -128,6 +128,17 @@ fn put_two(answer: &mut [u64], a: u64, b: u64)
     answer[1] = b;
 }
 
+fn put_five(answer: &mut [u64], a: u64, b: u64, c: u64, d: u64, e: u64)
+    requires { ⌜ length (now answer) ≡ 5 ⌝ }
+    ensures { λ _. ⌜ now (answer .exit) ≡ a ∷ b ∷ c ∷ d ∷ e ∷ [] ⌝ }
+{
+    answer[0] = a;
+    answer[1] = b;
+    answer[2] = c;
+    answer[3] = d;
+    answer[4] = e;
+}
+
 // Answers header and body bytes.
 #[no_mangle]
 pub extern "C" fn tonkelvi_measure(
@@ -172,5 +183,27 @@ pub extern "C" fn tonkelvi_write(
     }
     let r = t2::write(state, scratch, counts, lengths, marks, body, Markers { sop, eph }, number, output);
     put_one(answer, r.bytes);
+    r.refusal
+}
+
+// Answers present, bytes taken, segments, SOP mark, EPH mark.
+#[no_mangle]
+pub extern "C" fn tonkelvi_read(
+    state: &mut [u32],
+    scratch: &mut [u32],
+    src: &[u8],
+    sop: bool,
+    eph: bool,
+    reports: &mut [u32],
+    records: &mut [u32],
+    answer: &mut [u64],
+) -> u32
+    ensures { λ r. ⌜ record { refusal = r; state = now (state .exit); scratch = now (scratch .exit); reports = now (reports .exit); records = now (records .exit); answer = now (answer .exit) } ≡ readCall (now (state .entry)) (now (scratch .entry)) (record { sop = sop; eph = eph }) (now (src .entry)) (now (reports .entry)) (now (records .entry)) (now (answer .entry)) ⌝ }
+{
+    if answer.len() != 5 {
+        return 3;
+    }
+    let r = t2read::read(state, scratch, Markers { sop, eph }, src, reports, records);
+    put_five(answer, r.present as u64, r.taken, r.segments, r.sop as u64, r.eph as u64);
     r.refusal
 }

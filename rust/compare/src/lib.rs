@@ -2,3 +2,7 @@
 pub mod model;
 #[cfg(openjp2)]
 pub mod openjp2;
+mod inputs;
+pub mod pair;
+mod random;
+pub mod trials;
