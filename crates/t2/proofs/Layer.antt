@@ -1,11 +1,13 @@
 -- One layer written and read back, from the round trip of the calls.
 use mathlib.Core.Path.{_≡_, refl, sym, ap, _∙_, subst}
+use mathlib.Core.Logic.{_≢_}
 use mathlib.Core.Bool.{Bool, true, false, cond, _&&_}
 use mathlib.Core.List.{List, [], _∷_}
 use Prim.Native.Nat.{ℕ, zero, suc, _-_, _*_, _≤_}
 use lib.ListN.{length, take}
 use lib.Dec.{T, eqb}
 use borrow.Author.Tests.{eq-eqb}
+use Rattle.t800.specs.declared.ReadAnswer.{ReadAnswer}
 use Rattle.t800.specs.Base.{sum}
 use Rattle.t800.specs.State.{writer, reader}
 use Rattle.t800.specs.Start.{StartResult, start}
@@ -93,3 +95,16 @@ layer-read-back l b s t p q sm tm pm qm scratch reader′ h =
       reports-are = g .reports;
       records-are = g .records;
     }
+
+-- a refused start or packet is no such layer
+module _ (l : FirstLayer) (b : Lent) (answer : ReadAnswer) (reports records : List ℕ) where
+  pub writer-refused : (s : StartResult) → s ≡ start writer (l .count) (l .bands) (l .style) (l .planes) (b .writer) → s .answer ≢ 0 → GivesEntry l b answer reports records
+  writer-refused s e n h = absurd (n (ap (λ (z : StartResult). z .answer) e ∙ h .writer-starts))
+
+  pub reader-refused : (s : StartResult) → s ≡ start reader (l .count) (l .bands) (l .style) [] (b .reader) → s .answer ≢ 0 → GivesEntry l b answer reports records
+  reader-refused s e n h = absurd (n (ap (λ (z : StartResult). z .answer) e ∙ h .reader-starts))
+
+  pub packet-refused : (s : StartResult) (p : WriteResult) → s ≡ start writer (l .count) (l .bands) (l .style) (l .planes) (b .writer)
+      → p ≡ write (s .state) (b .scratch) (l .contribution) (l .body) (l .markers) (l .number) (b .output) → p .answer .refusal ≢ 0 → GivesEntry l b answer reports records
+  packet-refused s p e f n h =
+      absurd (n (ap (λ (z : WriteResult). z .answer .refusal) f ∙ ap (λ (z : StartResult). write (z .state) (b .scratch) (l .contribution) (l .body) (l .markers) (l .number) (b .output) .answer .refusal) e ∙ h .accepted))

@@ -26,6 +26,9 @@ pub record FirstLayer : Type 0 where
   pub markers : Markers
   pub number : ℕ
 
+abbrev pub firstLayer : ℕ → List Band → ℕ → List ℕ → Contribution → List ℕ → Markers → ℕ → FirstLayer
+firstLayer n bs s ps p body m number = record { count = n; bands = bs; style = s; planes = ps; contribution = p; body = body; markers = m; number = number }
+
 -- the book's entry for it
 abbrev pub entryOf : FirstLayer → Entry
 entryOf l = entry (l .style) (newBook (take (l .count) (l .bands)) (l .planes)) (l .contribution .counts) (l .contribution .lengths)
@@ -38,6 +41,9 @@ pub record Lent : Type 0 where
   pub output : List ℕ
   pub reports : List ℕ
   pub records : List ℕ
+
+abbrev pub lent : List ℕ → List ℕ → List ℕ → List ℕ → List ℕ → List ℕ → Lent
+lent w r scratch output reports records = record { writer = w; reader = r; scratch = scratch; output = output; reports = reports; records = records }
 
 -- the writer's state before it
 abbrev pub startOf : FirstLayer → Lent → List ℕ

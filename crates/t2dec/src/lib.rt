@@ -93,11 +93,12 @@ fn read_segment(
     ensures { λ o. ⌜ WithAnyReports (λ reports. reading (now (words .exit)) reports (now (records .exit)) o) (λ reports. nextSegment (now (src .entry)) block (blockAt at) n (reading (now (words .entry)) reports (now (records .entry)) r)) ⌝ }
 {
     let width = t2block::field_width(words[at + 1], n);
+    let count = r.count;
+    let room = records.len() / 4;
     if 32 < width {
         return refuse(r, FIELD_TOO_WIDE);
     }
-    let count = r.count;
-    if records.len() / 4 <= count {
+    if room <= count {
         return refuse(r, TOO_FEW_RECORDS);
     }
     let len = bio::opj_bio_read(src, r.bio, width);
@@ -105,9 +106,10 @@ fn read_segment(
     words[at + 3] = s.used + n;
     tcd::put_record(records, count, block as u32, s.opens, n, len.value);
     let bio = len.bio;
+    let next = count + 1;
     Run {
         bio,
-        count: count + 1,
+        count: next,
         refusal: 0,
     }
 }

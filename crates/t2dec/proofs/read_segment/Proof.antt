@@ -68,8 +68,8 @@ cast-put-record c = search needs
 put-record-requires : tie.Need-put-record-requires
 put-record-requires c κs = search needs
 
-add-t13 : tie.Need-add-t13
-add-t13 c = search needs
+add-next : tie.Need-add-next
+add-next c = search needs
 
 same-length : tie.Need-same-length
 same-length c = search needs
@@ -104,7 +104,7 @@ read-segment-spec =
     slice-write-words-2
     cast-put-record
     put-record-requires
-    add-t13
+    add-next
     same-length
     same-length-2
     returns-3)
