@@ -1,11 +1,11 @@
 -- The lent list of answer words, and the calls with one of the right length or another.
-use Prim.Native.Nat.{ℕ}
+use Prim.Native.Nat.{ℕ, _<_}
 use native.Mathlib.Omega.{arith}
 use mathlib.Core.Bool.{true, false, cond}
 use mathlib.Core.Path.{_≡_, refl, ap}
 use mathlib.Core.Logic.{_≢_}
 use mathlib.Core.List.{List, [], _∷_}
-use lib.ListN.{length, set, take}
+use lib.ListN.{length, length-set, set, take}
 use lib.Dec.{eqb}
 use borrow.Author.Tests.{eq-eqb, ne-eqb}
 use Rattle.t800.specs.declared.Band.{Band}
@@ -35,6 +35,11 @@ five-set [] a b c d e h = absurd (omega arith)
 five-set (x ∷ []) a b c d e h = absurd (omega arith)
 five-set (x ∷ y ∷ []) a b c d e h = absurd (omega arith)
 five-set (x ∷ y ∷ z ∷ l) a b c d e h = ap (λ (t : List ℕ). a ∷ b ∷ c ∷ t) (two-set l d e (omega arith))
+
+pub five-long : (l : List ℕ) (a b c d : ℕ) → length l ≡ 5 → 4 < length (set (set (set (set l 0 a) 1 b) 2 c) 3 d)
+five-long l a b c d h =
+    let e : length (set (set (set (set l 0 a) 1 b) 2 c) 3 d) ≡ length l = simp length-set in
+    omega arith
 
 -- ---- the calls
 

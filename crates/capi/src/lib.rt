@@ -203,7 +203,7 @@ pub extern "C" fn tonkelvi_read(
     if answer.len() != 5 {
         return 3;
     }
-    let r = t2read::read(state, scratch, Markers { sop, eph }, src, reports, records);
+    let r = t2::read(state, scratch, src, Markers { sop, eph }, reports, records);
     put_five(answer, r.present as u64, r.taken, r.segments, r.sop as u64, r.eph as u64);
     r.refusal
 }
