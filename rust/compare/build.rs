@@ -16,12 +16,55 @@ const T2: &[&str] = &[
 ];
 const TCD: &[&str] = &["fn opj_tcd_reinit_segment", "fn opj_tcd_is_band_empty"];
 const TYPES: &[&str] = &[
-    "opj_tcp", "opj_tcp_t", "opj_simple_mcc_decorrelation_data", "opj_simple_mcc_decorrelation_data_t", "J2K_MCT_ARRAY_TYPE", "MCT_ARRAY_TYPE", "opj_mct_data", "opj_mct_data_t",
-    "opj_tccp", "opj_tccp_t", "opj_stepsize", "opj_stepsize_t", "opj_ppx_struct", "opj_ppx", "opj_cp", "opj_cp_t", "C2RustUnnamed_0", "J2K_QUALITY_LAYER_ALLOCATION_STRATEGY", "opj_encoding_param", "opj_encoding_param_t",
-    "opj_decoding_param", "opj_decoding_param_t", "opj_tcd_tile", "opj_tcd_tile_t", "opj_tcd_tilecomp", "opj_tcd_tilecomp_t", "opj_tcd_resolution", "opj_tcd_resolution_t",
-    "opj_tcd_band", "opj_tcd_band_t", "opj_tcd_precinct", "opj_tcd_precinct_t", "opj_tgt_tree", "opj_tgt_tree_t", "opj_tgt_node", "opj_tgt_node_t", "C2RustUnnamed_1",
-    "opj_tcd_cblk_dec", "opj_tcd_cblk_dec_t", "opj_tcd_seg_data_chunk", "opj_tcd_seg_data_chunk_t", "opj_tcd_seg", "opj_tcd_seg_t", "opj_tcd_cblk_enc", "opj_tcd_cblk_enc_t",
-    "opj_tcd_pass", "opj_tcd_pass_t", "opj_tcd_layer", "opj_tcd_layer_t",
+    "opj_tcp",
+    "opj_tcp_t",
+    "opj_simple_mcc_decorrelation_data",
+    "opj_simple_mcc_decorrelation_data_t",
+    "J2K_MCT_ARRAY_TYPE",
+    "MCT_ARRAY_TYPE",
+    "opj_mct_data",
+    "opj_mct_data_t",
+    "opj_tccp",
+    "opj_tccp_t",
+    "opj_stepsize",
+    "opj_stepsize_t",
+    "opj_ppx_struct",
+    "opj_ppx",
+    "opj_cp",
+    "opj_cp_t",
+    "C2RustUnnamed_0",
+    "J2K_QUALITY_LAYER_ALLOCATION_STRATEGY",
+    "opj_encoding_param",
+    "opj_encoding_param_t",
+    "opj_decoding_param",
+    "opj_decoding_param_t",
+    "opj_tcd_tile",
+    "opj_tcd_tile_t",
+    "opj_tcd_tilecomp",
+    "opj_tcd_tilecomp_t",
+    "opj_tcd_resolution",
+    "opj_tcd_resolution_t",
+    "opj_tcd_band",
+    "opj_tcd_band_t",
+    "opj_tcd_precinct",
+    "opj_tcd_precinct_t",
+    "opj_tgt_tree",
+    "opj_tgt_tree_t",
+    "opj_tgt_node",
+    "opj_tgt_node_t",
+    "C2RustUnnamed_1",
+    "opj_tcd_cblk_dec",
+    "opj_tcd_cblk_dec_t",
+    "opj_tcd_seg_data_chunk",
+    "opj_tcd_seg_data_chunk_t",
+    "opj_tcd_seg",
+    "opj_tcd_seg_t",
+    "opj_tcd_cblk_enc",
+    "opj_tcd_cblk_enc_t",
+    "opj_tcd_pass",
+    "opj_tcd_pass_t",
+    "opj_tcd_layer",
+    "opj_tcd_layer_t",
 ];
 
 fn main() {
@@ -40,7 +83,9 @@ fn main() {
     let types: Vec<String> = TYPES.iter().map(|name| name.to_string()).collect();
     pick(&src, "t2.rs", |line| T2.iter().any(|item| declares(line, item)));
     pick(&src, "tcd.rs", |line| TCD.iter().any(|item| declares(line, item)));
-    pick(&src, "types.rs", |line| types.iter().any(|name| ["struct", "type", "union", "enum"].iter().any(|kind| declares(line, &format!("{kind} {name}")))));
+    pick(&src, "types.rs", |line| {
+        types.iter().any(|name| ["struct", "type", "union", "enum"].iter().any(|kind| declares(line, &format!("{kind} {name}"))))
+    });
 }
 
 /// The line begins this item.

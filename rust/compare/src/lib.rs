@@ -1,8 +1,8 @@
 //! The engine against document 01, written once more as plain Rust, and against crate openjp2's own packet functions.
+mod inputs;
 pub mod model;
 #[cfg(openjp2)]
 pub mod openjp2;
-mod inputs;
 pub mod pair;
-mod random;
+pub mod random;
 pub mod trials;

@@ -155,7 +155,8 @@ fn in_range(role: u32, state: &[u32], scratch: usize) -> bool {
     places.iter().all(|p| {
         let nodes = state[p.inclusion..p.block_words].chunks_exact(3);
         let blocks = state[p.block_words..p.block_words + 4 * p.blocks].chunks_exact(4);
-        nodes.into_iter().all(|n| n[0] <= NOT_YET && n[1] <= NOT_YET && n[2] <= 1) && blocks.into_iter().all(|b| block_in_range(role, style, layer, b))
+        nodes.into_iter().all(|n| n[0] <= NOT_YET && n[1] <= NOT_YET && n[2] <= 1)
+            && blocks.into_iter().all(|b| block_in_range(role, style, layer, b))
     })
 }
 
@@ -163,8 +164,11 @@ fn block_in_range(role: u32, style: u32, layer: u32, b: &[u32]) -> bool {
     let (passes, bits, limit, of_segment) = (b[0], b[1], b[2], b[3]);
     let none = passes == 0;
     let bits_right = if none { bits == 0 } else { (3..=32).contains(&bits) };
-    let segment_right =
-        if none || role == WRITER { limit == 0 && of_segment == 0 } else { limits(style).contains(&limit) && 1 <= of_segment && of_segment <= limit };
+    let segment_right = if none || role == WRITER {
+        limit == 0 && of_segment == 0
+    } else {
+        limits(style).contains(&limit) && 1 <= of_segment && of_segment <= limit
+    };
     passes <= MOST_PASSES * layer && bits_right && segment_right
 }
 
@@ -402,7 +406,16 @@ fn code(state: &[u32], scratch: usize, counts: &[u32], lengths: &[u32], marks: &
 }
 
 #[allow(clippy::too_many_arguments)]
-pub fn measure(state: &[u32], scratch: &mut [u32], counts: &[u32], lengths: &[u32], marks: &[u8], sop: bool, eph: bool, answer: &mut [u64]) -> u32 {
+pub fn measure(
+    state: &[u32],
+    scratch: &mut [u32],
+    counts: &[u32],
+    lengths: &[u32],
+    marks: &[u8],
+    sop: bool,
+    eph: bool,
+    answer: &mut [u64],
+) -> u32 {
     if answer.len() != 2 {
         return 3;
     }
@@ -419,7 +432,19 @@ pub fn measure(state: &[u32], scratch: &mut [u32], counts: &[u32], lengths: &[u3
 }
 
 #[allow(clippy::too_many_arguments)]
-pub fn write(state: &mut [u32], scratch: &mut [u32], counts: &[u32], lengths: &[u32], marks: &[u8], body: &[u8], sop: bool, eph: bool, number: u32, output: &mut [u8], answer: &mut [u64]) -> u32 {
+pub fn write(
+    state: &mut [u32],
+    scratch: &mut [u32],
+    counts: &[u32],
+    lengths: &[u32],
+    marks: &[u8],
+    body: &[u8],
+    sop: bool,
+    eph: bool,
+    number: u32,
+    output: &mut [u8],
+    answer: &mut [u64],
+) -> u32 {
     if answer.len() != 1 {
         return 3;
     }
@@ -537,7 +562,16 @@ fn read_blocks(words: &mut [u32], bits: &mut Bits, room: usize) -> Result<Told, 
 }
 
 #[allow(clippy::too_many_arguments)]
-pub fn read(state: &mut [u32], scratch: &mut [u32], src: &[u8], sop: bool, eph: bool, reports: &mut [u32], records: &mut [u32], answer: &mut [u64]) -> u32 {
+pub fn read(
+    state: &mut [u32],
+    scratch: &mut [u32],
+    src: &[u8],
+    sop: bool,
+    eph: bool,
+    reports: &mut [u32],
+    records: &mut [u32],
+    answer: &mut [u64],
+) -> u32 {
     if answer.len() != 5 {
         return 3;
     }

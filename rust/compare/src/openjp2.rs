@@ -83,10 +83,18 @@ pub mod event {
     }
 }
 
-pub mod malloc { include!(concat!(env!("OPENJP2_SRC"), "/malloc.rs")); }
-pub mod math { include!(concat!(env!("OPENJP2_SRC"), "/math.rs")); }
-pub mod bio { include!(concat!(env!("OPENJP2_SRC"), "/bio.rs")); }
-pub mod tgt { include!(concat!(env!("OPENJP2_SRC"), "/tgt.rs")); }
+pub mod malloc {
+    include!(concat!(env!("OPENJP2_SRC"), "/malloc.rs"));
+}
+pub mod math {
+    include!(concat!(env!("OPENJP2_SRC"), "/math.rs"));
+}
+pub mod bio {
+    include!(concat!(env!("OPENJP2_SRC"), "/bio.rs"));
+}
+pub mod tgt {
+    include!(concat!(env!("OPENJP2_SRC"), "/tgt.rs"));
+}
 
 pub mod tcd {
     use super::openjpeg::*;
@@ -113,7 +121,9 @@ pub mod t2 {
     }
 
     mod log {
-        macro_rules! debug { ($($t:tt)*) => {}; }
+        macro_rules! debug {
+            ($($t:tt)*) => {};
+        }
         pub(crate) use debug;
     }
 

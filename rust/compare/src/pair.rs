@@ -50,7 +50,10 @@ impl Counts {
             for (counts, label) in [(&self.by_number, name.to_string()), (&self.with_crate, "by the crate".to_string())] {
                 let row = &counts[call as usize];
                 if row.iter().any(|n| *n > 0) {
-                    println!("{label:>13}  {}", row.iter().map(|n| if *n == 0 { format!("{:>10}", "-") } else { format!("{n:>10}") }).collect::<String>());
+                    println!(
+                        "{label:>13}  {}",
+                        row.iter().map(|n| if *n == 0 { format!("{:>10}", "-") } else { format!("{n:>10}") }).collect::<String>()
+                    );
                 }
             }
         }
@@ -139,21 +142,59 @@ impl Pair {
 
     /// A write on the state. Gives the number, and the packet where it was written.
     #[allow(clippy::too_many_arguments)]
-    pub fn write(&mut self, state: &mut Vec<u32>, scratch: usize, layer: &Layer, body: &[u8], markers: Markers, packet: u32, output: usize, answer: usize) -> (u32, Vec<u8>) {
+    pub fn write(
+        &mut self,
+        state: &mut Vec<u32>,
+        scratch: usize,
+        layer: &Layer,
+        body: &[u8],
+        markers: Markers,
+        packet: u32,
+        output: usize,
+        answer: usize,
+    ) -> (u32, Vec<u8>) {
         let before = state.clone();
         let mut buffers = (vec![USED; scratch], vec![0xa5; output], vec![u64::MAX; answer]);
         let mut expected = buffers.clone();
         let mut expected_state = state.clone();
         let Layer { counts, lengths, marks } = layer;
-        let number = words::write(state, &mut buffers.0, counts, lengths, marks, body, markers.sop, markers.eph, packet, &mut buffers.1, &mut buffers.2);
-        let should = model::write(
-            &mut expected_state, &mut expected.0, counts, lengths, marks, body, markers.sop, markers.eph, packet, &mut expected.1, &mut expected.2,
+        let number = words::write(
+            state,
+            &mut buffers.0,
+            counts,
+            lengths,
+            marks,
+            body,
+            markers.sop,
+            markers.eph,
+            packet,
+            &mut buffers.1,
+            &mut buffers.2,
         );
-        let text = || format!("write {before:?} scratch {scratch} {layer:?} {} bytes {markers:?} {packet} output {output} answer {answer}", body.len());
+        let should = model::write(
+            &mut expected_state,
+            &mut expected.0,
+            counts,
+            lengths,
+            marks,
+            body,
+            markers.sop,
+            markers.eph,
+            packet,
+            &mut expected.1,
+            &mut expected.2,
+        );
+        let text = || {
+            format!(
+                "write {before:?} scratch {scratch} {layer:?} {} bytes {markers:?} {packet} output {output} answer {answer}",
+                body.len()
+            )
+        };
         same("numbers", &number, &should, &text);
         same("states", state, &expected_state, &text);
         same("buffers", &buffers, &expected, &text);
-        let with_crate = (number == 0 || number == 11) && crate_writes(&before, layer, body, markers, packet, (number, state, &buffers.1), &text);
+        let with_crate =
+            (number == 0 || number == 11) && crate_writes(&before, layer, body, markers, packet, (number, state, &buffers.1), &text);
         self.count(Call::Write, number, with_crate);
         let bytes = if number == 0 { buffers.2[0] as usize } else { 0 };
         buffers.1.truncate(bytes);
@@ -162,14 +203,33 @@ impl Pair {
 
     /// A read on the state. Gives the number and the answer.
     #[allow(clippy::too_many_arguments)]
-    pub fn read(&mut self, state: &mut Vec<u32>, scratch: usize, src: &[u8], markers: Markers, reports: usize, records: usize, answer: usize) -> (u32, Vec<u64>) {
+    pub fn read(
+        &mut self,
+        state: &mut Vec<u32>,
+        scratch: usize,
+        src: &[u8],
+        markers: Markers,
+        reports: usize,
+        records: usize,
+        answer: usize,
+    ) -> (u32, Vec<u64>) {
         let before = state.clone();
         let mut buffers = (vec![USED; scratch], vec![USED; reports], vec![USED; records], vec![u64::MAX; answer]);
         let mut expected = buffers.clone();
         let mut expected_state = state.clone();
         let number = words::read(state, &mut buffers.0, src, markers.sop, markers.eph, &mut buffers.1, &mut buffers.2, &mut buffers.3);
-        let should = model::read(&mut expected_state, &mut expected.0, src, markers.sop, markers.eph, &mut expected.1, &mut expected.2, &mut expected.3);
-        let text = || format!("read {before:?} scratch {scratch} {src:02x?} {markers:?} reports {reports} records {records} answer {answer}");
+        let should = model::read(
+            &mut expected_state,
+            &mut expected.0,
+            src,
+            markers.sop,
+            markers.eph,
+            &mut expected.1,
+            &mut expected.2,
+            &mut expected.3,
+        );
+        let text =
+            || format!("read {before:?} scratch {scratch} {src:02x?} {markers:?} reports {reports} records {records} answer {answer}");
         same("numbers", &number, &should, &text);
         same("states", state, &expected_state, &text);
         same("buffers", &buffers, &expected, &text);
@@ -224,7 +284,15 @@ fn crate_measures(state: &[u32], layer: &Layer, markers: Markers, engine: &(Vec<
 }
 
 #[cfg(openjp2)]
-fn crate_writes(before: &[u32], layer: &Layer, body: &[u8], markers: Markers, packet: u32, engine: (u32, &Vec<u32>, &Vec<u8>), text: &dyn Fn() -> String) -> bool {
+fn crate_writes(
+    before: &[u32],
+    layer: &Layer,
+    body: &[u8],
+    markers: Markers,
+    packet: u32,
+    engine: (u32, &Vec<u32>, &Vec<u8>),
+    text: &dyn Fn() -> String,
+) -> bool {
     if !in_domain(before) {
         return false;
     }
@@ -243,7 +311,13 @@ fn crate_writes(before: &[u32], layer: &Layer, body: &[u8], markers: Markers, pa
 
 #[cfg(openjp2)]
 #[allow(clippy::type_complexity)]
-fn crate_reads(before: &[u32], src: &[u8], markers: Markers, engine: (u32, &[u32], &[u32], &[u32], &[u64]), text: &dyn Fn() -> String) -> bool {
+fn crate_reads(
+    before: &[u32],
+    src: &[u8],
+    markers: Markers,
+    engine: (u32, &[u32], &[u32], &[u32], &[u64]),
+    text: &dyn Fn() -> String,
+) -> bool {
     if !in_domain(before) {
         return false;
     }

@@ -108,7 +108,8 @@ impl Trials {
     /// Damaged copies of a packet and noise, each on a copy of the state.
     fn read_copies(&mut self, state: &[u32], packet: &[u8], markers: Markers) {
         for _ in 0..4 {
-            let src = if self.random.once_in(4) { inputs::noise(&mut self.random) } else { inputs::damaged_bytes(&mut self.random, packet) };
+            let src =
+                if self.random.once_in(4) { inputs::noise(&mut self.random) } else { inputs::damaged_bytes(&mut self.random, packet) };
             let records = if self.random.once_in(4) { self.random.below(8) as usize } else { 164 * 4 };
             let markers = if self.random.once_in(4) { inputs::markers(&mut self.random) } else { markers };
             self.read(&mut state.to_vec(), &src, markers, records);
@@ -158,8 +159,15 @@ impl Trials {
             let (length, body) = (state.len(), layer.body() as usize);
             let body = t.random.bytes(body);
             let change = t.random.below(7);
-            let mut near = |n: usize, is: u64| if change != is { n } else { t.random.pick(&[n.saturating_sub(1), n + 1, n.saturating_sub(2), n + 2, 0, 2 * n + 1]) };
-            let (counts, lengths, marks, scratch, answer) = (near(layer.counts.len(), 0), near(layer.lengths.len(), 1), near(layer.marks.len(), 2), near(length, 3), near(1, 4));
+            let mut near = |n: usize, is: u64| {
+                if change != is {
+                    n
+                } else {
+                    t.random.pick(&[n.saturating_sub(1), n + 1, n.saturating_sub(2), n + 2, 0, 2 * n + 1])
+                }
+            };
+            let (counts, lengths, marks, scratch, answer) =
+                (near(layer.counts.len(), 0), near(layer.lengths.len(), 1), near(layer.marks.len(), 2), near(length, 3), near(1, 4));
             let bytes = near(body.len(), 5);
             let mut other = layer.clone();
             other.counts.resize(counts, 1);
@@ -177,7 +185,13 @@ impl Trials {
 
             let mut reader = t.start(false, &shape);
             let (src, blocks) = (inputs::noise(&mut t.random), shape.planes.len());
-            let mut near = |n: usize, is: u64| if change != is { n } else { t.random.pick(&[n.saturating_sub(1), n + 1, n.saturating_sub(4), n + 4, 0, 2 * n + 1]) };
+            let mut near = |n: usize, is: u64| {
+                if change != is {
+                    n
+                } else {
+                    t.random.pick(&[n.saturating_sub(1), n + 1, n.saturating_sub(4), n + 4, 0, 2 * n + 1])
+                }
+            };
             let (reports, scratch, answer) = (near(4 * blocks, 0), near(length, 3), near(5, 4));
             let records = t.random.below(40) as usize;
             t.pair.read(&mut reader, scratch, &src, markers, reports, records, answer);

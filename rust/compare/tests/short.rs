@@ -31,17 +31,17 @@ fn larger_packets() {
 
 #[test]
 fn states() {
-    trial(&[0, 3, 5, 6, 8, 9, 11, 12], |t| t.states(200_000));
+    trial(&[0, 5, 6, 8, 9, 10, 11, 12, 13], |t| t.states(200_000));
 }
 
 #[test]
 fn lists() {
-    trial(&[0, 3, 5, 7, 10, 11, 13], |t| t.lists(100_000));
+    trial(&[0, 3, 5, 10, 11, 13], |t| t.lists(100_000));
 }
 
 #[test]
 fn short_inputs() {
-    trial(&[0, 9, 12], |t| t.short_inputs(7, 1));
+    trial(&[0, 12], |t| t.short_inputs(7, 1));
 }
 
 #[test]

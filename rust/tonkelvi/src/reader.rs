@@ -116,7 +116,16 @@ impl Reader {
 
     fn read_words(&mut self, src: &[u8], markers: Markers) -> Result<[u64; 5], Refusal> {
         let mut answer = [0; 5];
-        checked(words::read(&mut self.state, &mut self.scratch, src, markers.sop, markers.eph, &mut self.reports, &mut self.records, &mut answer))?;
+        checked(words::read(
+            &mut self.state,
+            &mut self.scratch,
+            src,
+            markers.sop,
+            markers.eph,
+            &mut self.reports,
+            &mut self.records,
+            &mut answer,
+        ))?;
         Ok(answer)
     }
 

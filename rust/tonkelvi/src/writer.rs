@@ -84,10 +84,29 @@ impl Writer {
     }
 
     /// The next packet, into the front of `output`; answers its bytes. Refused for want of space, it leaves zeros in `output`.
-    pub fn write_to(&mut self, layer: Contribution, body: &[u8], markers: Markers, number: u32, output: &mut [u8]) -> Result<usize, Refusal> {
+    pub fn write_to(
+        &mut self,
+        layer: Contribution,
+        body: &[u8],
+        markers: Markers,
+        number: u32,
+        output: &mut [u8],
+    ) -> Result<usize, Refusal> {
         let mut answer = [0; 1];
         let Contribution { counts, lengths, marks } = layer;
-        checked(words::write(&mut self.state, &mut self.scratch, counts, lengths, marks, body, markers.sop, markers.eph, number, output, &mut answer))?;
+        checked(words::write(
+            &mut self.state,
+            &mut self.scratch,
+            counts,
+            lengths,
+            marks,
+            body,
+            markers.sop,
+            markers.eph,
+            number,
+            output,
+            &mut answer,
+        ))?;
         Ok(answer[0] as usize)
     }
 }

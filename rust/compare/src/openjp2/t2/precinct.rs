@@ -190,8 +190,9 @@ impl Precinct {
         let (role, count, style, layer) = (words[0], words[1] as usize, words[2], words[3]);
         let mut manager = opj_event_mgr::default();
         let mut rest = &words[13..];
-        let mut bands: Vec<Band> =
-            (0..count).map(|i| Band::from_words(role, [words[4 + 3 * i], words[5 + 3 * i], words[6 + 3 * i]], &mut rest, &mut manager)).collect();
+        let mut bands: Vec<Band> = (0..count)
+            .map(|i| Band::from_words(role, [words[4 + 3 * i], words[5 + 3 * i], words[6 + 3 * i]], &mut rest, &mut manager))
+            .collect();
         let mut resolution: Box<opj_tcd_resolution_t> = zeroed();
         resolution.pw = 1;
         resolution.ph = 1;
@@ -218,7 +219,22 @@ impl Precinct {
         cp.strict = 1;
         let t2 = Box::new(opj_t2_t { image: core::ptr::null_mut(), cp: &mut *cp });
         let (passes, layers) = (Vec::new(), Vec::new());
-        Precinct { role, style, layer, bands, passes, layers, manager, tile, tcp, t2, _component: component, _resolution: resolution, _tccp: tccp, _cp: cp }
+        Precinct {
+            role,
+            style,
+            layer,
+            bands,
+            passes,
+            layers,
+            manager,
+            tile,
+            tcp,
+            t2,
+            _component: component,
+            _resolution: resolution,
+            _tccp: tccp,
+            _cp: cp,
+        }
     }
 
     pub fn words(&self) -> Vec<u32> {
@@ -244,7 +260,12 @@ impl Precinct {
     /// the pointers lie as far before the lists. Without a body each block's bytes are 0, whatever its passes say.
     pub fn give(&mut self, counts: &[u32], lengths: &[u32], marks: &[u8], body: Option<&[u8]>) {
         self.passes.clear();
-        self.passes.extend(lengths.iter().zip(marks).map(|(len, mark)| opj_tcd_pass_t { rate: 0, distortiondec: 0.0, len: *len, term: *mark != 0 }));
+        self.passes.extend(lengths.iter().zip(marks).map(|(len, mark)| opj_tcd_pass_t {
+            rate: 0,
+            distortiondec: 0.0,
+            len: *len,
+            term: *mark != 0,
+        }));
         self.passes.push(opj_tcd_pass_t { rate: 0, distortiondec: 0.0, len: 0, term: false });
         self.layers.clear();
         let (mut from, mut at) = (0, 0);
@@ -320,7 +341,15 @@ impl Precinct {
         if present {
             let mut skipped = 0;
             let mut iterator = self.iterator();
-            opj_t2_skip_packet_data(&mut *self.t2, &mut *self.tile, &mut iterator, &mut skipped, u32::MAX, core::ptr::null_mut(), &mut self.manager);
+            opj_t2_skip_packet_data(
+                &mut *self.t2,
+                &mut *self.tile,
+                &mut iterator,
+                &mut skipped,
+                u32::MAX,
+                core::ptr::null_mut(),
+                &mut self.manager,
+            );
         }
         self.layer += 1;
     }
@@ -330,7 +359,11 @@ impl Precinct {
     pub fn read(&mut self, sop: bool, eph: bool, src: &[u8]) -> Result<Told, Failed> {
         let first: Vec<bool> = self.bands.iter().flat_map(|band| &band.dec).map(|block| block.numsegs == 0).collect();
         let (present, taken) = self.read_header(sop, eph, src)?;
-        let mut told = Told { answer: [u64::from(present), taken as u64, 0, self.manager.sop, self.manager.eph], reports: Vec::new(), records: Vec::new() };
+        let mut told = Told {
+            answer: [u64::from(present), taken as u64, 0, self.manager.sop, self.manager.eph],
+            reports: Vec::new(),
+            records: Vec::new(),
+        };
         for (number, block) in self.bands.iter().flat_map(|band| &band.dec).enumerate() {
             if !present || block.numnewpasses == 0 {
                 told.reports.extend([0; 4]);

@@ -1,0 +1,245 @@
+//! bench [SECONDS]: packets written and read by the engine and by crate openjp2's own functions, in one process, on the same inputs.
+//! Both sides' bytes and answers are compared before anything is timed. A row is timed in turn, the crate's side and ours, for so many
+//! seconds, and the best time of each side counts.
+#[cfg(openjp2)]
+mod timed {
+    use compare::openjp2::t2::precinct::Precinct;
+    use compare::pair::{Bands, Layer};
+    use compare::random::Random;
+    use std::time::{Duration, Instant};
+    use tonkelvi::words;
+
+    const LAYERS: usize = 4;
+
+    /// One precinct's start and its layers.
+    struct Job {
+        planes: Vec<u32>,
+        layers: Vec<Layer>,
+        bodies: Vec<Vec<u8>>,
+        /// The packets, as the engine writes them.
+        packets: Vec<Vec<u8>>,
+    }
+
+    struct Row {
+        count: u32,
+        bands: Bands,
+        blocks: usize,
+        jobs: Vec<Job>,
+    }
+
+    /// A layer in which one block in `rare` has passes; none has with 0.
+    fn layer(random: &mut Random, blocks: usize, rare: u64) -> Layer {
+        let mut layer = Layer::default();
+        for _ in 0..blocks {
+            let count = if rare != 0 && random.once_in(rare) { random.between(1, 3) as u32 } else { 0 };
+            layer.counts.push(count);
+            layer.lengths.extend((0..count).map(|_| random.between(1, 100) as u32));
+            layer.marks.extend((0..count).map(|_| 0));
+        }
+        layer
+    }
+
+    impl Row {
+        fn new(side: u32, count: u32, rare: u64, blocks_a_round: usize) -> Row {
+            let mut random = Random::new(7);
+            let mut bands = Bands::default();
+            bands[..count as usize].fill([side, side, 12]);
+            let blocks = (count * side * side) as usize;
+            let mut row = Row { count, bands, blocks, jobs: Vec::new() };
+            for _ in 0..(blocks_a_round / blocks).max(1) {
+                let planes = (0..blocks).map(|_| random.between(4, 12) as u32).collect();
+                let layers: Vec<Layer> = (0..LAYERS).map(|_| layer(&mut random, blocks, rare)).collect();
+                let bodies = layers.iter().map(|l| random.bytes(l.body() as usize)).collect();
+                row.jobs.push(Job { planes, layers, bodies, packets: Vec::new() });
+            }
+            row
+        }
+
+        fn length(&self) -> usize {
+            words::state_length(self.count, &self.bands)
+        }
+
+        fn started(&self, writer: bool, job: &Job) -> Vec<u32> {
+            let mut state = vec![0; self.length()];
+            let number = match writer {
+                true => words::start_writer(self.count, &self.bands, 0, &job.planes, &mut state),
+                false => words::start_reader(self.count, &self.bands, 0, &[], &mut state),
+            };
+            assert_eq!(number, 0);
+            state
+        }
+
+        fn room(&self) -> usize {
+            self.jobs.iter().flat_map(|job| &job.bodies).map(|b| b.len() + 16 * self.blocks + 64).max().unwrap()
+        }
+
+        // ---- writing
+
+        fn engine_writes(&mut self, keep: bool) -> Duration {
+            let (length, room) = (self.length(), self.room());
+            let mut states: Vec<Vec<u32>> = self.jobs.iter().map(|_| vec![0; length]).collect();
+            let (mut scratch, mut output, mut answer) = (vec![0; length], vec![0; room], [0; 1]);
+            let mut total = Duration::ZERO;
+            let begin = Instant::now();
+            for (job, state) in self.jobs.iter().zip(&mut states) {
+                words::start_writer(self.count, &self.bands, 0, &job.planes, state);
+            }
+            total += begin.elapsed();
+            for i in 0..LAYERS {
+                let begin = Instant::now();
+                for (job, state) in self.jobs.iter_mut().zip(&mut states) {
+                    let Layer { counts, lengths, marks } = &job.layers[i];
+                    let number = words::write(
+                        state,
+                        &mut scratch,
+                        counts,
+                        lengths,
+                        marks,
+                        &job.bodies[i],
+                        false,
+                        false,
+                        0,
+                        &mut output,
+                        &mut answer,
+                    );
+                    if keep {
+                        assert_eq!(number, 0);
+                        job.packets.push(output[..answer[0] as usize].to_vec());
+                    }
+                }
+                total += begin.elapsed();
+            }
+            total
+        }
+
+        fn crate_writes(&mut self, check: bool) -> Duration {
+            let mut precincts: Vec<Precinct> = self.jobs.iter().map(|job| Precinct::from_words(&self.started(true, job), true)).collect();
+            let mut output = vec![0; self.room()];
+            let mut total = Duration::ZERO;
+            for i in 0..LAYERS {
+                for (job, precinct) in self.jobs.iter().zip(&mut precincts) {
+                    let Layer { counts, lengths, marks } = &job.layers[i];
+                    precinct.give(counts, lengths, marks, Some(&job.bodies[i]));
+                }
+                let begin = Instant::now();
+                for (job, precinct) in self.jobs.iter().zip(&mut precincts) {
+                    let bytes = precinct.write(false, false, 0, &mut output);
+                    if check {
+                        assert_eq!(output[..bytes.unwrap()], job.packets[i]);
+                    }
+                }
+                total += begin.elapsed();
+            }
+            total
+        }
+
+        // ---- reading
+
+        fn engine_reads(&mut self, check: bool) -> Duration {
+            let length = self.length();
+            let mut states: Vec<Vec<u32>> = self.jobs.iter().map(|_| vec![0; length]).collect();
+            let (mut scratch, mut reports, mut records) = (vec![0; length], vec![0; 4 * self.blocks], vec![0; 4 * 3 * self.blocks]);
+            let mut answer = [0; 5];
+            let mut total = Duration::ZERO;
+            let begin = Instant::now();
+            for state in &mut states {
+                words::start_reader(self.count, &self.bands, 0, &[], state);
+            }
+            total += begin.elapsed();
+            for i in 0..LAYERS {
+                let begin = Instant::now();
+                for (job, state) in self.jobs.iter().zip(&mut states) {
+                    let number = words::read(state, &mut scratch, &job.packets[i], false, false, &mut reports, &mut records, &mut answer);
+                    if check {
+                        assert_eq!((number, answer[1] as usize), (0, job.packets[i].len() - job.bodies[i].len()));
+                    }
+                }
+                total += begin.elapsed();
+            }
+            total
+        }
+
+        /// With the crate's settling of the passes, which is part of the engine's read; or the header alone, settled untimed.
+        fn crate_reads(&mut self, settling: bool, check: bool) -> Duration {
+            let mut precincts: Vec<Precinct> = self.jobs.iter().map(|job| Precinct::from_words(&self.started(false, job), true)).collect();
+            let mut total = Duration::ZERO;
+            for i in 0..LAYERS {
+                let begin = Instant::now();
+                for (job, precinct) in self.jobs.iter().zip(&mut precincts) {
+                    let read = precinct.read_header(false, false, &job.packets[i]);
+                    if settling {
+                        precinct.settle(true);
+                    }
+                    if check {
+                        assert_eq!(read.unwrap(), (true, job.packets[i].len() - job.bodies[i].len()));
+                    }
+                }
+                total += begin.elapsed();
+                if !settling {
+                    precincts.iter_mut().for_each(|p| p.settle(true));
+                }
+            }
+            total
+        }
+
+        /// The best of each side, as nanoseconds a packet.
+        fn best(&mut self, time: Duration, mut sides: Vec<Box<dyn FnMut(&mut Row) -> Duration>>) -> Vec<f64> {
+            let mut best = vec![Duration::MAX; sides.len()];
+            let begin = Instant::now();
+            while begin.elapsed() < time {
+                for (side, least) in sides.iter_mut().zip(&mut best) {
+                    *least = (*least).min(side(self));
+                }
+            }
+            let packets = (self.jobs.len() * LAYERS) as f64;
+            best.into_iter().map(|d| d.as_nanos() as f64 / packets).collect()
+        }
+    }
+
+    fn print(what: &str, name: &str, density: &str, blocks: usize, theirs: f64, ours: f64, more: &str) {
+        println!(
+            "| {what} | {name} | {density} | {theirs:.0} | {ours:.0} | {:.1} | {:.1} | {:.0} | {:.0} | {:.2} |{more}",
+            theirs / blocks as f64,
+            ours / blocks as f64,
+            1e6 / theirs,
+            1e6 / ours,
+            theirs / ours
+        );
+    }
+
+    pub fn main(time: Duration) {
+        println!("| call | blocks | layers | crate, ns a packet | ours | crate, ns a block | ours | crate, 1,000 packets/s | ours | speed, crate = 1 | header alone |");
+        println!("|---|---|---|---|---|---|---|---|---|---|---|");
+        for (side, count, name) in [(1, 1, "1 × 1"), (4, 1, "4 × 4"), (16, 1, "16 × 16"), (64, 3, "64 × 64 × 3")] {
+            for (rare, density) in [(1, "dense"), (8, "sparse"), (0, "empty")] {
+                let mut row = Row::new(side, count, rare, 4096);
+                row.engine_writes(true);
+                row.crate_writes(true);
+                row.engine_reads(true);
+                row.crate_reads(true, true);
+                let blocks = row.blocks;
+                let write = row.best(time, vec![Box::new(|r| r.crate_writes(false)), Box::new(|r| r.engine_writes(false))]);
+                print("write", name, density, blocks, write[0], write[1], " |");
+                let read = row.best(
+                    time,
+                    vec![
+                        Box::new(|r| r.crate_reads(true, false)),
+                        Box::new(|r| r.engine_reads(false)),
+                        Box::new(|r| r.crate_reads(false, false)),
+                    ],
+                );
+                print("read", name, density, blocks, read[0], read[1], &format!(" {:.2} |", read[2] / read[1]));
+            }
+        }
+    }
+}
+
+fn main() {
+    #[cfg(openjp2)]
+    {
+        let seconds = std::env::args().nth(1).map_or(0.6, |a| a.parse().expect("seconds"));
+        timed::main(std::time::Duration::from_secs_f64(seconds));
+    }
+    #[cfg(not(openjp2))]
+    println!("crate openjp2's sources were not there when this was built: there is nothing to compare with");
+}
