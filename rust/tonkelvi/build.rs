@@ -9,7 +9,9 @@ fn main() {
         Some(folder) => PathBuf::from(folder),
         None => build(),
     };
+    let folder = folder.canonicalize().expect("the folder of libcapi.a");
     println!("cargo:rerun-if-changed={}", folder.join("libcapi.a").display());
+    println!("cargo:rustc-env=TONKELVI_FOLDER={}", folder.display());
     println!("cargo:rustc-link-search=native={}", folder.display());
     println!("cargo:rustc-link-lib=static=capi");
 }

@@ -1,6 +1,6 @@
-//! bench [SECONDS]: packets written and read by the engine and by crate openjp2's own functions, in one process, on the same inputs.
+//! bench [SECONDS [PATTERN]]: packets written and read by the engine and by crate openjp2's own functions, in one process, on the same inputs.
 //! Both sides' bytes and answers are compared before anything is timed. A row is timed in turn, the crate's side and ours, for so many
-//! seconds, and the best time of each side counts.
+//! seconds, and the best time of each side counts. PATTERN: only the rows whose names hold it.
 #[cfg(openjp2)]
 mod timed {
     use compare::openjp2::t2::precinct::Precinct;
@@ -20,11 +20,22 @@ mod timed {
         packets: Vec<Vec<u8>>,
     }
 
+    /// Lists lent to the calls, made and touched once.
+    #[derive(Default)]
+    struct Lent {
+        states: Vec<Vec<u32>>,
+        scratch: Vec<u32>,
+        output: Vec<u8>,
+        reports: Vec<u32>,
+        records: Vec<u32>,
+    }
+
     struct Row {
         count: u32,
         bands: Bands,
         blocks: usize,
         jobs: Vec<Job>,
+        lent: Lent,
     }
 
     /// A layer in which one block in `rare` has passes; none has with 0.
@@ -45,13 +56,21 @@ mod timed {
             let mut bands = Bands::default();
             bands[..count as usize].fill([side, side, 12]);
             let blocks = (count * side * side) as usize;
-            let mut row = Row { count, bands, blocks, jobs: Vec::new() };
+            let mut row = Row { count, bands, blocks, jobs: Vec::new(), lent: Lent::default() };
             for _ in 0..(blocks_a_round / blocks).max(1) {
                 let planes = (0..blocks).map(|_| random.between(4, 12) as u32).collect();
                 let layers: Vec<Layer> = (0..LAYERS).map(|_| layer(&mut random, blocks, rare)).collect();
                 let bodies = layers.iter().map(|l| random.bytes(l.body() as usize)).collect();
                 row.jobs.push(Job { planes, layers, bodies, packets: Vec::new() });
             }
+            let length = row.length();
+            row.lent = Lent {
+                states: row.jobs.iter().map(|_| vec![1; length]).collect(),
+                scratch: vec![1; length],
+                output: vec![1; row.room()],
+                reports: vec![1; 4 * blocks],
+                records: vec![1; 12 * blocks],
+            };
             row
         }
 
@@ -76,32 +95,19 @@ mod timed {
         // ---- writing
 
         fn engine_writes(&mut self, keep: bool) -> Duration {
-            let (length, room) = (self.length(), self.room());
-            let mut states: Vec<Vec<u32>> = self.jobs.iter().map(|_| vec![0; length]).collect();
-            let (mut scratch, mut output, mut answer) = (vec![0; length], vec![0; room], [0; 1]);
+            let Lent { states, scratch, output, .. } = &mut self.lent;
+            let mut answer = [0; 1];
             let mut total = Duration::ZERO;
             let begin = Instant::now();
-            for (job, state) in self.jobs.iter().zip(&mut states) {
+            for (job, state) in self.jobs.iter().zip(states.iter_mut()) {
                 words::start_writer(self.count, &self.bands, 0, &job.planes, state);
             }
             total += begin.elapsed();
             for i in 0..LAYERS {
                 let begin = Instant::now();
-                for (job, state) in self.jobs.iter_mut().zip(&mut states) {
+                for (job, state) in self.jobs.iter_mut().zip(states.iter_mut()) {
                     let Layer { counts, lengths, marks } = &job.layers[i];
-                    let number = words::write(
-                        state,
-                        &mut scratch,
-                        counts,
-                        lengths,
-                        marks,
-                        &job.bodies[i],
-                        false,
-                        false,
-                        0,
-                        &mut output,
-                        &mut answer,
-                    );
+                    let number = words::write(state, scratch, counts, lengths, marks, &job.bodies[i], false, false, 0, output, &mut answer);
                     if keep {
                         assert_eq!(number, 0);
                         job.packets.push(output[..answer[0] as usize].to_vec());
@@ -114,7 +120,7 @@ mod timed {
 
         fn crate_writes(&mut self, check: bool) -> Duration {
             let mut precincts: Vec<Precinct> = self.jobs.iter().map(|job| Precinct::from_words(&self.started(true, job), true)).collect();
-            let mut output = vec![0; self.room()];
+            let output = &mut self.lent.output;
             let mut total = Duration::ZERO;
             for i in 0..LAYERS {
                 for (job, precinct) in self.jobs.iter().zip(&mut precincts) {
@@ -123,7 +129,7 @@ mod timed {
                 }
                 let begin = Instant::now();
                 for (job, precinct) in self.jobs.iter().zip(&mut precincts) {
-                    let bytes = precinct.write(false, false, 0, &mut output);
+                    let bytes = precinct.write(false, false, 0, output);
                     if check {
                         assert_eq!(output[..bytes.unwrap()], job.packets[i]);
                     }
@@ -136,20 +142,18 @@ mod timed {
         // ---- reading
 
         fn engine_reads(&mut self, check: bool) -> Duration {
-            let length = self.length();
-            let mut states: Vec<Vec<u32>> = self.jobs.iter().map(|_| vec![0; length]).collect();
-            let (mut scratch, mut reports, mut records) = (vec![0; length], vec![0; 4 * self.blocks], vec![0; 4 * 3 * self.blocks]);
+            let Lent { states, scratch, reports, records, .. } = &mut self.lent;
             let mut answer = [0; 5];
             let mut total = Duration::ZERO;
             let begin = Instant::now();
-            for state in &mut states {
+            for state in states.iter_mut() {
                 words::start_reader(self.count, &self.bands, 0, &[], state);
             }
             total += begin.elapsed();
             for i in 0..LAYERS {
                 let begin = Instant::now();
-                for (job, state) in self.jobs.iter().zip(&mut states) {
-                    let number = words::read(state, &mut scratch, &job.packets[i], false, false, &mut reports, &mut records, &mut answer);
+                for (job, state) in self.jobs.iter().zip(states.iter_mut()) {
+                    let number = words::read(state, scratch, &job.packets[i], false, false, reports, records, &mut answer);
                     if check {
                         assert_eq!((number, answer[1] as usize), (0, job.packets[i].len() - job.bodies[i].len()));
                     }
@@ -182,6 +186,13 @@ mod timed {
             total
         }
 
+        fn compare(&mut self) {
+            self.engine_writes(true);
+            self.crate_writes(true);
+            self.engine_reads(true);
+            self.crate_reads(true, true);
+        }
+
         /// The best of each side, as nanoseconds a packet.
         fn best(&mut self, time: Duration, mut sides: Vec<Box<dyn FnMut(&mut Row) -> Duration>>) -> Vec<f64> {
             let mut best = vec![Duration::MAX; sides.len()];
@@ -207,28 +218,33 @@ mod timed {
         );
     }
 
-    pub fn main(time: Duration) {
+    pub fn main(time: Duration, pattern: &str) {
         println!("| call | blocks | layers | crate, ns a packet | ours | crate, ns a block | ours | crate, 1,000 packets/s | ours | speed, crate = 1 | header alone |");
         println!("|---|---|---|---|---|---|---|---|---|---|---|");
         for (side, count, name) in [(1, 1, "1 × 1"), (4, 1, "4 × 4"), (16, 1, "16 × 16"), (64, 3, "64 × 64 × 3")] {
             for (rare, density) in [(1, "dense"), (8, "sparse"), (0, "empty")] {
+                let wanted = |call: &str| format!("{call} {name} {density}").contains(pattern);
+                if !wanted("write") && !wanted("read") {
+                    continue;
+                }
                 let mut row = Row::new(side, count, rare, 4096);
-                row.engine_writes(true);
-                row.crate_writes(true);
-                row.engine_reads(true);
-                row.crate_reads(true, true);
+                row.compare();
                 let blocks = row.blocks;
-                let write = row.best(time, vec![Box::new(|r| r.crate_writes(false)), Box::new(|r| r.engine_writes(false))]);
-                print("write", name, density, blocks, write[0], write[1], " |");
-                let read = row.best(
-                    time,
-                    vec![
-                        Box::new(|r| r.crate_reads(true, false)),
-                        Box::new(|r| r.engine_reads(false)),
-                        Box::new(|r| r.crate_reads(false, false)),
-                    ],
-                );
-                print("read", name, density, blocks, read[0], read[1], &format!(" {:.2} |", read[2] / read[1]));
+                if wanted("write") {
+                    let times = row.best(time, vec![Box::new(|r| r.crate_writes(false)), Box::new(|r| r.engine_writes(false))]);
+                    print("write", name, density, blocks, times[0], times[1], " |");
+                }
+                if wanted("read") {
+                    let times = row.best(
+                        time,
+                        vec![
+                            Box::new(|r| r.crate_reads(true, false)),
+                            Box::new(|r| r.engine_reads(false)),
+                            Box::new(|r| r.crate_reads(false, false)),
+                        ],
+                    );
+                    print("read", name, density, blocks, times[0], times[1], &format!(" {:.2} |", times[2] / times[1]));
+                }
             }
         }
     }
@@ -238,7 +254,8 @@ fn main() {
     #[cfg(openjp2)]
     {
         let seconds = std::env::args().nth(1).map_or(0.6, |a| a.parse().expect("seconds"));
-        timed::main(std::time::Duration::from_secs_f64(seconds));
+        let pattern = std::env::args().nth(2).unwrap_or_default();
+        timed::main(std::time::Duration::from_secs_f64(seconds), &pattern);
     }
     #[cfg(not(openjp2))]
     println!("crate openjp2's sources were not there when this was built: there is nothing to compare with");
