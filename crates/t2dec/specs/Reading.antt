@@ -133,10 +133,6 @@ nextBlocks src t i (k ∷ ks) a =
 
 -- ---- blocks of a row
 
--- a block of which only its own words count
-abbrev pub blockAt : ℕ → Block
-blockAt at = record { inclTree = 0; zeroTree = 0; leaf = 0; path = []; at = at; planes = 0 }
-
 -- a block in a row that begins with these nodes on each level, in a band with so many planes
 abbrev pub blockIn : Place → List ℕ → ℕ → Block
 blockIn p row planes = record { inclTree = p .incl; zeroTree = p .zero; leaf = getD row 0 0 + p .x; path = pathOver row (p .depth) (p .x); at = p .at; planes = planes }

@@ -18,7 +18,8 @@ use Rattle.tgt.specs.Path.{pathOver, leafWord}
 use Rattle.tgt.specs.Reading.{LeafAfter, belowIn, ValueAfter, valueIn, leafOf}
 use Rattle.t2block.specs.declared.Place.{Place}
 use Rattle.t2dec.specs.declared.Run.{Run}
-use Rattle.t2dec.specs.Reading.{Reading, reading, movedOn, reported, nextSegment, nextSegments, passesRead, nextFirst, nextAgain, nextNew, nextOld, nextBlock, blockAt, blockIn}
+use Rattle.t2block.specs.Blocks.{blockAt}
+use Rattle.t2dec.specs.Reading.{Reading, reading, movedOn, reported, nextSegment, nextSegments, passesRead, nextFirst, nextAgain, nextNew, nextOld, nextBlock, blockIn}
 
 -- ---- of a block only its own words count for its segments, and only a tree and a leaf for its zero planes
 

@@ -16,7 +16,8 @@ use Rattle.bio.proofs.Laws.ReadChunks.{readBits-ct}
 use Rattle.t2block.proofs.Laws.OneBlock.{same-word}
 use Rattle.t2dec.specs.declared.Segment.{Segment}
 use Rattle.t2dec.specs.Segments.{limitBehind, currentSegment}
-use Rattle.t2dec.specs.Reading.{Reading, stopped, nextSegment, nextSegments, blockAt, SegmentFits}
+use Rattle.t2block.specs.Blocks.{blockAt}
+use Rattle.t2dec.specs.Reading.{Reading, stopped, nextSegment, nextSegments, SegmentFits}
 use Rattle.t2dec.proofs.Laws.OneSegment.{segment-opens, segment-open}
 
 -- ---- its room

@@ -16,7 +16,8 @@ use Rattle.tgt.specs.Reading.{ValueAfter}
 use Rattle.t2codes.specs.CommaCode.{readCommaLimited}
 use Rattle.t2dec.specs.declared.Segment.{Segment}
 use Rattle.t2dec.specs.Segments.{limitBehind, currentSegment}
-use Rattle.t2dec.specs.Reading.{Reading, stopped, nextSegment, passesRead, blockAt}
+use Rattle.t2block.specs.Blocks.{blockAt}
+use Rattle.t2dec.specs.Reading.{Reading, stopped, nextSegment, passesRead}
 
 -- ---- the segment that the next passes go into
 

@@ -4,7 +4,8 @@ use mathlib.Core.List.{[]}
 use Prim.Native.Nat.{ℕ, _+_, _-_, _≤_}
 use native.Mathlib.Omega.{arith}
 use lib.ListN.{length, getD}
-use Rattle.t2dec.specs.Reading.{reading, WithAnyReports, nextSegments, blockAt, SegmentFits}
+use Rattle.t2block.specs.Blocks.{blockAt}
+use Rattle.t2dec.specs.Reading.{reading, WithAnyReports, nextSegments, SegmentFits}
 use Rattle.t2dec.proofs.Laws.ManySegments.{has-room, taken-is, segment-leaves, segments-turn, segments-stop, no-segments}
 use borrow.Author.Needs.{needs}
 use Rattle.t2dec.proofs.read_segments.Statement.{statement}
