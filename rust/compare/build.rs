@@ -1,6 +1,8 @@
 //! Takes the items of crate openjp2 that code packets out of its sources, whole and unchanged, if the sources are there: in the folder
 //! that OPENJP2_SRC names, or else in ../shared/docs/src/src beside the repository. Without them the comparison with the crate is left out.
+//! OPENJPEG_SRC may name the folder of OpenJPEG's t2.c (src/lib/openjp2 of Debian's source package openjpeg2), for the benchmark.
 use std::path::{Path, PathBuf};
+use std::process::Command;
 
 const T2: &[&str] = &[
     "struct opj_t2",
@@ -68,7 +70,8 @@ const TYPES: &[&str] = &[
 ];
 
 fn main() {
-    println!("cargo:rustc-check-cfg=cfg(openjp2)");
+    println!("cargo:rustc-check-cfg=cfg(openjp2, openjpeg)");
+    openjpeg();
     println!("cargo:rerun-if-env-changed=OPENJP2_SRC");
     let src = match std::env::var_os("OPENJP2_SRC") {
         Some(folder) => PathBuf::from(folder),
@@ -111,4 +114,24 @@ fn pick(src: &Path, file: &str, wanted: impl Fn(&str) -> bool) {
         }
     }
     std::fs::write(Path::new(&std::env::var("OUT_DIR").unwrap()).join(file), picked).unwrap();
+}
+
+/// Builds OpenJPEG's packet functions with src/openjpeg.c, as a library for release whatever the profile.
+fn openjpeg() {
+    println!("cargo:rerun-if-env-changed=OPENJPEG_SRC");
+    println!("cargo:rerun-if-changed=src/openjpeg.c");
+    let Some(src) = std::env::var_os("OPENJPEG_SRC") else { return };
+    let out = PathBuf::from(std::env::var("OUT_DIR").unwrap());
+    let public = "#define OPJ_HAVE_STDINT_H 1\n#define OPJ_VERSION_MAJOR 2\n#define OPJ_VERSION_MINOR 5\n#define OPJ_VERSION_BUILD 0\n";
+    let private = "#define OPJ_HAVE_INTTYPES_H 1\n#define OPJ_PACKAGE_VERSION \"2\"\n#define OPJ_HAVE_POSIX_MEMALIGN\n#define _POSIX_C_SOURCE 200112L\n";
+    std::fs::write(out.join("opj_config.h"), public).unwrap();
+    std::fs::write(out.join("opj_config_private.h"), private).unwrap();
+    let object = out.join("openjpeg.o");
+    let mut compile = Command::new("cc");
+    compile.args(["-O3", "-DNDEBUG", "-w", "-c", "src/openjpeg.c", "-I"]).arg(&out).arg("-I").arg(&src).arg("-o").arg(&object);
+    assert!(compile.status().unwrap().success(), "OpenJPEG's sources did not build");
+    assert!(Command::new("ar").arg("crs").arg(out.join("libopenjpeg_packets.a")).arg(&object).status().unwrap().success());
+    println!("cargo:rustc-link-search=native={}", out.display());
+    println!("cargo:rustc-link-lib=static=openjpeg_packets");
+    println!("cargo:rustc-cfg=openjpeg");
 }

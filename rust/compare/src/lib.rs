@@ -3,6 +3,8 @@ mod inputs;
 pub mod model;
 #[cfg(openjp2)]
 pub mod openjp2;
+#[cfg(openjpeg)]
+pub mod openjpeg;
 pub mod pair;
 pub mod random;
 pub mod trials;

@@ -11,6 +11,8 @@ mod timed {
 
     const LAYERS: usize = 4;
 
+    type Side = fn(&mut Row) -> Duration;
+
     /// One precinct's start and its layers.
     struct Job {
         planes: Vec<u32>,
@@ -186,19 +188,77 @@ mod timed {
             total
         }
 
+        // ---- OpenJPEG
+
+        #[cfg(openjpeg)]
+        fn openjpeg_writes(&mut self, check: bool) -> Duration {
+            use compare::openjpeg::Precinct;
+            let [side, _, planes] = self.bands[0];
+            let mut precincts: Vec<Precinct> =
+                self.jobs.iter().map(|job| Precinct::writer(self.count, side, planes, &job.planes)).collect();
+            let output = &mut self.lent.output;
+            let mut total = Duration::ZERO;
+            for i in 0..LAYERS {
+                for (job, precinct) in self.jobs.iter().zip(&mut precincts) {
+                    precinct.give(&job.layers[i].counts, &job.layers[i].lengths, &job.bodies[i]);
+                }
+                let begin = Instant::now();
+                for (job, precinct) in self.jobs.iter().zip(&mut precincts) {
+                    let bytes = precinct.write(output);
+                    if check {
+                        assert_eq!(output[..bytes], job.packets[i]);
+                    }
+                }
+                total += begin.elapsed();
+            }
+            total
+        }
+
+        #[cfg(openjpeg)]
+        fn openjpeg_reads(&mut self, check: bool) -> Duration {
+            use compare::openjpeg::Precinct;
+            let [side, _, planes] = self.bands[0];
+            let mut precincts: Vec<Precinct> = self.jobs.iter().map(|_| Precinct::reader(self.count, side, planes)).collect();
+            let mut total = Duration::ZERO;
+            for i in 0..LAYERS {
+                let begin = Instant::now();
+                for (job, precinct) in self.jobs.iter().zip(&mut precincts) {
+                    let taken = precinct.read(&job.packets[i]);
+                    precinct.settle();
+                    if check {
+                        assert_eq!(taken, job.packets[i].len() - job.bodies[i].len());
+                    }
+                }
+                total += begin.elapsed();
+            }
+            total
+        }
+
+        #[cfg(not(openjpeg))]
+        fn openjpeg_writes(&mut self, _: bool) -> Duration {
+            Duration::MAX
+        }
+
+        #[cfg(not(openjpeg))]
+        fn openjpeg_reads(&mut self, _: bool) -> Duration {
+            Duration::MAX
+        }
+
         fn compare(&mut self) {
             self.engine_writes(true);
             self.crate_writes(true);
             self.engine_reads(true);
             self.crate_reads(true, true);
+            self.openjpeg_writes(true);
+            self.openjpeg_reads(true);
         }
 
         /// The best of each side, as nanoseconds a packet.
-        fn best(&mut self, time: Duration, mut sides: Vec<Box<dyn FnMut(&mut Row) -> Duration>>) -> Vec<f64> {
+        fn best(&mut self, time: Duration, sides: &[Side]) -> Vec<f64> {
             let mut best = vec![Duration::MAX; sides.len()];
             let begin = Instant::now();
             while begin.elapsed() < time {
-                for (side, least) in sides.iter_mut().zip(&mut best) {
+                for (side, least) in sides.iter().zip(&mut best) {
                     *least = (*least).min(side(self));
                 }
             }
@@ -207,20 +267,28 @@ mod timed {
         }
     }
 
-    fn print(what: &str, name: &str, density: &str, blocks: usize, theirs: f64, ours: f64, more: &str) {
+    /// A row of the table: `times` has the crate's, ours, OpenJPEG's and the crate's header alone.
+    fn print(what: &str, name: &str, density: &str, blocks: usize, times: &[f64]) {
+        let ours = times[1];
+        let thousands = |ns: f64| format!("{:.*}", if ns > 1e5 { 1 } else { 0 }, 1e6 / ns);
+        let ratio = |i: usize| times.get(i).filter(|t| **t < 1e12).map_or("-".to_string(), |t| format!("{:.2}", t / ours));
         println!(
-            "| {what} | {name} | {density} | {theirs:.0} | {ours:.0} | {:.1} | {:.1} | {:.0} | {:.0} | {:.2} |{more}",
-            theirs / blocks as f64,
+            "| {what} | {name} | {density} | {:.0} | {:.0} | {:.1} | {:.1} | {} | {} | {} | {} | {} |",
+            times[0],
+            ours,
+            times[0] / blocks as f64,
             ours / blocks as f64,
-            1e6 / theirs,
-            1e6 / ours,
-            theirs / ours
+            thousands(times[0]),
+            thousands(ours),
+            ratio(0),
+            ratio(3),
+            ratio(2),
         );
     }
 
     pub fn main(time: Duration, pattern: &str) {
-        println!("| call | blocks | layers | crate, ns a packet | ours | crate, ns a block | ours | crate, 1,000 packets/s | ours | speed, crate = 1 | header alone |");
-        println!("|---|---|---|---|---|---|---|---|---|---|---|");
+        println!("| call | blocks | layers | crate, ns a packet | ours | crate, ns a block | ours | crate, 1,000 packets/s | ours | crate / ours | crate's header alone / ours | OpenJPEG / ours |");
+        println!("|---|---|---|---|---|---|---|---|---|---|---|---|");
         for (side, count, name) in [(1, 1, "1 × 1"), (4, 1, "4 × 4"), (16, 1, "16 × 16"), (64, 3, "64 × 64 × 3")] {
             for (rare, density) in [(1, "dense"), (8, "sparse"), (0, "empty")] {
                 let wanted = |call: &str| format!("{call} {name} {density}").contains(pattern);
@@ -231,19 +299,15 @@ mod timed {
                 row.compare();
                 let blocks = row.blocks;
                 if wanted("write") {
-                    let times = row.best(time, vec![Box::new(|r| r.crate_writes(false)), Box::new(|r| r.engine_writes(false))]);
-                    print("write", name, density, blocks, times[0], times[1], " |");
+                    let sides: Vec<Side> = vec![|r| r.crate_writes(false), |r| r.engine_writes(false), |r| r.openjpeg_writes(false)];
+                    print("write", name, density, blocks, &row.best(time, &sides));
                 }
                 if wanted("read") {
-                    let times = row.best(
-                        time,
-                        vec![
-                            Box::new(|r| r.crate_reads(true, false)),
-                            Box::new(|r| r.engine_reads(false)),
-                            Box::new(|r| r.crate_reads(false, false)),
-                        ],
-                    );
-                    print("read", name, density, blocks, times[0], times[1], &format!(" {:.2} |", times[2] / times[1]));
+                    let sides: Vec<Side> =
+                        vec![|r| r.crate_reads(true, false), |r| r.engine_reads(false), |r| r.openjpeg_reads(false), |r| {
+                            r.crate_reads(false, false)
+                        }];
+                    print("read", name, density, blocks, &row.best(time, &sides));
                 }
             }
         }
