@@ -107,7 +107,7 @@ pub fn state(random: &mut Random, role: u32, shape: &Shape) -> Vec<u32> {
                 } else {
                     109
                 };
-                block[0] = random.between(1, u64::from(164 * layer)) as u32;
+                block[0] = if random.once_in(4) { 164 * layer } else { random.between(1, u64::from(164 * layer)) as u32 };
                 block[1] = if random.once_in(4) { random.between(25, 32) as u32 } else { random.between(3, 8) as u32 };
                 if role == 2 {
                     block[2] = limit;
@@ -119,12 +119,20 @@ pub fn state(random: &mut Random, role: u32, shape: &Shape) -> Vec<u32> {
     state
 }
 
-/// One to three words changed to edges of their ranges or beyond, or the length changed by one.
+/// One to three words changed to edges of their ranges or beyond, moved by one, or made the most passes that the layer allows or one
+/// more; or the length changed by one.
 pub fn damaged_state(random: &mut Random, state: &[u32]) -> Vec<u32> {
     let mut state = state.to_vec();
+    let most_passes = 164 * state[3];
     for _ in 0..random.between(1, 3) {
         let at = if random.once_in(3) { random.below(state.len().min(13) as u64) } else { random.below(state.len() as u64) };
-        state[at as usize] = edge(random);
+        let word = &mut state[at as usize];
+        *word = match random.below(6) {
+            0 => word.wrapping_add(1),
+            1 => word.wrapping_sub(1),
+            2 => most_passes + random.below(2) as u32,
+            _ => edge(random),
+        };
     }
     match random.below(20) {
         0 => {
