@@ -22,7 +22,7 @@ pub fn encode_header(
     let layer = words[3];
     let codes = t2codes::pass_codes::PASS_CODES;
     let b = bio::opj_bio_init_enc(start);
-    let first = bio::opj_bio_putbit(out, b, 1);
+    let first = biolent::bit_out(out, b, 1);
     let last = t2enc::code_bands(
         &codes,
         words,

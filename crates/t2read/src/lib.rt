@@ -197,7 +197,7 @@ pub fn read(
     }
     let s = read_marker(m.sop, Marker::SOP, src, 0);
     let start = bio::opj_bio_init_dec(s.skip);
-    let first = bio::opj_bio_getbit(src, start);
+    let first = biolent::bit_in(src, start);
     if first.value == 0 {
         return read_absent(state, scratch, reports, src, m, s, first.bio);
     }

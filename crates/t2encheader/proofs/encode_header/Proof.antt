@@ -53,8 +53,8 @@ slice-read-layer c =
 opj-bio-init-enc-requires : tie.Need-opj-bio-init-enc-requires
 opj-bio-init-enc-requires c κs = search needs
 
-opj-bio-putbit-requires : tie.Need-opj-bio-putbit-requires
-opj-bio-putbit-requires c κs =
+bit-out-requires : tie.Need-bit-out-requires
+bit-out-requires c κs =
     let a = c .before .before .before .before .before .before .before .before .before .before .before .args in
     (subst FreeBitsClear (sym (c .before .opj-bio-init-enc .ensures)) (emptyAt-clear (a .start)), omega arith)
 
@@ -70,7 +70,7 @@ code-bands-requires c κs =
     let three = c .before .before .before .before .before .before .before .before .before .before .bands-of .ensures in
     let e : take n bs ≡ bands ws = bands-are ws (length ws) (r .valid) n bs refl three in
     let sides = sides-are ws (length ws) (r .valid) n bs refl three in
-    let first = c .before .before .before .before .before .opj-bio-putbit in
+    let first = c .before .before .before .before .before .bit-out in
     let clear : FreeBitsClear (emptyAt (a .start)) = emptyAt-clear (a .start) in (
       tt,
       subst FreeBitsClear (sym (ap (λ (o : Output). o .bio) (first .ensures))) (putBit-clear (output (a .out .now) (c .before .before .before .before .before .before .before .opj-bio-init-enc .result)) _ (subst FreeBitsClear (sym (c .before .before .before .before .before .before .before .opj-bio-init-enc .ensures)) clear)),
@@ -117,7 +117,7 @@ returns c =
     let e : take n (c .before .before .before .before .before .before .before .before .before .before .before .before .before .before .before .before .before .before .before .bands-of .result) ≡ bands ws = bands-are ws (length ws) (r .valid) n (c .before .before .before .before .before .before .before .before .before .before .before .before .before .before .before .before .before .before .before .bands-of .result) refl (c .before .before .before .before .before .before .before .before .before .before .before .before .before .before .before .before .before .before .before .bands-of .ensures) in
     let l : length (a .out .now) ≤ lastPlace = search needs in
     let p = contribution (a .counts .now) (a .lengths .now) (a .marks .now) in
-    let first = c .before .before .before .before .before .before .before .before .before .before .before .before .before .before .opj-bio-putbit in
+    let first = c .before .before .before .before .before .before .before .before .before .before .before .before .before .before .bit-out in
     let k = c .before .before .before .before .before .before .before .before .code-bands in
     header-is ws (length ws) p r (a .start) (a .out .now) _ _ _ _ _ (s .pre .1) l e
     (first .ensures ∙ ap (λ (b : Bio). putBit (output (a .out .now) b) 1) (c .before .before .before .before .before .before .before .before .before .before .before .before .before .before .before .before .opj-bio-init-enc .ensures))
@@ -134,7 +134,7 @@ encode-header-spec =
     cast-n
     slice-read-layer
     opj-bio-init-enc-requires
-    opj-bio-putbit-requires
+    bit-out-requires
     code-bands-requires
     opj-bio-flush-requires
     add-words

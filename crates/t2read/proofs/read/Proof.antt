@@ -39,14 +39,14 @@ read-marker-requires c κs = search needs
 opj-bio-init-dec-requires : tie.Need-opj-bio-init-dec-requires
 opj-bio-init-dec-requires c κs = search needs
 
-opj-bio-getbit-requires : tie.Need-opj-bio-getbit-requires
-opj-bio-getbit-requires c κs = omega (arith, ap (λ (b : Bio). b .ct) (c .opj-bio-init-dec .ensures))
+bit-in-requires : tie.Need-bit-in-requires
+bit-in-requires c κs = omega (arith, ap (λ (b : Bio). b .ct) (c .opj-bio-init-dec .ensures))
 
 read-absent-requires : tie.Need-read-absent-requires
 read-absent-requires c κs =
     let s = c .before .before .before .before .before .before .before .before .before .before .before .before .before .before .before .before .before .before in
     let g = accepted (s .args .state .now) (s .args .scratch .now) (s .args .reports .now) (sym (c .before .before .before .before .before .before .before .before .before .read-refusal .ensures) ∙ c .before .before .before .before .before .before .before .before .if1 .left) in
-    let e = c .before .before .before .before .before .opj-bio-getbit .ensures ∙ ap (getBit (s .args .src .now)) (c .before .before .before .before .before .before .opj-bio-init-dec .ensures) in
+    let e = c .before .before .before .before .before .bit-in .ensures ∙ ap (getBit (s .args .src .now)) (c .before .before .before .before .before .before .opj-bio-init-dec .ensures) in
     let k = ap (λ (f : MarkerRead). f .skip) (c .before .before .before .before .before .before .before .read-marker .ensures) in
     let b = bioAt (c .before .before .before .before .before .before .before .read-marker .result .skip) in
     let p = getBit-place (s .args .src .now) b (omega (arith, k, skip-inside (s .args .m .sop) 6 0x91 (s .args .src .now) 0)) in
@@ -64,14 +64,14 @@ same-length-6 c = search needs
 returns-2 : tie.Need-returns-2
 returns-2 c =
     let s = c .before .before .before .before .before .before .before .before .before .before .before .before .before .before .before .before .before .before .before .before .before .before .before .before .before in
-    let e = c .before .before .before .before .before .before .before .before .before .before .before .before .opj-bio-getbit .ensures ∙ ap (getBit (s .args .src .now)) (c .before .before .before .before .before .before .before .before .before .before .before .before .before .opj-bio-init-dec .ensures) in
-    read-absent-is (s .args .state .now) (s .args .scratch .now) (s .args .m) (s .args .src .now) (s .args .reports .now) (s .args .records .now) (sym (c .before .before .before .before .before .before .before .before .before .before .before .before .before .before .before .before .read-refusal .ensures) ∙ c .before .before .before .before .before .before .before .before .before .before .before .before .before .before .before .if1 .left) (markerRead (c .before .before .before .before .before .before .before .before .before .before .before .before .before .before .read-marker .result)) (c .before .before .before .before .before .before .before .before .before .before .before .before .before .before .read-marker .ensures) (decoded (c .before .before .before .before .before .before .before .before .before .before .before .before .opj-bio-getbit .result)) e _ (c .before .before .before .before .before .before .before .before .before .before .if2 .taken) (c .before .before .before .before .before .before .read-absent .ensures (s .args .records .now))
+    let e = c .before .before .before .before .before .before .before .before .before .before .before .before .bit-in .ensures ∙ ap (getBit (s .args .src .now)) (c .before .before .before .before .before .before .before .before .before .before .before .before .before .opj-bio-init-dec .ensures) in
+    read-absent-is (s .args .state .now) (s .args .scratch .now) (s .args .m) (s .args .src .now) (s .args .reports .now) (s .args .records .now) (sym (c .before .before .before .before .before .before .before .before .before .before .before .before .before .before .before .before .read-refusal .ensures) ∙ c .before .before .before .before .before .before .before .before .before .before .before .before .before .before .before .if1 .left) (markerRead (c .before .before .before .before .before .before .before .before .before .before .before .before .before .before .read-marker .result)) (c .before .before .before .before .before .before .before .before .before .before .before .before .before .before .read-marker .ensures) (decoded (c .before .before .before .before .before .before .before .before .before .before .before .before .bit-in .result)) e _ (c .before .before .before .before .before .before .before .before .before .before .if2 .taken) (c .before .before .before .before .before .before .read-absent .ensures (s .args .records .now))
 
 read-present-requires : tie.Need-read-present-requires
 read-present-requires c κs =
     let s = c .before .before .before .before .before .before .before .before .before .before .before .before .before .before .before .before .before .before .before in
     let g = accepted (s .args .state .now) (s .args .scratch .now) (s .args .reports .now) (sym (c .before .before .before .before .before .before .before .before .before .before .read-refusal .ensures) ∙ c .before .before .before .before .before .before .before .before .before .if1 .left) in
-    let e = c .before .before .before .before .before .before .opj-bio-getbit .ensures ∙ ap (getBit (s .args .src .now)) (c .before .before .before .before .before .before .before .opj-bio-init-dec .ensures) in
+    let e = c .before .before .before .before .before .before .bit-in .ensures ∙ ap (getBit (s .args .src .now)) (c .before .before .before .before .before .before .before .opj-bio-init-dec .ensures) in
     let k = ap (λ (f : MarkerRead). f .skip) (c .before .before .before .before .before .before .before .before .read-marker .ensures) in
     let b = bioAt (c .before .before .before .before .before .before .before .before .read-marker .result .skip) in
     let p = getBit-place (s .args .src .now) b (omega (arith, k, skip-inside (s .args .m .sop) 6 0x91 (s .args .src .now) 0)) in
@@ -93,8 +93,8 @@ same-length-10 c = search needs
 returns-3 : tie.Need-returns-3
 returns-3 c =
     let s = c .before .before .before .before .before .before .before .before .before .before .before .before .before .before .before .before .before .before .before .before .before .before .before .before .before .before .before .before in
-    let e = c .before .before .before .before .before .before .before .before .before .before .before .before .before .before .before .opj-bio-getbit .ensures ∙ ap (getBit (s .args .src .now)) (c .before .before .before .before .before .before .before .before .before .before .before .before .before .before .before .before .opj-bio-init-dec .ensures) in
-    read-present-is (s .args .state .now) (s .args .scratch .now) (s .args .m) (s .args .src .now) (s .args .reports .now) (s .args .records .now) (sym (c .before .before .before .before .before .before .before .before .before .before .before .before .before .before .before .before .before .before .before .read-refusal .ensures) ∙ c .before .before .before .before .before .before .before .before .before .before .before .before .before .before .before .before .before .before .if1 .left) (markerRead (c .before .before .before .before .before .before .before .before .before .before .before .before .before .before .before .before .before .read-marker .result)) (c .before .before .before .before .before .before .before .before .before .before .before .before .before .before .before .before .before .read-marker .ensures) (decoded (c .before .before .before .before .before .before .before .before .before .before .before .before .before .before .before .opj-bio-getbit .result)) e _ (c .before .before .before .before .before .before .before .before .before .before .before .before .before .if2 .left) (c .before .before .before .before .before .before .before .before .read-present .ensures)
+    let e = c .before .before .before .before .before .before .before .before .before .before .before .before .before .before .before .bit-in .ensures ∙ ap (getBit (s .args .src .now)) (c .before .before .before .before .before .before .before .before .before .before .before .before .before .before .before .before .opj-bio-init-dec .ensures) in
+    read-present-is (s .args .state .now) (s .args .scratch .now) (s .args .m) (s .args .src .now) (s .args .reports .now) (s .args .records .now) (sym (c .before .before .before .before .before .before .before .before .before .before .before .before .before .before .before .before .before .before .before .read-refusal .ensures) ∙ c .before .before .before .before .before .before .before .before .before .before .before .before .before .before .before .before .before .before .if1 .left) (markerRead (c .before .before .before .before .before .before .before .before .before .before .before .before .before .before .before .before .before .read-marker .result)) (c .before .before .before .before .before .before .before .before .before .before .before .before .before .before .before .before .before .read-marker .ensures) (decoded (c .before .before .before .before .before .before .before .before .before .before .before .before .before .before .before .bit-in .result)) e _ (c .before .before .before .before .before .before .before .before .before .before .before .before .before .if2 .left) (c .before .before .before .before .before .before .before .before .read-present .ensures)
 
 pub read-spec : {M : Type 1} → statement M
 read-spec =
@@ -108,7 +108,7 @@ read-spec =
     returns
     read-marker-requires
     opj-bio-init-dec-requires
-    opj-bio-getbit-requires
+    bit-in-requires
     read-absent-requires
     same-length-4
     same-length-5
