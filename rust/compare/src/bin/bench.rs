@@ -53,13 +53,14 @@ mod timed {
     }
 
     impl Row {
-        fn new(side: u32, count: u32, rare: u64, blocks_a_round: usize) -> Row {
+        /// Some 4,096 blocks a round, but no more precincts than a cache holds of the crate's structs.
+        fn new(side: u32, count: u32, rare: u64) -> Row {
             let mut random = Random::new(7);
             let mut bands = Bands::default();
             bands[..count as usize].fill([side, side, 12]);
             let blocks = (count * side * side) as usize;
             let mut row = Row { count, bands, blocks, jobs: Vec::new(), lent: Lent::default() };
-            for _ in 0..(blocks_a_round / blocks).max(1) {
+            for _ in 0..(4096 / blocks).clamp(1, 512) {
                 let planes = (0..blocks).map(|_| random.between(4, 12) as u32).collect();
                 let layers: Vec<Layer> = (0..LAYERS).map(|_| layer(&mut random, blocks, rare)).collect();
                 let bodies = layers.iter().map(|l| random.bytes(l.body() as usize)).collect();
@@ -295,7 +296,7 @@ mod timed {
                 if !wanted("write") && !wanted("read") {
                     continue;
                 }
-                let mut row = Row::new(side, count, rare, 4096);
+                let mut row = Row::new(side, count, rare);
                 row.compare();
                 let blocks = row.blocks;
                 if wanted("write") {
