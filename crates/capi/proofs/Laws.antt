@@ -1,12 +1,11 @@
 -- The lent list of answer words, and the calls with one of the right length or another.
 use Prim.Native.Nat.{ℕ, _<_}
 use native.Mathlib.Omega.{arith}
-use mathlib.Core.Bool.{true, false, cond}
+use mathlib.Core.Bool.{true, false}
 use mathlib.Core.Path.{_≡_, refl, ap}
 use mathlib.Core.Logic.{_≢_}
 use mathlib.Core.List.{List, [], _∷_}
 use lib.ListN.{length, length-set, set, take}
-use lib.Dec.{eqb}
 use borrow.Author.Tests.{eq-eqb, ne-eqb}
 use Rattle.t800.specs.declared.Band.{Band}
 use Rattle.t800.specs.declared.Markers.{Markers}
@@ -16,8 +15,8 @@ use Rattle.t800.specs.declared.ReadAnswer.{ReadAnswer}
 use Rattle.t800.specs.State.{stateLength}
 use Rattle.t800.specs.Ranges.{badShape}
 use Rattle.t800.specs.WriteHeader.{Contribution}
-use Rattle.t800.specs.Packet.{MeasureResult, measure, WriteResult, write, ReadResult, read}
-use Rattle.capi.specs.Calls.{stateLengthOf, MeasureCall, measured, measureCall, WriteCall, written, writeCall, ReadCall, readAnswer, readOf, readCall}
+use Rattle.t800.specs.Packet.{measure, write, read}
+use Rattle.capi.specs.Calls.{stateLengthOf, measured, measureCall, written, writeCall, readAnswer, readOf, readCall}
 
 -- ---- all words of a list set
 

@@ -6,8 +6,6 @@ use lib.ListN.{length, take}
 use lib.Dec.{eqb}
 use Rattle.t800.specs.declared.Band.{Band}
 use Rattle.t800.specs.declared.Markers.{Markers}
-use Rattle.t800.specs.declared.MeasureAnswer.{MeasureAnswer}
-use Rattle.t800.specs.declared.WriteAnswer.{WriteAnswer}
 use Rattle.t800.specs.declared.ReadAnswer.{ReadAnswer}
 use Rattle.t800.specs.State.{stateLength}
 use Rattle.t800.specs.Ranges.{badShape}

@@ -1,13 +1,15 @@
 // The engine's calls for programs in C and Rust: slices as pointer and length, the refusal as result, the rest in a lent list of words.
 ghost use mathlib.Core.Path.{_≡_};
 ghost use mathlib.Core.List.{[], _∷_};
-ghost use lib.ListN.{length, take};
+ghost use lib.ListN.{length};
 ghost use Rattle.t800.specs.State.{writer, reader};
 ghost use Rattle.t800.specs.Start.{start};
 ghost use Rattle.t2check.specs.Refusals.{contribution};
 ghost use Rattle.capi.specs.Calls.{band, threeBands, stateLengthOf, measureCall, writeCall, readCall};
 use t800::Band;
 use t800::Markers;
+
+// ---- starts
 
 fn three_bands(
     across0: u32,
@@ -40,6 +42,15 @@ fn three_bands(
     [first, second, third]
 }
 
+fn state_length_of(count: u32, bands: [Band; 3]) -> usize
+    ensures { λ r. ⌜ r ≡ stateLengthOf count bands ⌝ }
+{
+    if tcdstate::bad_shape(count, bands) {
+        return 0;
+    }
+    tcd::state_length(bands, count as usize)
+}
+
 // The length that a start asks of its state, or 0 where it would give 1.
 #[no_mangle]
 pub extern "C" fn tonkelvi_state_length(
@@ -60,15 +71,7 @@ pub extern "C" fn tonkelvi_state_length(
     state_length_of(count, bands)
 }
 
-fn state_length_of(count: u32, bands: [Band; 3]) -> usize
-    ensures { λ r. ⌜ r ≡ stateLengthOf count bands ⌝ }
-{
-    if tcdstate::bad_shape(count, bands) {
-        return 0;
-    }
-    tcd::state_length(bands, count as usize)
-}
-
+// Gives 0 or a refusal.
 #[no_mangle]
 pub extern "C" fn tonkelvi_start_writer(
     count: u32,
@@ -91,6 +94,7 @@ pub extern "C" fn tonkelvi_start_writer(
     t2::start_writer(count, bands, style, planes, state)
 }
 
+// Gives 0 or a refusal; the planes are to be an empty list.
 #[no_mangle]
 pub extern "C" fn tonkelvi_start_reader(
     count: u32,
@@ -112,6 +116,8 @@ pub extern "C" fn tonkelvi_start_reader(
     let bands = three_bands(across0, down0, planes0, across1, down1, planes1, across2, down2, planes2);
     t2::start_reader(count, bands, style, planes, state)
 }
+
+// ---- the lent list of answer words
 
 fn put_one(answer: &mut [u64], a: u64)
     requires { ⌜ length (now answer) ≡ 1 ⌝ }
@@ -138,6 +144,8 @@ fn put_five(answer: &mut [u64], a: u64, b: u64, c: u64, d: u64, e: u64)
     answer[3] = d;
     answer[4] = e;
 }
+
+// ---- packets
 
 // Answers header and body bytes.
 #[no_mangle]
