@@ -175,7 +175,13 @@ impl Trials {
             other.marks.resize(marks, 0);
             if t.random.once_in(10) && !other.counts.is_empty() {
                 let at = t.random.below(other.counts.len() as u64) as usize;
-                other.counts[at] = inputs::edge(&mut t.random);
+                let many = t.random.once_in(2);
+                other.counts[at] = if many { t.random.between(163, 167) as u32 } else { inputs::edge(&mut t.random) };
+                let passes = other.counts.iter().fold(0u32, |sum, c| sum.saturating_add(*c)) as usize;
+                if many && passes < 4000 {
+                    other.lengths.resize(passes, 0);
+                    other.marks.resize(passes, 0);
+                }
             }
             let mut given = body.clone();
             given.resize(bytes, 9);

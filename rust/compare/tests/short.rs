@@ -44,7 +44,7 @@ fn states() {
 
 #[test]
 fn lists() {
-    trial(&[0, 3, 5, 10, 11, 13], |t| t.lists(100_000));
+    trial(&[0, 3, 5, 7, 10, 11, 13], |t| t.lists(100_000));
 }
 
 #[test]
