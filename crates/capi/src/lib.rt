@@ -1,0 +1,217 @@
+// The engine's calls for programs in C and Rust: slices as pointer and length, the refusal as result, the rest in a lent list of words.
+ghost use mathlib.Core.Path.{_≡_};
+ghost use mathlib.Core.List.{[], _∷_};
+ghost use lib.ListN.{length};
+ghost use Rattle.t800.specs.State.{writer, reader};
+ghost use Rattle.t800.specs.Start.{start};
+ghost use Rattle.t2check.specs.Refusals.{contribution};
+ghost use Rattle.capi.specs.Calls.{band, threeBands, stateLengthOf, measureCall, writeCall, readCall};
+use t800::Band;
+use t800::Markers;
+
+// ---- starts
+
+fn three_bands(
+    across0: u32,
+    down0: u32,
+    planes0: u32,
+    across1: u32,
+    down1: u32,
+    planes1: u32,
+    across2: u32,
+    down2: u32,
+    planes2: u32,
+) -> [Band; 3]
+    ensures { λ r. ⌜ r ≡ threeBands (band across0 down0 planes0) (band across1 down1 planes1) (band across2 down2 planes2) ⌝ }
+{
+    let first = Band {
+        across: across0,
+        down: down0,
+        planes: planes0,
+    };
+    let second = Band {
+        across: across1,
+        down: down1,
+        planes: planes1,
+    };
+    let third = Band {
+        across: across2,
+        down: down2,
+        planes: planes2,
+    };
+    [first, second, third]
+}
+
+fn state_length_of(count: u32, bands: [Band; 3]) -> usize
+    ensures { λ r. ⌜ r ≡ stateLengthOf count bands ⌝ }
+{
+    if tcdstate::bad_shape(count, bands) {
+        return 0;
+    }
+    tcd::state_length(bands, count as usize)
+}
+
+// The length that a start asks of its state, or 0 where it would give 1.
+#[no_mangle]
+pub extern "C" fn tonkelvi_state_length(
+    count: u32,
+    across0: u32,
+    down0: u32,
+    planes0: u32,
+    across1: u32,
+    down1: u32,
+    planes1: u32,
+    across2: u32,
+    down2: u32,
+    planes2: u32,
+) -> usize
+    ensures { λ r. ⌜ r ≡ stateLengthOf count (threeBands (band across0 down0 planes0) (band across1 down1 planes1) (band across2 down2 planes2)) ⌝ }
+{
+    let bands = three_bands(across0, down0, planes0, across1, down1, planes1, across2, down2, planes2);
+    state_length_of(count, bands)
+}
+
+// Gives 0 or a refusal.
+#[no_mangle]
+pub extern "C" fn tonkelvi_start_writer(
+    count: u32,
+    across0: u32,
+    down0: u32,
+    planes0: u32,
+    across1: u32,
+    down1: u32,
+    planes1: u32,
+    across2: u32,
+    down2: u32,
+    planes2: u32,
+    style: u8,
+    planes: &[u32],
+    state: &mut [u32],
+) -> u32
+    ensures { λ r. ⌜ record { answer = r; state = now (state .exit) } ≡ start writer count (threeBands (band across0 down0 planes0) (band across1 down1 planes1) (band across2 down2 planes2)) style (now (planes .entry)) (now (state .entry)) ⌝ }
+{
+    let bands = three_bands(across0, down0, planes0, across1, down1, planes1, across2, down2, planes2);
+    t2::start_writer(count, bands, style, planes, state)
+}
+
+// Gives 0 or a refusal; the planes are to be an empty list.
+#[no_mangle]
+pub extern "C" fn tonkelvi_start_reader(
+    count: u32,
+    across0: u32,
+    down0: u32,
+    planes0: u32,
+    across1: u32,
+    down1: u32,
+    planes1: u32,
+    across2: u32,
+    down2: u32,
+    planes2: u32,
+    style: u8,
+    planes: &[u32],
+    state: &mut [u32],
+) -> u32
+    ensures { λ r. ⌜ record { answer = r; state = now (state .exit) } ≡ start reader count (threeBands (band across0 down0 planes0) (band across1 down1 planes1) (band across2 down2 planes2)) style (now (planes .entry)) (now (state .entry)) ⌝ }
+{
+    let bands = three_bands(across0, down0, planes0, across1, down1, planes1, across2, down2, planes2);
+    t2::start_reader(count, bands, style, planes, state)
+}
+
+// ---- the lent list of answer words
+
+fn put_one(answer: &mut [u64], a: u64)
+    requires { ⌜ length (now answer) ≡ 1 ⌝ }
+    ensures { λ _. ⌜ now (answer .exit) ≡ a ∷ [] ⌝ }
+{
+    answer[0] = a;
+}
+
+fn put_two(answer: &mut [u64], a: u64, b: u64)
+    requires { ⌜ length (now answer) ≡ 2 ⌝ }
+    ensures { λ _. ⌜ now (answer .exit) ≡ a ∷ b ∷ [] ⌝ }
+{
+    answer[0] = a;
+    answer[1] = b;
+}
+
+fn put_five(answer: &mut [u64], a: u64, b: u64, c: u64, d: u64, e: u64)
+    requires { ⌜ length (now answer) ≡ 5 ⌝ }
+    ensures { λ _. ⌜ now (answer .exit) ≡ a ∷ b ∷ c ∷ d ∷ e ∷ [] ⌝ }
+{
+    answer[0] = a;
+    answer[1] = b;
+    answer[2] = c;
+    answer[3] = d;
+    answer[4] = e;
+}
+
+// ---- packets
+
+// Answers header and body bytes.
+#[no_mangle]
+pub extern "C" fn tonkelvi_measure(
+    state: &[u32],
+    scratch: &mut [u32],
+    counts: &[u32],
+    lengths: &[u32],
+    marks: &[u8],
+    sop: bool,
+    eph: bool,
+    answer: &mut [u64],
+) -> u32
+    ensures { λ r. ⌜ record { refusal = r; scratch = now (scratch .exit); answer = now (answer .exit) } ≡ measureCall (now (state .entry)) (now (scratch .entry)) (contribution (now (counts .entry)) (now (lengths .entry)) (now (marks .entry))) (record { sop = sop; eph = eph }) (now (answer .entry)) ⌝ }
+{
+    if answer.len() != 2 {
+        return 3;
+    }
+    let r = t2::measure(state, scratch, counts, lengths, marks, Markers { sop, eph });
+    put_two(answer, r.header, r.body);
+    r.refusal
+}
+
+// Answers the packet's bytes.
+#[no_mangle]
+pub extern "C" fn tonkelvi_write(
+    state: &mut [u32],
+    scratch: &mut [u32],
+    counts: &[u32],
+    lengths: &[u32],
+    marks: &[u8],
+    body: &[u8],
+    sop: bool,
+    eph: bool,
+    number: u32,
+    output: &mut [u8],
+    answer: &mut [u64],
+) -> u32
+    ensures { λ r. ⌜ record { refusal = r; state = now (state .exit); scratch = now (scratch .exit); output = now (output .exit); answer = now (answer .exit) } ≡ writeCall (now (state .entry)) (now (scratch .entry)) (contribution (now (counts .entry)) (now (lengths .entry)) (now (marks .entry))) (now (body .entry)) (record { sop = sop; eph = eph }) number (now (output .entry)) (now (answer .entry)) ⌝ }
+{
+    if answer.len() != 1 {
+        return 3;
+    }
+    let r = t2::write(state, scratch, counts, lengths, marks, body, Markers { sop, eph }, number, output);
+    put_one(answer, r.bytes);
+    r.refusal
+}
+
+// Answers present, bytes taken, segments, SOP mark, EPH mark.
+#[no_mangle]
+pub extern "C" fn tonkelvi_read(
+    state: &mut [u32],
+    scratch: &mut [u32],
+    src: &[u8],
+    sop: bool,
+    eph: bool,
+    reports: &mut [u32],
+    records: &mut [u32],
+    answer: &mut [u64],
+) -> u32
+    ensures { λ r. ⌜ record { refusal = r; state = now (state .exit); scratch = now (scratch .exit); reports = now (reports .exit); records = now (records .exit); answer = now (answer .exit) } ≡ readCall (now (state .entry)) (now (scratch .entry)) (record { sop = sop; eph = eph }) (now (src .entry)) (now (reports .entry)) (now (records .entry)) (now (answer .entry)) ⌝ }
+{
+    if answer.len() != 5 {
+        return 3;
+    }
+    let r = t2::read(state, scratch, src, Markers { sop, eph }, reports, records);
+    put_five(answer, r.present as u64, r.taken, r.segments, r.sop as u64, r.eph as u64);
+    r.refusal
+}

@@ -1,0 +1,327 @@
+//! bench [SECONDS [PATTERN]]: packets written and read by the engine and by crate openjp2's own functions, in one process, on the same inputs.
+//! Both sides' bytes and answers are compared before anything is timed. A row is timed in turn, the crate's side and ours, for so many
+//! seconds, and the best time of each side counts. PATTERN: only the rows whose names hold it.
+#[cfg(openjp2)]
+mod timed {
+    use compare::openjp2::t2::precinct::Precinct;
+    use compare::pair::{Bands, Layer};
+    use compare::random::Random;
+    use std::time::{Duration, Instant};
+    use tonkelvi::words;
+
+    const LAYERS: usize = 4;
+
+    type Side = fn(&mut Row) -> Duration;
+
+    /// One precinct's start and its layers.
+    struct Job {
+        planes: Vec<u32>,
+        layers: Vec<Layer>,
+        bodies: Vec<Vec<u8>>,
+        /// The packets, as the engine writes them.
+        packets: Vec<Vec<u8>>,
+    }
+
+    /// Lists lent to the calls, made and touched once.
+    #[derive(Default)]
+    struct Lent {
+        states: Vec<Vec<u32>>,
+        scratch: Vec<u32>,
+        output: Vec<u8>,
+        reports: Vec<u32>,
+        records: Vec<u32>,
+    }
+
+    struct Row {
+        count: u32,
+        bands: Bands,
+        blocks: usize,
+        jobs: Vec<Job>,
+        lent: Lent,
+    }
+
+    /// A layer in which one block in `rare` has passes; none has with 0.
+    fn layer(random: &mut Random, blocks: usize, rare: u64) -> Layer {
+        let mut layer = Layer::default();
+        for _ in 0..blocks {
+            let count = if rare != 0 && random.once_in(rare) { random.between(1, 3) as u32 } else { 0 };
+            layer.counts.push(count);
+            layer.lengths.extend((0..count).map(|_| random.between(1, 100) as u32));
+            layer.marks.extend((0..count).map(|_| 0));
+        }
+        layer
+    }
+
+    impl Row {
+        /// Some 4,096 blocks a round, but no more precincts than a cache holds of the crate's structs.
+        fn new(side: u32, count: u32, rare: u64) -> Row {
+            let mut random = Random::new(7);
+            let mut bands = Bands::default();
+            bands[..count as usize].fill([side, side, 12]);
+            let blocks = (count * side * side) as usize;
+            let mut row = Row { count, bands, blocks, jobs: Vec::new(), lent: Lent::default() };
+            for _ in 0..(4096 / blocks).clamp(1, 512) {
+                let planes = (0..blocks).map(|_| random.between(4, 12) as u32).collect();
+                let layers: Vec<Layer> = (0..LAYERS).map(|_| layer(&mut random, blocks, rare)).collect();
+                let bodies = layers.iter().map(|l| random.bytes(l.body() as usize)).collect();
+                row.jobs.push(Job { planes, layers, bodies, packets: Vec::new() });
+            }
+            let length = row.length();
+            row.lent = Lent {
+                states: row.jobs.iter().map(|_| vec![1; length]).collect(),
+                scratch: vec![1; length],
+                output: vec![1; row.room()],
+                reports: vec![1; 4 * blocks],
+                records: vec![1; 12 * blocks],
+            };
+            row
+        }
+
+        fn length(&self) -> usize {
+            words::state_length(self.count, &self.bands)
+        }
+
+        fn started(&self, writer: bool, job: &Job) -> Vec<u32> {
+            let mut state = vec![0; self.length()];
+            let number = match writer {
+                true => words::start_writer(self.count, &self.bands, 0, &job.planes, &mut state),
+                false => words::start_reader(self.count, &self.bands, 0, &[], &mut state),
+            };
+            assert_eq!(number, 0);
+            state
+        }
+
+        fn room(&self) -> usize {
+            self.jobs.iter().flat_map(|job| &job.bodies).map(|b| b.len() + 16 * self.blocks + 64).max().unwrap()
+        }
+
+        // ---- writing
+
+        fn engine_writes(&mut self, keep: bool) -> Duration {
+            let Lent { states, scratch, output, .. } = &mut self.lent;
+            let mut answer = [0; 1];
+            let mut total = Duration::ZERO;
+            let begin = Instant::now();
+            for (job, state) in self.jobs.iter().zip(states.iter_mut()) {
+                words::start_writer(self.count, &self.bands, 0, &job.planes, state);
+            }
+            total += begin.elapsed();
+            for i in 0..LAYERS {
+                let begin = Instant::now();
+                for (job, state) in self.jobs.iter_mut().zip(states.iter_mut()) {
+                    let Layer { counts, lengths, marks } = &job.layers[i];
+                    let number = words::write(state, scratch, counts, lengths, marks, &job.bodies[i], false, false, 0, output, &mut answer);
+                    if keep {
+                        assert_eq!(number, 0);
+                        job.packets.push(output[..answer[0] as usize].to_vec());
+                    }
+                }
+                total += begin.elapsed();
+            }
+            total
+        }
+
+        fn crate_writes(&mut self, check: bool) -> Duration {
+            let mut precincts: Vec<Precinct> = self.jobs.iter().map(|job| Precinct::from_words(&self.started(true, job), true)).collect();
+            let output = &mut self.lent.output;
+            let mut total = Duration::ZERO;
+            for i in 0..LAYERS {
+                for (job, precinct) in self.jobs.iter().zip(&mut precincts) {
+                    let Layer { counts, lengths, marks } = &job.layers[i];
+                    precinct.give(counts, lengths, marks, Some(&job.bodies[i]));
+                }
+                let begin = Instant::now();
+                for (job, precinct) in self.jobs.iter().zip(&mut precincts) {
+                    let bytes = precinct.write(false, false, 0, output);
+                    if check {
+                        assert_eq!(output[..bytes.unwrap()], job.packets[i]);
+                    }
+                }
+                total += begin.elapsed();
+            }
+            total
+        }
+
+        // ---- reading
+
+        fn engine_reads(&mut self, check: bool) -> Duration {
+            let Lent { states, scratch, reports, records, .. } = &mut self.lent;
+            let mut answer = [0; 5];
+            let mut total = Duration::ZERO;
+            let begin = Instant::now();
+            for state in states.iter_mut() {
+                words::start_reader(self.count, &self.bands, 0, &[], state);
+            }
+            total += begin.elapsed();
+            for i in 0..LAYERS {
+                let begin = Instant::now();
+                for (job, state) in self.jobs.iter().zip(states.iter_mut()) {
+                    let number = words::read(state, scratch, &job.packets[i], false, false, reports, records, &mut answer);
+                    if check {
+                        assert_eq!((number, answer[1] as usize), (0, job.packets[i].len() - job.bodies[i].len()));
+                    }
+                }
+                total += begin.elapsed();
+            }
+            total
+        }
+
+        /// With the crate's settling of the passes, which is part of the engine's read; or the header alone, settled untimed.
+        fn crate_reads(&mut self, settling: bool, check: bool) -> Duration {
+            let mut precincts: Vec<Precinct> = self.jobs.iter().map(|job| Precinct::from_words(&self.started(false, job), true)).collect();
+            let mut total = Duration::ZERO;
+            for i in 0..LAYERS {
+                let begin = Instant::now();
+                for (job, precinct) in self.jobs.iter().zip(&mut precincts) {
+                    let read = precinct.read_header(false, false, &job.packets[i]);
+                    if settling {
+                        precinct.settle(true);
+                    }
+                    if check {
+                        assert_eq!(read.unwrap(), (true, job.packets[i].len() - job.bodies[i].len()));
+                    }
+                }
+                total += begin.elapsed();
+                if !settling {
+                    precincts.iter_mut().for_each(|p| p.settle(true));
+                }
+            }
+            total
+        }
+
+        // ---- OpenJPEG
+
+        #[cfg(openjpeg)]
+        fn openjpeg_writes(&mut self, check: bool) -> Duration {
+            use compare::openjpeg::Precinct;
+            let [side, _, planes] = self.bands[0];
+            let mut precincts: Vec<Precinct> =
+                self.jobs.iter().map(|job| Precinct::writer(self.count, side, planes, &job.planes)).collect();
+            let output = &mut self.lent.output;
+            let mut total = Duration::ZERO;
+            for i in 0..LAYERS {
+                for (job, precinct) in self.jobs.iter().zip(&mut precincts) {
+                    precinct.give(&job.layers[i].counts, &job.layers[i].lengths, &job.bodies[i]);
+                }
+                let begin = Instant::now();
+                for (job, precinct) in self.jobs.iter().zip(&mut precincts) {
+                    let bytes = precinct.write(output);
+                    if check {
+                        assert_eq!(output[..bytes], job.packets[i]);
+                    }
+                }
+                total += begin.elapsed();
+            }
+            total
+        }
+
+        #[cfg(openjpeg)]
+        fn openjpeg_reads(&mut self, check: bool) -> Duration {
+            use compare::openjpeg::Precinct;
+            let [side, _, planes] = self.bands[0];
+            let mut precincts: Vec<Precinct> = self.jobs.iter().map(|_| Precinct::reader(self.count, side, planes)).collect();
+            let mut total = Duration::ZERO;
+            for i in 0..LAYERS {
+                let begin = Instant::now();
+                for (job, precinct) in self.jobs.iter().zip(&mut precincts) {
+                    let taken = precinct.read(&job.packets[i]);
+                    precinct.settle();
+                    if check {
+                        assert_eq!(taken, job.packets[i].len() - job.bodies[i].len());
+                    }
+                }
+                total += begin.elapsed();
+            }
+            total
+        }
+
+        #[cfg(not(openjpeg))]
+        fn openjpeg_writes(&mut self, _: bool) -> Duration {
+            Duration::MAX
+        }
+
+        #[cfg(not(openjpeg))]
+        fn openjpeg_reads(&mut self, _: bool) -> Duration {
+            Duration::MAX
+        }
+
+        fn compare(&mut self) {
+            self.engine_writes(true);
+            self.crate_writes(true);
+            self.engine_reads(true);
+            self.crate_reads(true, true);
+            self.openjpeg_writes(true);
+            self.openjpeg_reads(true);
+        }
+
+        /// The best of each side, as nanoseconds a packet.
+        fn best(&mut self, time: Duration, sides: &[Side]) -> Vec<f64> {
+            let mut best = vec![Duration::MAX; sides.len()];
+            let begin = Instant::now();
+            while begin.elapsed() < time {
+                for (side, least) in sides.iter().zip(&mut best) {
+                    *least = (*least).min(side(self));
+                }
+            }
+            let packets = (self.jobs.len() * LAYERS) as f64;
+            best.into_iter().map(|d| d.as_nanos() as f64 / packets).collect()
+        }
+    }
+
+    /// A row of the table: `times` has the crate's, ours, OpenJPEG's and the crate's header alone.
+    fn print(what: &str, name: &str, density: &str, blocks: usize, times: &[f64]) {
+        let ours = times[1];
+        let thousands = |ns: f64| format!("{:.*}", if ns > 1e5 { 1 } else { 0 }, 1e6 / ns);
+        let ratio = |i: usize| times.get(i).filter(|t| **t < 1e12).map_or("-".to_string(), |t| format!("{:.2}", t / ours));
+        println!(
+            "| {what} | {name} | {density} | {:.0} | {:.0} | {:.1} | {:.1} | {} | {} | {} | {} | {} |",
+            times[0],
+            ours,
+            times[0] / blocks as f64,
+            ours / blocks as f64,
+            thousands(times[0]),
+            thousands(ours),
+            ratio(0),
+            ratio(3),
+            ratio(2),
+        );
+    }
+
+    pub fn main(time: Duration, pattern: &str) {
+        println!("| call | blocks | layers | crate, ns a packet | ours | crate, ns a block | ours | crate, 1,000 packets/s | ours | crate / ours | crate's header alone / ours | OpenJPEG / ours |");
+        println!("|---|---|---|---|---|---|---|---|---|---|---|---|");
+        for (side, count, name) in [(1, 1, "1 × 1"), (4, 1, "4 × 4"), (16, 1, "16 × 16"), (64, 3, "64 × 64 × 3")] {
+            for (rare, density) in [(1, "dense"), (8, "sparse"), (0, "empty")] {
+                let wanted = |call: &str| format!("{call} {name} {density}").contains(pattern);
+                if !wanted("write") && !wanted("read") {
+                    continue;
+                }
+                let mut row = Row::new(side, count, rare);
+                row.compare();
+                let blocks = row.blocks;
+                if wanted("write") {
+                    let sides: Vec<Side> = vec![|r| r.crate_writes(false), |r| r.engine_writes(false), |r| r.openjpeg_writes(false)];
+                    print("write", name, density, blocks, &row.best(time, &sides));
+                }
+                if wanted("read") {
+                    let sides: Vec<Side> =
+                        vec![|r| r.crate_reads(true, false), |r| r.engine_reads(false), |r| r.openjpeg_reads(false), |r| {
+                            r.crate_reads(false, false)
+                        }];
+                    print("read", name, density, blocks, &row.best(time, &sides));
+                }
+            }
+        }
+    }
+}
+
+fn main() {
+    #[cfg(openjp2)]
+    {
+        let seconds = std::env::args().nth(1).map_or(0.6, |a| a.parse().expect("seconds"));
+        let pattern = std::env::args().nth(2).unwrap_or_default();
+        timed::main(std::time::Duration::from_secs_f64(seconds), &pattern);
+    }
+    #[cfg(not(openjp2))]
+    println!("crate openjp2's sources were not there when this was built: there is nothing to compare with");
+}

@@ -1,0 +1,36 @@
+//! compare [CALLS [SEED]]: at least so many calls, by the engine, by document 01's plain Rust and, inside its domain, by the crate.
+use compare::trials::Trials;
+use std::time::Instant;
+
+fn main() {
+    let mut arguments = std::env::args().skip(1).map(|a| a.parse::<u64>().expect("a number"));
+    let calls = arguments.next().unwrap_or(12_000_000);
+    let seed = arguments.next().unwrap_or(1);
+    let begin = Instant::now();
+    if !cfg!(openjp2) {
+        println!("crate openjp2's sources were not there when this was built: the comparison with the crate is left out");
+    }
+    let mut trials = Trials::new(seed);
+    let mut part = |name: &str, trial: &dyn Fn(&mut Trials)| {
+        let (before, from) = (trials.pair.counts.total(), Instant::now());
+        trial(&mut trials);
+        println!("{name:>20}  {:>9} calls, {:.1} s", trials.pair.counts.total() - before, from.elapsed().as_secs_f64());
+    };
+    let share = |percent: u64| calls * percent / 100;
+    part("deepest", &|t| t.deepest());
+    part("all layers", &|t| (0..share(1) / 20_000 + 1).for_each(|_| t.all_layers()));
+    part("largest", &|t| t.largest(share(1) as u32 / 20_000 + 2));
+    part("counts and lengths", &|t| t.counts_and_lengths(1));
+    part("short inputs", &|t| t.short_inputs(if calls < 4_000_000 { 1 } else { 3 }, 2));
+    part("starts", &|t| t.starts(share(8)));
+    part("lists", &|t| t.lists(share(8)));
+    part("states", &|t| t.states(share(20)));
+    part("packets", &|t| t.sessions(share(18), 4));
+    part("larger packets", &|t| t.sessions(share(2), 12));
+    part("packets of one block", &|t| {
+        let left = calls.saturating_sub(t.pair.counts.total());
+        t.sessions(left, 1)
+    });
+    trials.pair.counts.print();
+    println!("seed {seed}, {:.0} s: no difference", begin.elapsed().as_secs_f64());
+}

@@ -1,0 +1,10 @@
+//! The engine against document 01, written once more as plain Rust, and against crate openjp2's own packet functions.
+mod inputs;
+pub mod model;
+#[cfg(openjp2)]
+pub mod openjp2;
+#[cfg(openjpeg)]
+pub mod openjpeg;
+pub mod pair;
+pub mod random;
+pub mod trials;

@@ -1,0 +1,354 @@
+//! Each call made twice, by the engine and by document 01's plain Rust, on equal copies of every buffer; and where the call lies in the
+//! crate's domain, by the crate too. Anything unequal ends the run with all arguments.
+use crate::model;
+use std::fmt::Debug;
+use tonkelvi::words;
+
+pub type Bands = [[u32; 3]; 3];
+
+/// What the lists held before a call is written over by it; these are the words that no call is to keep by chance.
+const USED: u32 = 0xdead_beef;
+
+#[derive(Clone, Copy, PartialEq, Eq, Debug)]
+pub enum Call {
+    Length,
+    StartWriter,
+    StartReader,
+    Measure,
+    Write,
+    Read,
+}
+
+pub const CALLS: [(Call, &str); 6] = [
+    (Call::Length, "state_length"),
+    (Call::StartWriter, "start_writer"),
+    (Call::StartReader, "start_reader"),
+    (Call::Measure, "measure"),
+    (Call::Write, "write"),
+    (Call::Read, "read"),
+];
+
+/// How many calls gave which number, and how many of them the crate was asked too.
+#[derive(Clone, Default)]
+pub struct Counts {
+    pub by_number: [[u64; 14]; 6],
+    pub with_crate: [[u64; 14]; 6],
+}
+
+impl Counts {
+    pub fn total(&self) -> u64 {
+        self.by_number.iter().flatten().sum()
+    }
+
+    pub fn number(&self, number: usize) -> u64 {
+        self.by_number.iter().map(|row| row[number]).sum()
+    }
+
+    pub fn print(&self) {
+        println!("{:>13}  {}", "", (0..14).map(|n| format!("{n:>10}")).collect::<String>());
+        for (call, name) in CALLS {
+            for (counts, label) in [(&self.by_number, name.to_string()), (&self.with_crate, "by the crate".to_string())] {
+                let row = &counts[call as usize];
+                if row.iter().any(|n| *n > 0) {
+                    println!(
+                        "{label:>13}  {}",
+                        row.iter().map(|n| if *n == 0 { format!("{:>10}", "-") } else { format!("{n:>10}") }).collect::<String>()
+                    );
+                }
+            }
+        }
+        let with_crate: u64 = self.with_crate.iter().flatten().sum();
+        println!("{} calls, {} of them compared with the crate too", self.total(), with_crate);
+    }
+}
+
+fn same<T: PartialEq + Debug>(what: &str, engine: &T, other: &T, call: &dyn Fn() -> String) {
+    if engine != other {
+        panic!("{what} differ\n engine: {engine:?}\n other:  {other:?}\n call:   {}", call());
+    }
+}
+
+/// What a layer brings.
+#[derive(Clone, Default, Debug)]
+pub struct Layer {
+    pub counts: Vec<u32>,
+    pub lengths: Vec<u32>,
+    pub marks: Vec<u8>,
+}
+
+impl Layer {
+    pub fn body(&self) -> u64 {
+        self.lengths.iter().map(|l| u64::from(*l)).sum()
+    }
+}
+
+#[derive(Clone, Copy, Default, Debug)]
+pub struct Markers {
+    pub sop: bool,
+    pub eph: bool,
+}
+
+#[derive(Default)]
+pub struct Pair {
+    pub counts: Counts,
+}
+
+impl Pair {
+    fn count(&mut self, call: Call, number: u32, with_crate: bool) {
+        self.counts.by_number[call as usize][number as usize] += 1;
+        self.counts.with_crate[call as usize][number as usize] += u64::from(with_crate);
+    }
+
+    pub fn state_length(&mut self, count: u32, bands: &Bands) -> usize {
+        let engine = words::state_length(count, bands);
+        same("lengths", &engine, &model::state_length(count, bands), &|| format!("{count} {bands:?}"));
+        self.count(Call::Length, 0, false);
+        engine
+    }
+
+    /// A start with a state of so many words. Gives the state where it was filled.
+    pub fn start(&mut self, writer: bool, count: u32, bands: &Bands, style: u8, planes: &[u32], length: usize) -> Option<Vec<u32>> {
+        let mut state = vec![USED; length];
+        let mut expected = state.clone();
+        let (call, engine, model): (_, fn(_, &_, _, &_, &mut _) -> _, fn(_, &_, _, &_, &mut _) -> _) = match writer {
+            true => (Call::StartWriter, words::start_writer, model::start_writer),
+            false => (Call::StartReader, words::start_reader, model::start_reader),
+        };
+        let number = engine(count, bands, style, planes, &mut state[..]);
+        let should = model(count, bands, style, planes, &mut expected[..]);
+        let text = || format!("start writer {writer} {count} {bands:?} style {style} planes {planes:?} length {length}");
+        same("numbers", &number, &should, &text);
+        same("states", &state, &expected, &text);
+        self.count(call, number, false);
+        (number == 0).then_some(state)
+    }
+
+    /// A measure with a scratch and an answer of so many words. Gives number, header and body.
+    pub fn measure(&mut self, state: &[u32], scratch: usize, layer: &Layer, markers: Markers, answer: usize) -> (u32, u64, u64) {
+        let before = state.to_vec();
+        let mut buffers = (vec![USED; scratch], vec![u64::MAX; answer]);
+        let mut expected = buffers.clone();
+        let Layer { counts, lengths, marks } = layer;
+        let number = words::measure(state, &mut buffers.0, counts, lengths, marks, markers.sop, markers.eph, &mut buffers.1);
+        let should = model::measure(state, &mut expected.0, counts, lengths, marks, markers.sop, markers.eph, &mut expected.1);
+        let text = || format!("measure {before:?} scratch {scratch} {layer:?} {markers:?} answer {answer}");
+        same("numbers", &number, &should, &text);
+        same("buffers", &buffers, &expected, &text);
+        let with_crate = number == 0 && crate_measures(state, layer, markers, &buffers, &text);
+        self.count(Call::Measure, number, with_crate);
+        let word = |i: usize| if number == 0 { buffers.1[i] } else { 0 };
+        (number, word(0), word(1))
+    }
+
+    /// A write on the state. Gives the number, and the packet where it was written.
+    #[allow(clippy::too_many_arguments)]
+    pub fn write(
+        &mut self,
+        state: &mut Vec<u32>,
+        scratch: usize,
+        layer: &Layer,
+        body: &[u8],
+        markers: Markers,
+        packet: u32,
+        output: usize,
+        answer: usize,
+    ) -> (u32, Vec<u8>) {
+        let before = state.clone();
+        let mut buffers = (vec![USED; scratch], vec![0xa5; output], vec![u64::MAX; answer]);
+        let mut expected = buffers.clone();
+        let mut expected_state = state.clone();
+        let Layer { counts, lengths, marks } = layer;
+        let number = words::write(
+            state,
+            &mut buffers.0,
+            counts,
+            lengths,
+            marks,
+            body,
+            markers.sop,
+            markers.eph,
+            packet,
+            &mut buffers.1,
+            &mut buffers.2,
+        );
+        let should = model::write(
+            &mut expected_state,
+            &mut expected.0,
+            counts,
+            lengths,
+            marks,
+            body,
+            markers.sop,
+            markers.eph,
+            packet,
+            &mut expected.1,
+            &mut expected.2,
+        );
+        let text = || {
+            format!(
+                "write {before:?} scratch {scratch} {layer:?} {} bytes {markers:?} {packet} output {output} answer {answer}",
+                body.len()
+            )
+        };
+        same("numbers", &number, &should, &text);
+        same("states", state, &expected_state, &text);
+        same("buffers", &buffers, &expected, &text);
+        let with_crate =
+            (number == 0 || number == 11) && crate_writes(&before, layer, body, markers, packet, (number, state, &buffers.1), &text);
+        self.count(Call::Write, number, with_crate);
+        let bytes = if number == 0 { buffers.2[0] as usize } else { 0 };
+        buffers.1.truncate(bytes);
+        (number, buffers.1)
+    }
+
+    /// A read on the state. Gives the number and the answer.
+    #[allow(clippy::too_many_arguments)]
+    pub fn read(
+        &mut self,
+        state: &mut Vec<u32>,
+        scratch: usize,
+        src: &[u8],
+        markers: Markers,
+        reports: usize,
+        records: usize,
+        answer: usize,
+    ) -> (u32, Vec<u64>) {
+        let before = state.clone();
+        let mut buffers = (vec![USED; scratch], vec![USED; reports], vec![USED; records], vec![u64::MAX; answer]);
+        let mut expected = buffers.clone();
+        let mut expected_state = state.clone();
+        let number = words::read(state, &mut buffers.0, src, markers.sop, markers.eph, &mut buffers.1, &mut buffers.2, &mut buffers.3);
+        let should = model::read(
+            &mut expected_state,
+            &mut expected.0,
+            src,
+            markers.sop,
+            markers.eph,
+            &mut expected.1,
+            &mut expected.2,
+            &mut expected.3,
+        );
+        let text =
+            || format!("read {before:?} scratch {scratch} {src:02x?} {markers:?} reports {reports} records {records} answer {answer}");
+        same("numbers", &number, &should, &text);
+        same("states", state, &expected_state, &text);
+        same("buffers", &buffers, &expected, &text);
+        let told = (number, &state[..], &buffers.1[..], &buffers.2[..], &buffers.3[..]);
+        let with_crate = matches!(number, 0 | 9 | 12) && crate_reads(&before, src, markers, told, &text);
+        self.count(Call::Read, number, with_crate);
+        (number, buffers.3)
+    }
+}
+
+// ---- the crate
+
+/// The crate resets the trees at layer 0: only a state that a start filled counts there.
+#[cfg(openjp2)]
+fn in_domain(state: &[u32]) -> bool {
+    if state[3] != 0 {
+        return true;
+    }
+    let mut bands = Bands::default();
+    let used = model::bands_of(state);
+    bands[..used.len()].copy_from_slice(&used);
+    let mut started = vec![0; state.len()];
+    let number = match state[0] {
+        1 => {
+            let (places, _, _) = model::layout(&used);
+            let leaf = |p: &model::Place, i: usize| state[p.zero_planes + 3 * i];
+            let planes: Vec<u32> =
+                places.iter().zip(&used).flat_map(|(p, band)| (0..p.blocks).map(move |i| band[2].wrapping_sub(leaf(p, i)))).collect();
+            model::start_writer(state[1], &bands, state[2] as u8, &planes, &mut started)
+        }
+        _ => model::start_reader(state[1], &bands, state[2] as u8, &[], &mut started),
+    };
+    number == 0 && started == state
+}
+
+#[cfg(openjp2)]
+use crate::openjp2::t2::precinct::{Failed, Precinct};
+
+/// The crate's header is as long, and leaves the same state. No body is made.
+#[cfg(openjp2)]
+fn crate_measures(state: &[u32], layer: &Layer, markers: Markers, engine: &(Vec<u32>, Vec<u64>), text: &dyn Fn() -> String) -> bool {
+    if !in_domain(state) {
+        return false;
+    }
+    let mut precinct = Precinct::from_words(state, true);
+    precinct.give(&layer.counts, &layer.lengths, &layer.marks, None);
+    let mut output = vec![0; engine.1[0] as usize + 8];
+    let bytes = precinct.write(markers.sop, markers.eph, 0, &mut output);
+    same("bytes of the crate's header", &Some(engine.1[0] as usize), &bytes, text);
+    same("states of the crate", &engine.0, &precinct.words(), text);
+    true
+}
+
+#[cfg(openjp2)]
+fn crate_writes(
+    before: &[u32],
+    layer: &Layer,
+    body: &[u8],
+    markers: Markers,
+    packet: u32,
+    engine: (u32, &Vec<u32>, &Vec<u8>),
+    text: &dyn Fn() -> String,
+) -> bool {
+    if !in_domain(before) {
+        return false;
+    }
+    let (number, state, bytes) = engine;
+    let mut precinct = Precinct::from_words(before, packet % 2 == 0);
+    precinct.give(&layer.counts, &layer.lengths, &layer.marks, Some(body));
+    let mut output = vec![0xa5; bytes.len()];
+    let written = precinct.write(markers.sop, markers.eph, packet, &mut output);
+    same("successes of the crate's write", &(number == 0), &written.is_some(), text);
+    if number == 0 {
+        same("bytes of the crate", bytes, &output, text);
+        same("states of the crate", state, &precinct.words(), text);
+    }
+    true
+}
+
+#[cfg(openjp2)]
+#[allow(clippy::type_complexity)]
+fn crate_reads(
+    before: &[u32],
+    src: &[u8],
+    markers: Markers,
+    engine: (u32, &[u32], &[u32], &[u32], &[u64]),
+    text: &dyn Fn() -> String,
+) -> bool {
+    if !in_domain(before) {
+        return false;
+    }
+    let (number, state, reports, records, answer) = engine;
+    let mut precinct = Precinct::from_words(before, false);
+    match precinct.read(markers.sop, markers.eph, src) {
+        Err(Failed::Width) => same("numbers of the crate", &number, &9, text),
+        Err(Failed::HeaderEnd) => same("numbers of the crate", &number, &12, text),
+        Ok(told) => {
+            same("numbers of the crate", &number, &0, text);
+            same("answers of the crate", &answer, &&told.answer[..], text);
+            same("reports of the crate", &reports, &&told.reports[..], text);
+            same("records of the crate", &&records[..told.records.len()], &&told.records[..], text);
+            same("states of the crate", &state, &&precinct.words()[..], text);
+        }
+    }
+    true
+}
+
+#[cfg(not(openjp2))]
+fn crate_measures(_: &[u32], _: &Layer, _: Markers, _: &(Vec<u32>, Vec<u64>), _: &dyn Fn() -> String) -> bool {
+    false
+}
+
+#[cfg(not(openjp2))]
+fn crate_writes(_: &[u32], _: &Layer, _: &[u8], _: Markers, _: u32, _: (u32, &Vec<u32>, &Vec<u8>), _: &dyn Fn() -> String) -> bool {
+    false
+}
+
+#[cfg(not(openjp2))]
+#[allow(clippy::type_complexity)]
+fn crate_reads(_: &[u32], _: &[u8], _: Markers, _: (u32, &[u32], &[u32], &[u32], &[u64]), _: &dyn Fn() -> String) -> bool {
+    false
+}

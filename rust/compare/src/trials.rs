@@ -1,0 +1,329 @@
+//! The trials: each makes calls until its share is used up.
+use crate::inputs::{self, Shape};
+use crate::pair::{Bands, Layer, Markers, Pair};
+use crate::random::Random;
+
+pub struct Trials {
+    pub pair: Pair,
+    random: Random,
+}
+
+/// Bands, style and block planes of one block.
+fn one_block(planes: u32, block: u32, style: u8) -> Shape {
+    Shape { count: 1, bands: [[1, 1, planes], [0; 3], [0; 3]], style, planes: vec![block] }
+}
+
+impl Trials {
+    pub fn new(seed: u64) -> Trials {
+        Trials { pair: Pair::default(), random: Random::new(seed) }
+    }
+
+    fn until(&mut self, calls: u64, trial: impl Fn(&mut Trials)) {
+        let end = self.pair.counts.total() + calls;
+        while self.pair.counts.total() < end {
+            trial(self);
+        }
+    }
+
+    fn start(&mut self, writer: bool, shape: &Shape) -> Vec<u32> {
+        let length = self.pair.state_length(shape.count, &shape.bands);
+        let planes = if writer { &shape.planes[..] } else { &[] };
+        self.pair.start(writer, shape.count, &shape.bands, shape.style, planes, length).expect("a shape in range")
+    }
+
+    fn read(&mut self, state: &mut Vec<u32>, src: &[u8], markers: Markers, records: usize) -> u32 {
+        let (length, reports) = (state.len(), 4 * inputs::blocks_in(state));
+        self.pair.read(state, length, src, markers, reports, 4 * records, 5).0
+    }
+
+    // ---- starts
+
+    /// Starts with any numbers, most of them near an edge.
+    pub fn starts(&mut self, calls: u64) {
+        self.until(calls, |t| {
+            let shape = inputs::shape(&mut t.random, 5);
+            let (mut count, mut bands, mut style, mut planes) = (shape.count, shape.bands, shape.style, shape.planes);
+            for _ in 0..t.random.below(3) {
+                match t.random.below(6) {
+                    0 => count = inputs::edge(&mut t.random),
+                    1 => bands[t.random.below(3) as usize][t.random.below(3) as usize] = inputs::edge(&mut t.random),
+                    2 => style = t.random.next() as u8,
+                    3 if !planes.is_empty() => {
+                        let at = t.random.below(planes.len() as u64) as usize;
+                        planes[at] = inputs::edge(&mut t.random);
+                    }
+                    4 => planes.resize((planes.len() as u64 + t.random.below(3)).saturating_sub(1) as usize, 0),
+                    _ => {}
+                }
+            }
+            let length = t.pair.state_length(count, &bands);
+            let lent = (length as u64 + if t.random.once_in(4) { t.random.below(3) } else { 1 }).saturating_sub(1) as usize;
+            t.pair.start(true, count, &bands, style, &planes, lent);
+            let none = if t.random.once_in(8) { &planes[..] } else { &[] };
+            t.pair.start(false, count, &bands, style, none, lent);
+        });
+    }
+
+    // ---- packets written and read back
+
+    /// A precinct's packets over some layers, measured, written and read, with refused calls and damaged copies between.
+    pub fn sessions(&mut self, calls: u64, side: u64) {
+        self.until(calls, |t| {
+            let shape = inputs::shape(&mut t.random, side);
+            let mut writer = t.start(true, &shape);
+            let mut reader = t.start(false, &shape);
+            for number in 0..t.random.between(1, 6) as u32 {
+                let rare = t.random.pick(&[1, 2, 8]);
+                let layer = inputs::layer(&mut t.random, &writer, rare, 7);
+                let markers = inputs::markers(&mut t.random);
+                let Some(packet) = t.written(&mut writer, &layer, markers, number) else { return };
+                let header = packet.len() - layer.body() as usize;
+                t.read_copies(&reader, &packet[..header], markers);
+                let src = if t.random.once_in(2) { &packet[..header] } else { &packet[..] };
+                t.read(&mut reader, src, markers, layer.lengths.len());
+            }
+        });
+    }
+
+    /// Measures, then writes into outputs that are too short and at last into one that isn't.
+    fn written(&mut self, state: &mut Vec<u32>, layer: &Layer, markers: Markers, number: u32) -> Option<Vec<u8>> {
+        let length = state.len();
+        let (refusal, header, body) = self.pair.measure(state, length, layer, markers, 2);
+        if refusal != 0 {
+            return None;
+        }
+        let size = (header + body) as usize;
+        let bytes = self.random.bytes(body as usize);
+        let short = size - self.random.between(1, size as u64) as usize;
+        for output in [short, size - 1] {
+            if self.random.once_in(3) {
+                self.pair.write(state, length, layer, &bytes, markers, number, output, 1);
+            }
+        }
+        let room = size + if self.random.once_in(2) { 0 } else { self.random.below(9) as usize };
+        let (refusal, packet) = self.pair.write(state, length, layer, &bytes, markers, number.wrapping_mul(40503), room, 1);
+        (refusal == 0).then_some(packet)
+    }
+
+    /// Damaged copies of a packet and noise, each on a copy of the state.
+    fn read_copies(&mut self, state: &[u32], packet: &[u8], markers: Markers) {
+        for _ in 0..4 {
+            let src =
+                if self.random.once_in(4) { inputs::noise(&mut self.random) } else { inputs::damaged_bytes(&mut self.random, packet) };
+            let records = if self.random.once_in(4) { self.random.below(8) as usize } else { 164 * 4 };
+            let markers = if self.random.once_in(4) { inputs::markers(&mut self.random) } else { markers };
+            self.read(&mut state.to_vec(), &src, markers, records);
+        }
+    }
+
+    // ---- arbitrary states
+
+    /// States in range that no call need leave, and such with words out of range.
+    pub fn states(&mut self, calls: u64) {
+        self.until(calls, |t| {
+            let shape = inputs::shape(&mut t.random, 3);
+            let markers = inputs::markers(&mut t.random);
+            let mut state = inputs::state(&mut t.random, 1, &shape);
+            let bits = t.random.pick(&[4, 12, 31, 32]);
+            let layer = inputs::layer(&mut t.random, &state, 2, bits);
+            let damaged = inputs::damaged_state(&mut t.random, &state);
+            t.pair.measure(&damaged, damaged.len(), &layer, markers, 2);
+            let (length, small) = (state.len(), layer.body() < 1 << 16);
+            if small {
+                t.written(&mut state, &layer, markers, 7);
+            } else {
+                t.pair.measure(&state, length, &layer, markers, 2);
+                t.pair.write(&mut state, length, &layer, &[0; 9], markers, 7, 99, 1);
+            }
+            let state = inputs::state(&mut t.random, 2, &shape);
+            for _ in 0..3 {
+                let src = inputs::noise(&mut t.random);
+                t.read(&mut state.clone(), &src, markers, 164 * 27);
+            }
+            let mut damaged = inputs::damaged_state(&mut t.random, &state);
+            let reports = 4 * shape.bands.iter().map(|b| (b[0] * b[1]) as usize).sum::<usize>();
+            let (length, src) = (damaged.len(), inputs::noise(&mut t.random));
+            t.pair.read(&mut damaged, length, &src, markers, reports, 400, 5);
+        });
+    }
+
+    // ---- lists of other lengths
+
+    /// Every list of a call in turn shorter or longer by one, two or all.
+    pub fn lists(&mut self, calls: u64) {
+        self.until(calls, |t| {
+            let shape = inputs::shape(&mut t.random, 2);
+            let mut state = t.start(true, &shape);
+            let layer = inputs::layer(&mut t.random, &state, 2, 6);
+            let markers = inputs::markers(&mut t.random);
+            let (length, body) = (state.len(), layer.body() as usize);
+            let body = t.random.bytes(body);
+            let change = t.random.below(7);
+            let mut near = |n: usize, is: u64| {
+                if change != is {
+                    n
+                } else {
+                    t.random.pick(&[n.saturating_sub(1), n + 1, n.saturating_sub(2), n + 2, 0, 2 * n + 1])
+                }
+            };
+            let (counts, lengths, marks, scratch, answer) =
+                (near(layer.counts.len(), 0), near(layer.lengths.len(), 1), near(layer.marks.len(), 2), near(length, 3), near(1, 4));
+            let bytes = near(body.len(), 5);
+            let mut other = layer.clone();
+            other.counts.resize(counts, 1);
+            other.lengths.resize(lengths, 3);
+            other.marks.resize(marks, 0);
+            if t.random.once_in(10) && !other.counts.is_empty() {
+                let at = t.random.below(other.counts.len() as u64) as usize;
+                let many = t.random.once_in(2);
+                other.counts[at] = if many { t.random.between(163, 167) as u32 } else { inputs::edge(&mut t.random) };
+                let passes = other.counts.iter().fold(0u32, |sum, c| sum.saturating_add(*c)) as usize;
+                if many && passes < 4000 {
+                    other.lengths.resize(passes, 0);
+                    other.marks.resize(passes, 0);
+                }
+            }
+            let mut given = body.clone();
+            given.resize(bytes, 9);
+            t.pair.measure(&state, scratch, &other, markers, if change == 4 { answer + 1 } else { 2 });
+            let room = t.random.below(64) as usize + body.len();
+            t.pair.write(&mut state, scratch, &other, &given, markers, 3, room, answer);
+
+            let mut reader = t.start(false, &shape);
+            let (src, blocks) = (inputs::noise(&mut t.random), shape.planes.len());
+            let mut near = |n: usize, is: u64| {
+                if change != is {
+                    n
+                } else {
+                    t.random.pick(&[n.saturating_sub(1), n + 1, n.saturating_sub(4), n + 4, 0, 2 * n + 1])
+                }
+            };
+            let (reports, scratch, answer) = (near(4 * blocks, 0), near(length, 3), near(5, 4));
+            let records = t.random.below(40) as usize;
+            t.pair.read(&mut reader, scratch, &src, markers, reports, records, answer);
+        });
+    }
+
+    // ---- every short input, every count
+
+    /// Every input of at most `bytes` bytes, for small shapes with few styles and all markers, fresh and after a packet.
+    pub fn short_inputs(&mut self, shapes: usize, bytes: u32) {
+        const SHAPES: [(u32, Bands); 7] = [
+            (1, [[1, 1, 5], [0; 3], [0; 3]]),
+            (1, [[2, 1, 3], [0; 3], [0; 3]]),
+            (2, [[1, 1, 0], [1, 1, 998], [0; 3]]),
+            (1, [[1, 2, 7], [0; 3], [0; 3]]),
+            (3, [[0, 3, 7], [1, 1, 2], [0, 0, 0]]),
+            (1, [[2, 2, 4], [0; 3], [0; 3]]),
+            (1, [[0, 0, 0], [0; 3], [0; 3]]),
+        ];
+        for (count, bands) in &SHAPES[..shapes] {
+            for style in [0, 1, 4] {
+                let shape = Shape { count: *count, bands: *bands, style, planes: Vec::new() };
+                let fresh = self.start(false, &shape);
+                let mut later = fresh.clone();
+                self.read(&mut later, &[0xe5, 0x28, 0x80], Markers::default(), 200);
+                for state in [fresh, later] {
+                    for markers in 0..4 {
+                        let markers = Markers { sop: markers & 1 != 0, eph: markers & 2 != 0 };
+                        for n in 0..=bytes {
+                            for value in 0..1u32 << (8 * n) {
+                                let src = &value.to_be_bytes()[4 - n as usize..];
+                                self.read(&mut state.clone(), src, markers, 200);
+                            }
+                        }
+                    }
+                }
+            }
+        }
+    }
+
+    /// One block with every count and lengths about each power of two, measured, and written where the body is small.
+    pub fn counts_and_lengths(&mut self, step: usize) {
+        for count in (0..=166).step_by(step) {
+            for power in 0..=32u32 {
+                for off in [-1i64, 0, 1] {
+                    for marks in 0..4u32 {
+                        let length = ((1i64 << power) + off).clamp(0, u32::MAX.into()) as u32;
+                        self.count_and_length(count, length, marks);
+                    }
+                }
+            }
+        }
+    }
+
+    fn count_and_length(&mut self, count: u32, length: u32, marks: u32) {
+        let mut state = self.start(true, &one_block(9, 9 - marks, 0));
+        let mark = |pass| match marks {
+            0 => 0,
+            1 => 1,
+            2 => u8::from(pass == 0),
+            _ => u8::from((pass + 1) % 109 == 0),
+        };
+        let passes = 0..count;
+        let mut layer = Layer { counts: vec![count], lengths: passes.clone().map(|_| 0).collect(), marks: passes.map(mark).collect() };
+        if let Some(first) = layer.lengths.first_mut() {
+            *first = length;
+        }
+        let words = state.len();
+        self.pair.measure(&state, words, &layer, Markers::default(), 2);
+        if length < 2000 {
+            let body = vec![7; layer.body() as usize];
+            self.pair.write(&mut state, words, &layer, &body, Markers { sop: true, eph: true }, 70000 + count, 8000, 1);
+        }
+    }
+
+    // ---- large
+
+    /// Three bands of 64 × 64 blocks, sparse and dense, some layers.
+    pub fn largest(&mut self, layers: u32) {
+        for rare in [1, 3, 50] {
+            let mut shape = Shape { count: 3, bands: [[64, 64, 12]; 3], style: self.random.pick(&[0, 1, 4]), planes: Vec::new() };
+            shape.planes = (0..3 * 64 * 64).map(|_| self.random.between(0, 12) as u32).collect();
+            let (mut writer, mut reader) = (self.start(true, &shape), self.start(false, &shape));
+            for number in 0..layers {
+                let layer = inputs::layer(&mut self.random, &writer, rare, 8);
+                let markers = inputs::markers(&mut self.random);
+                let packet = self.written(&mut writer, &layer, markers, number).expect("accepted");
+                self.read_copies(&reader, &packet, markers);
+                self.read(&mut reader, &packet, markers, layer.lengths.len());
+            }
+        }
+    }
+
+    /// All 999 layers of a small precinct, and then refusal 6.
+    pub fn all_layers(&mut self) {
+        let mut shape = inputs::shape(&mut self.random, 2);
+        shape.bands[0] = [2, 2, 9];
+        shape.planes = shape.bands[..shape.count as usize].iter().flat_map(|b| vec![b[2]; (b[0] * b[1]) as usize]).collect();
+        let (mut writer, mut reader) = (self.start(true, &shape), self.start(false, &shape));
+        for number in 0..1000 {
+            let rare = if number < 900 { 400 } else { 3 };
+            let layer = inputs::layer(&mut self.random, &writer, rare, 6);
+            let markers = inputs::markers(&mut self.random);
+            let Some(packet) = self.written(&mut writer, &layer, markers, number) else {
+                assert_eq!(writer[3], 999, "layers");
+                self.read(&mut reader, &[0xe5], markers, 9);
+                return;
+            };
+            self.read_copies(&reader, &packet, markers);
+            self.read(&mut reader, &packet, markers, layer.lengths.len());
+        }
+    }
+
+    /// 990 to 998 zero planes written, and up to 999 read.
+    pub fn deepest(&mut self) {
+        for planes in 990..=998 {
+            let mut shape = one_block(planes, 0, 0);
+            shape.bands[0][0] = 3;
+            shape.planes = vec![0, planes, planes / 2];
+            let (mut writer, reader) = (self.start(true, &shape), self.start(false, &shape));
+            let layer = Layer { counts: vec![1, 2, 3], lengths: vec![1; 6], marks: vec![0; 6] };
+            let packet = self.written(&mut writer, &layer, Markers::default(), 0).expect("accepted");
+            self.read(&mut reader.clone(), &packet, Markers::default(), 9);
+            for cut in 0..packet.len() {
+                self.read(&mut reader.clone(), &packet[..cut], Markers::default(), 9);
+            }
+        }
+    }
+}

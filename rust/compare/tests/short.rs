@@ -1,0 +1,73 @@
+//! The short form of the comparison.
+use compare::trials::Trials;
+use std::io::Write;
+
+/// Runs a trial, and requires that it gave these numbers.
+fn trial(numbers: &[usize], run: impl Fn(&mut Trials)) {
+    let mut trials = Trials::new(20261115);
+    run(&mut trials);
+    trials.pair.counts.print();
+    for number in numbers {
+        assert!(trials.pair.counts.number(*number) > 0, "no call gave {number}");
+    }
+}
+
+/// Says whether the crate takes part; written past the test runner, which would keep it back.
+#[test]
+fn sources_of_the_crate() {
+    let said = match cfg!(openjp2) {
+        true => "compared with document 01 and with crate openjp2's own functions",
+        false => "crate openjp2's sources were not there when this was built: compared with document 01 alone",
+    };
+    writeln!(std::io::stderr(), "{said}").unwrap();
+}
+
+#[test]
+fn starts() {
+    trial(&[0, 1, 2, 3, 4], |t| t.starts(100_000));
+}
+
+#[test]
+fn packets() {
+    trial(&[0, 9, 11, 12, 13], |t| t.sessions(200_000, 4));
+}
+
+#[test]
+fn larger_packets() {
+    trial(&[0, 9, 11, 12], |t| t.sessions(20_000, 12));
+}
+
+#[test]
+fn states() {
+    trial(&[0, 5, 6, 8, 9, 10, 11, 12, 13], |t| t.states(200_000));
+}
+
+#[test]
+fn lists() {
+    trial(&[0, 3, 5, 7, 10, 11, 13], |t| t.lists(100_000));
+}
+
+#[test]
+fn short_inputs() {
+    trial(&[0, 12], |t| t.short_inputs(7, 1));
+}
+
+#[test]
+fn counts_and_lengths() {
+    trial(&[0, 7, 8, 9], |t| t.counts_and_lengths(3));
+}
+
+#[test]
+fn largest() {
+    trial(&[0, 11], |t| t.largest(2));
+}
+
+#[test]
+fn all_layers() {
+    trial(&[0, 6], |t| t.all_layers());
+}
+
+#[test]
+fn deepest() {
+    trial(&[0], |t| t.deepest());
+}

@@ -1,0 +1,59 @@
+//! JPEG 2000 packet headers for one precinct, layer by layer: a safe face for the engine, whose functions are proved to meet
+//! equations with definitions written from ITU-T T.800.
+//!
+//! ```
+//! use tonkelvi::{Band, Contribution, Markers, Reader, Writer};
+//!
+//! let bands = [Band { across: 1, down: 1, planes: 5 }];
+//! let mut writer = Writer::new(&bands, 0, &[5])?;
+//! let layer = Contribution { counts: &[1], lengths: &[5], marks: &[0] };
+//! let packet = writer.write(layer, b"hello", Markers::NONE, 0)?;
+//! assert_eq!(packet, b"\xe5hello");
+//!
+//! let mut reader = Reader::new(&bands, 0)?;
+//! let read = reader.read(&packet, Markers::NONE)?;
+//! assert_eq!(read.taken, 1);
+//! assert_eq!(read.segments[0].bytes, 5);
+//! # Ok::<(), tonkelvi::Refusal>(())
+//! ```
+//!
+//! The static library is linked by build.rs: from the folder that the environment variable `TONKELVI_LIB` names, or else it is built by
+//! `rt staticlib capi`.
+
+mod reader;
+mod refusal;
+pub mod words;
+mod writer;
+
+pub use reader::{Block, Mark, Packet, Reader, Segment};
+pub use refusal::Refusal;
+pub use writer::{Contribution, Measured, Writer};
+
+/// One band of the precinct: code-blocks across and down (0 to 64 each), and bit-planes (0 to 998).
+#[derive(Clone, Copy, PartialEq, Eq, Debug, Default)]
+pub struct Band {
+    pub across: u32,
+    pub down: u32,
+    pub planes: u32,
+}
+
+/// Whether SOP and EPH are used.
+#[derive(Clone, Copy, PartialEq, Eq, Debug, Default)]
+pub struct Markers {
+    pub sop: bool,
+    pub eph: bool,
+}
+
+impl Markers {
+    pub const NONE: Markers = Markers { sop: false, eph: false };
+    pub const BOTH: Markers = Markers { sop: true, eph: true };
+}
+
+/// Count and numbers of the bands as the calls on words take them. More than three give a count that every start refuses.
+fn band_words(bands: &[Band]) -> (u32, words::Bands) {
+    let mut three = words::Bands::default();
+    for (row, band) in three.iter_mut().zip(bands) {
+        *row = [band.across, band.down, band.planes];
+    }
+    (bands.len().min(4) as u32, three)
+}

@@ -1,0 +1,178 @@
+//! Reading packet headers.
+use crate::refusal::checked;
+use crate::{band_words, words, Band, Markers, Refusal};
+
+/// How a marker was found.
+#[derive(Clone, Copy, PartialEq, Eq, Debug)]
+pub enum Mark {
+    /// In order, or not used.
+    InOrder,
+    /// Too few bytes were left for it.
+    TooFewBytes,
+    /// Other bytes stand in its place.
+    NotFound,
+}
+
+/// What a packet says of one block.
+#[derive(Clone, Copy, PartialEq, Eq, Debug)]
+pub enum Block {
+    Absent,
+    First { zero_planes: u32, planes: u32, passes: u32 },
+    Again { passes: u32 },
+}
+
+/// A segment, or the part of one that this packet brings.
+#[derive(Clone, Copy, PartialEq, Eq, Debug)]
+pub struct Segment {
+    pub block: usize,
+    /// Its first pass is in this packet.
+    pub opens: bool,
+    pub passes: u32,
+    pub bytes: u32,
+}
+
+/// What a packet's header says.
+#[derive(Clone, PartialEq, Eq, Debug)]
+pub struct Packet {
+    /// The header's first bit is 1.
+    pub present: bool,
+    /// Bytes of header and markers: the body begins behind them.
+    pub taken: usize,
+    pub sop: Mark,
+    pub eph: Mark,
+    /// One for each block, band by band and row by row.
+    pub blocks: Vec<Block>,
+    pub segments: Vec<Segment>,
+}
+
+impl Packet {
+    /// The bytes of the body, by the segments' lengths.
+    pub fn body(&self) -> u64 {
+        self.segments.iter().map(|s| u64::from(s.bytes)).sum()
+    }
+}
+
+/// A reader of one precinct's packet headers, the next layer at each call. A refused call leaves it as it was.
+///
+/// ```
+/// use tonkelvi::{Band, Block, Mark, Markers, Reader, Refusal};
+///
+/// let mut reader = Reader::new(&[Band { across: 1, down: 1, planes: 5 }], 0)?;
+/// assert_eq!(reader.read(&[0xfe, 0xad, 0xff], Markers::NONE), Err(Refusal::HeaderEnd));
+/// let packet = reader.read(&[0xfe, 0xad, 0xff, 0x00], Markers { sop: false, eph: true })?;
+/// assert_eq!((packet.taken, packet.eph), (4, Mark::TooFewBytes));
+/// assert_eq!(packet.blocks, [Block::First { zero_planes: 0, planes: 5, passes: 16 }]);
+/// assert_eq!(packet.body(), 511);
+/// # Ok::<(), Refusal>(())
+/// ```
+#[derive(Clone, PartialEq, Eq, Debug)]
+pub struct Reader {
+    state: Vec<u32>,
+    scratch: Vec<u32>,
+    reports: Vec<u32>,
+    records: Vec<u32>,
+}
+
+/// A block has at most so many segments in one layer: one for each pass.
+const MOST_SEGMENTS: usize = 164;
+
+impl Reader {
+    /// A reader at layer 0.
+    pub fn new(bands: &[Band], style: u8) -> Result<Reader, Refusal> {
+        let (count, bands) = band_words(bands);
+        let mut state = vec![0; words::state_length(count, &bands)];
+        checked(words::start_reader(count, &bands, style, &[], &mut state))?;
+        Ok(Reader::from_state(state))
+    }
+
+    /// A reader that goes on from a state kept earlier. Whether the words are in range is looked at by each call.
+    pub fn from_state(state: Vec<u32>) -> Reader {
+        let scratch = vec![0; state.len()];
+        let reports = vec![0; 4 * blocks_in(&state)];
+        let records = reports.clone();
+        Reader { state, scratch, reports, records }
+    }
+
+    /// The state's words.
+    pub fn state(&self) -> &[u32] {
+        &self.state
+    }
+
+    /// The layer that the next packet is of.
+    pub fn next_layer(&self) -> u32 {
+        self.state.get(3).copied().unwrap_or(0)
+    }
+
+    /// Reads the next packet's header from the front of `src`.
+    pub fn read(&mut self, src: &[u8], markers: Markers) -> Result<Packet, Refusal> {
+        loop {
+            match self.read_words(src, markers) {
+                Err(Refusal::Records) if self.lend_more() => {}
+                Err(refusal) => return Err(refusal),
+                Ok(answer) => return Ok(self.packet(answer)),
+            }
+        }
+    }
+
+    fn read_words(&mut self, src: &[u8], markers: Markers) -> Result<[u64; 5], Refusal> {
+        let mut answer = [0; 5];
+        checked(words::read(
+            &mut self.state,
+            &mut self.scratch,
+            src,
+            markers.sop,
+            markers.eph,
+            &mut self.reports,
+            &mut self.records,
+            &mut answer,
+        ))?;
+        Ok(answer)
+    }
+
+    /// Lends twice the records, up to the most that a packet can have; false if there were so many already.
+    fn lend_more(&mut self) -> bool {
+        let most = self.reports.len() * MOST_SEGMENTS;
+        let more = self.records.len().saturating_mul(2).min(most);
+        let grows = self.records.len() < more;
+        self.records.resize(more, 0);
+        grows
+    }
+
+    fn packet(&self, [present, taken, segments, sop, eph]: [u64; 5]) -> Packet {
+        Packet {
+            present: present != 0,
+            taken: taken as usize,
+            sop: mark(sop),
+            eph: mark(eph),
+            blocks: self.reports.chunks_exact(4).map(block).collect(),
+            segments: self.records.chunks_exact(4).take(segments as usize).map(segment).collect(),
+        }
+    }
+}
+
+/// The blocks of the bands that a state names; 0 where a side is out of range.
+fn blocks_in(state: &[u32]) -> usize {
+    let bands = state.get(4..13).unwrap_or(&[]).chunks_exact(3);
+    let count = state.get(1).copied().unwrap_or(0) as usize;
+    bands.take(count).map(|band| if band[0] <= 64 && band[1] <= 64 { (band[0] * band[1]) as usize } else { 0 }).sum()
+}
+
+fn mark(word: u64) -> Mark {
+    match word {
+        0 => Mark::InOrder,
+        1 => Mark::TooFewBytes,
+        _ => Mark::NotFound,
+    }
+}
+
+fn block(row: &[u32]) -> Block {
+    match row[0] {
+        0 => Block::Absent,
+        1 => Block::First { zero_planes: row[1], planes: row[2], passes: row[3] },
+        _ => Block::Again { passes: row[3] },
+    }
+}
+
+fn segment(row: &[u32]) -> Segment {
+    Segment { block: row[0] as usize, opens: row[1] != 0, passes: row[2], bytes: row[3] }
+}

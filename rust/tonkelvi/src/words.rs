@@ -1,0 +1,273 @@
+//! The engine's calls as they are exported, on lent slices of words. Each takes slices of any length with any content: its contract has
+//! no precondition, and it turns away what it cannot use under one of the thirteen numbers.
+
+mod exported {
+    extern "C" {
+        pub fn tonkelvi_state_length(
+            count: u32,
+            across0: u32,
+            down0: u32,
+            planes0: u32,
+            across1: u32,
+            down1: u32,
+            planes1: u32,
+            across2: u32,
+            down2: u32,
+            planes2: u32,
+        ) -> usize;
+        pub fn tonkelvi_start_writer(
+            count: u32,
+            across0: u32,
+            down0: u32,
+            planes0: u32,
+            across1: u32,
+            down1: u32,
+            planes1: u32,
+            across2: u32,
+            down2: u32,
+            planes2: u32,
+            style: u8,
+            planes: *const u32,
+            n_planes: usize,
+            state: *mut u32,
+            n_state: usize,
+        ) -> u32;
+        pub fn tonkelvi_start_reader(
+            count: u32,
+            across0: u32,
+            down0: u32,
+            planes0: u32,
+            across1: u32,
+            down1: u32,
+            planes1: u32,
+            across2: u32,
+            down2: u32,
+            planes2: u32,
+            style: u8,
+            planes: *const u32,
+            n_planes: usize,
+            state: *mut u32,
+            n_state: usize,
+        ) -> u32;
+        pub fn tonkelvi_measure(
+            state: *const u32,
+            n_state: usize,
+            scratch: *mut u32,
+            n_scratch: usize,
+            counts: *const u32,
+            n_counts: usize,
+            lengths: *const u32,
+            n_lengths: usize,
+            marks: *const u8,
+            n_marks: usize,
+            sop: bool,
+            eph: bool,
+            answer: *mut u64,
+            n_answer: usize,
+        ) -> u32;
+        pub fn tonkelvi_write(
+            state: *mut u32,
+            n_state: usize,
+            scratch: *mut u32,
+            n_scratch: usize,
+            counts: *const u32,
+            n_counts: usize,
+            lengths: *const u32,
+            n_lengths: usize,
+            marks: *const u8,
+            n_marks: usize,
+            body: *const u8,
+            n_body: usize,
+            sop: bool,
+            eph: bool,
+            number: u32,
+            output: *mut u8,
+            n_output: usize,
+            answer: *mut u64,
+            n_answer: usize,
+        ) -> u32;
+        pub fn tonkelvi_read(
+            state: *mut u32,
+            n_state: usize,
+            scratch: *mut u32,
+            n_scratch: usize,
+            src: *const u8,
+            n_src: usize,
+            sop: bool,
+            eph: bool,
+            reports: *mut u32,
+            n_reports: usize,
+            records: *mut u32,
+            n_records: usize,
+            answer: *mut u64,
+            n_answer: usize,
+        ) -> u32;
+    }
+}
+
+/// Across, down and planes of each of three bands.
+pub type Bands = [[u32; 3]; 3];
+
+/// The words of a state for these bands, or 0 where a start would give refusal 1.
+pub fn state_length(count: u32, bands: &Bands) -> usize {
+    let [a, b, c] = bands;
+    // SAFETY: numbers alone are passed.
+    unsafe { exported::tonkelvi_state_length(count, a[0], a[1], a[2], b[0], b[1], b[2], c[0], c[1], c[2]) }
+}
+
+/// Fills a writer's state. Answers 0 or a refusal.
+pub fn start_writer(count: u32, bands: &Bands, style: u8, planes: &[u32], state: &mut [u32]) -> u32 {
+    let [a, b, c] = bands;
+    // SAFETY: each pointer and length is of one slice, and the borrow checker keeps lent slices apart.
+    unsafe {
+        exported::tonkelvi_start_writer(
+            count,
+            a[0],
+            a[1],
+            a[2],
+            b[0],
+            b[1],
+            b[2],
+            c[0],
+            c[1],
+            c[2],
+            style,
+            planes.as_ptr(),
+            planes.len(),
+            state.as_mut_ptr(),
+            state.len(),
+        )
+    }
+}
+
+/// Fills a reader's state; `planes` is to be empty. Answers 0 or a refusal.
+pub fn start_reader(count: u32, bands: &Bands, style: u8, planes: &[u32], state: &mut [u32]) -> u32 {
+    let [a, b, c] = bands;
+    // SAFETY: as in start_writer.
+    unsafe {
+        exported::tonkelvi_start_reader(
+            count,
+            a[0],
+            a[1],
+            a[2],
+            b[0],
+            b[1],
+            b[2],
+            c[0],
+            c[1],
+            c[2],
+            style,
+            planes.as_ptr(),
+            planes.len(),
+            state.as_mut_ptr(),
+            state.len(),
+        )
+    }
+}
+
+/// Measures a packet. `answer` has two words: header bytes and body bytes.
+#[allow(clippy::too_many_arguments)]
+pub fn measure(
+    state: &[u32],
+    scratch: &mut [u32],
+    counts: &[u32],
+    lengths: &[u32],
+    marks: &[u8],
+    sop: bool,
+    eph: bool,
+    answer: &mut [u64],
+) -> u32 {
+    // SAFETY: as in start_writer.
+    unsafe {
+        exported::tonkelvi_measure(
+            state.as_ptr(),
+            state.len(),
+            scratch.as_mut_ptr(),
+            scratch.len(),
+            counts.as_ptr(),
+            counts.len(),
+            lengths.as_ptr(),
+            lengths.len(),
+            marks.as_ptr(),
+            marks.len(),
+            sop,
+            eph,
+            answer.as_mut_ptr(),
+            answer.len(),
+        )
+    }
+}
+
+/// Writes a packet. `answer` has one word: its bytes.
+#[allow(clippy::too_many_arguments)]
+pub fn write(
+    state: &mut [u32],
+    scratch: &mut [u32],
+    counts: &[u32],
+    lengths: &[u32],
+    marks: &[u8],
+    body: &[u8],
+    sop: bool,
+    eph: bool,
+    number: u32,
+    output: &mut [u8],
+    answer: &mut [u64],
+) -> u32 {
+    // SAFETY: as in start_writer.
+    unsafe {
+        exported::tonkelvi_write(
+            state.as_mut_ptr(),
+            state.len(),
+            scratch.as_mut_ptr(),
+            scratch.len(),
+            counts.as_ptr(),
+            counts.len(),
+            lengths.as_ptr(),
+            lengths.len(),
+            marks.as_ptr(),
+            marks.len(),
+            body.as_ptr(),
+            body.len(),
+            sop,
+            eph,
+            number,
+            output.as_mut_ptr(),
+            output.len(),
+            answer.as_mut_ptr(),
+            answer.len(),
+        )
+    }
+}
+
+/// Reads a packet's header. `answer` has five words: present, bytes taken, segments, SOP mark, EPH mark.
+#[allow(clippy::too_many_arguments)]
+pub fn read(
+    state: &mut [u32],
+    scratch: &mut [u32],
+    src: &[u8],
+    sop: bool,
+    eph: bool,
+    reports: &mut [u32],
+    records: &mut [u32],
+    answer: &mut [u64],
+) -> u32 {
+    // SAFETY: as in start_writer.
+    unsafe {
+        exported::tonkelvi_read(
+            state.as_mut_ptr(),
+            state.len(),
+            scratch.as_mut_ptr(),
+            scratch.len(),
+            src.as_ptr(),
+            src.len(),
+            sop,
+            eph,
+            reports.as_mut_ptr(),
+            reports.len(),
+            records.as_mut_ptr(),
+            records.len(),
+            answer.as_mut_ptr(),
+            answer.len(),
+        )
+    }
+}

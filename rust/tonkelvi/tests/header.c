@@ -1,0 +1,46 @@
+/* Packet A with both markers, by the calls of include/tonkelvi.h alone; ends with 0 where every answer is right. */
+#include "tonkelvi.h"
+
+#include <stdlib.h>
+#include <string.h>
+
+static int expect(int right, int line) {
+    return right ? 0 : line;
+}
+#define EXPECT(right) do { int failed = expect(right, __LINE__ % 250); if (failed) return failed; } while (0)
+
+int main(void) {
+    const uint32_t planes[1] = {5}, counts[1] = {1}, lengths[1] = {5};
+    const uint8_t marks[1] = {0}, body[5] = {1, 2, 3, 4, 5};
+    const uint8_t packet[14] = {0xff, 0x91, 0, 4, 0, 1, 0xe5, 0xff, 0x92, 1, 2, 3, 4, 5};
+    const uint32_t report[4] = {1, 0, 5, 1}, record[4] = {0, 1, 1, 5};
+    uint32_t reports[4], records[4];
+    uint8_t output[14];
+    uint64_t answer[5];
+
+    size_t n = tonkelvi_state_length(1, 1, 1, 5, 0, 0, 0, 0, 0, 0);
+    EXPECT(n == 13 + 6 + 4);
+    EXPECT(tonkelvi_state_length(0, 1, 1, 5, 0, 0, 0, 0, 0, 0) == 0);
+    uint32_t *state = malloc(n * sizeof *state), *scratch = malloc(n * sizeof *scratch);
+    EXPECT(state && scratch);
+
+    EXPECT(tonkelvi_start_writer(1, 1, 1, 5, 0, 0, 0, 0, 0, 0, 0x40, planes, 1, state, n) == TONKELVI_STYLE);
+    EXPECT(tonkelvi_start_writer(1, 1, 1, 5, 0, 0, 0, 0, 0, 0, 0, planes, 1, state, n) == 0);
+    EXPECT(tonkelvi_measure(state, n, scratch, n, counts, 1, lengths, 1, marks, 1, true, true, answer, 5) == TONKELVI_LIST);
+    EXPECT(tonkelvi_measure(state, n, scratch, n, counts, 1, lengths, 1, marks, 1, true, true, answer, 2) == 0);
+    EXPECT(answer[0] == 9 && answer[1] == 5);
+    EXPECT(tonkelvi_write(state, n, scratch, n, counts, 1, lengths, 1, marks, 1, body, 5, true, true, 65537, output, 13, answer, 1) == TONKELVI_SPACE);
+    EXPECT(tonkelvi_write(state, n, scratch, n, counts, 1, lengths, 1, marks, 1, body, 5, true, true, 65537, output, 14, answer, 1) == 0);
+    EXPECT(answer[0] == 14 && memcmp(output, packet, 14) == 0);
+
+    EXPECT(tonkelvi_start_reader(1, 1, 1, 5, 0, 0, 0, 0, 0, 0, 0, NULL, 0, state, n) == 0);
+    EXPECT(tonkelvi_read(state, n, scratch, n, packet, 14, true, true, reports, 4, NULL, 0, answer, 5) == TONKELVI_RECORDS);
+    EXPECT(tonkelvi_read(state, n, scratch, n, packet, 14, true, true, reports, 4, records, 4, answer, 5) == 0);
+    EXPECT(answer[0] == 1 && answer[1] == 9 && answer[2] == 1 && answer[3] == 0 && answer[4] == 0);
+    EXPECT(memcmp(reports, report, sizeof report) == 0 && memcmp(records, record, sizeof record) == 0);
+    EXPECT(tonkelvi_read(state, n, scratch, n, NULL, 0, false, false, reports, 4, records, 4, answer, 5) == 0);
+    EXPECT(answer[0] == 0 && answer[1] == 0 && state[3] == 2);
+    free(state);
+    free(scratch);
+    return 0;
+}

@@ -1,0 +1,23 @@
+//! include/tonkelvi.h with a C compiler, if there is one.
+use std::path::Path;
+use std::process::Command;
+
+#[test]
+fn header() {
+    let here = Path::new(env!("CARGO_MANIFEST_DIR"));
+    let program = Path::new(env!("CARGO_TARGET_TMPDIR")).join("header");
+    let built = Command::new("cc")
+        .args(["-std=c99", "-Wall", "-Wextra", "-pedantic", "-Werror", "-I"])
+        .arg(here.join("../../include"))
+        .arg(here.join("tests/header.c"))
+        .arg(Path::new(env!("TONKELVI_FOLDER")).join("libcapi.a"))
+        .arg("-o")
+        .arg(&program)
+        .status();
+    let Ok(built) = built else {
+        println!("no C compiler: left out");
+        return;
+    };
+    assert!(built.success());
+    assert_eq!(Command::new(program).status().unwrap().code(), Some(0), "the line of header.c that failed");
+}
