@@ -1,0 +1,4 @@
+pub mod Lent
+pub mod Stored
+pub mod Numbers
+pub mod Structs
