@@ -19,7 +19,7 @@ use ghost.Atoms.{Atoms, sem}
 use types.Kit.{Given, ‵, _⊛_, some, later, _$_, _∵_, !, qed, move, use1, use2, use3, drop, split, pick, rewrite, fsplit, fjoin, frame, await, updating, now as at-once, show, done}
 use types.SemTy.{cells, Arr}
 use denote.RattleType.{RattleType}
-use denote.Shadow.{shadow, pureL, pureI}
+use denote.Shadow.{pureL, pureI}
 use denote.Memory.{mem}
 use denote.Ref.{RefT}
 use denote.Slice.{sliceVal, MutSlice, ShrSlice, heres, room, Room, finally, at-slice, codedHoleys}

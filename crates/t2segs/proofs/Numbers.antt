@@ -1,7 +1,7 @@
 -- The read into numbers: what it gives where the work list has the length asked, and where not.
-use mathlib.Core.Path.{_≡_, refl, sym, ap, _∙_}
+use mathlib.Core.Path.{_≡_, sym, _∙_}
 use mathlib.Core.Logic.{_≢_}
-use mathlib.Core.Bool.{Bool, true, false}
+use mathlib.Core.Bool.{true, false}
 use mathlib.Core.List.{List}
 use Prim.Native.Nat.{ℕ, _*_, _/_, _%_}
 use native.Mathlib.Omega.{arith}
@@ -12,7 +12,7 @@ use Rattle.t800.specs.declared.Markers.{Markers}
 use Rattle.t800.specs.declared.ReadAnswer.{ReadAnswer}
 use Rattle.t800.specs.State.{reader, layer}
 use Rattle.t800.specs.Ranges.{validState}
-use Rattle.t800.specs.Packet.{ReadResult, refusedAnswer, read}
+use Rattle.t800.specs.Packet.{read}
 use Rattle.t800.proofs.Laws.Tests.{on-eq}
 use Rattle.t2segs.specs.Reading.{wrongListNumber, wrongList, readNumbers, toFill}
 

@@ -1,13 +1,13 @@
 -- The records that are stored from the numbers are those that t800's `read` leaves in the records' words.
-use mathlib.Core.Path.{_≡_, refl, sym, ap, _∙_, subst}
+use mathlib.Core.Path.{_≡_, refl, sym, ap, _∙_}
 use mathlib.Core.Logic.{_≢_}
 use mathlib.Core.Bool.{Bool, true, false, cond, not, _&&_, _||_}
 use mathlib.Core.List.{List, [], _∷_, _++_}
-use Prim.Native.Nat.{ℕ, zero, suc, _+_, _*_, _/_, _≤_}
+use Prim.Native.Nat.{ℕ, _+_, _*_, _/_, _≤_}
 use native.Mathlib.Omega.{arith}
 use lib.ListN.{length, take, drop, replicate, length-append, length-replicate, drop-of-length-le}
 use lib.Dec.{eqb}
-use borrow.Author.Tests.{eq-eqb, ne-eqb, eqb-true, eqb-false}
+use borrow.Author.Tests.{eq-eqb, eqb-true, eqb-false}
 use Rattle.t800.specs.declared.Markers.{Markers}
 use Rattle.t800.specs.declared.ReadAnswer.{ReadAnswer}
 use Rattle.t800.specs.Base.{overwrite, wiped}
@@ -15,21 +15,20 @@ use Rattle.t800.specs.Bits.{Decoded, bioAt, getBit}
 use Rattle.t800.specs.State.{reader, notYetIncluded, layer, bands, blocks}
 use Rattle.t800.specs.Ranges.{validState}
 use Rattle.t800.specs.Reports.{SegmentRecord, recordWords}
-use Rattle.t800.specs.MarkerSegments.{MarkerRead, readSop}
+use Rattle.t800.specs.MarkerSegments.{readSop}
 use Rattle.t800.specs.ReadHeader.{HeaderRead, readHeader}
 use Rattle.t800.specs.Packet.{ReadResult, refusedAnswer, readRefusal, readAbsent, readPresent, read}
 use Rattle.t800.proofs.Laws.Tests.{if-true, if-false, either, not-refused}
 use Rattle.t800.specs.RoundTrip.{ReadCall, readOf}
 use Rattle.t2.specs.Calls.{WasRead}
-use Rattle.t2.specs.Numbers.{NoneHolds, NumberIs, readChecks, NumbersOfCalls}
+use Rattle.t2.specs.Numbers.{NoneHolds, readChecks, NumbersOfCalls}
 use Rattle.t2.proofs.Numbers.{numbers-of-calls}
 use Rattle.t2read.specs.Answers.{readResult}
 use Rattle.t2segs.specs.declared.Segment.{Segment}
-use Rattle.t2segs.specs.Segments.{wordsOf, filled}
+use Rattle.t2segs.specs.Segments.{wordsOf, segmentAt, filled}
 use Rattle.t2segs.specs.Reading.{StructsRead, wrongListNumber, wrongList, readNumbers, toFill, structsRead, readStructs}
 use Rattle.t2segs.proofs.Stored.{stored-none, words-length, filled-words}
 use Rattle.t2segs.proofs.Numbers.{numbers-refused, numbers-read}
-use Rattle.t2segs.specs.Segments.{segmentAt}
 
 -- ---- lists
 

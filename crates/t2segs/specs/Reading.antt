@@ -1,7 +1,7 @@
 -- Reading one packet into a lent list of segment structs (document 01, "What turns a packet away"): t800's `read`, its record list being
 -- the structs' words. `numbers` is a lent work list of four words a struct.
 use Prim.Native.Nat.{ℕ, _*_}
-use mathlib.Core.Bool.{Bool, cond, not, _||_}
+use mathlib.Core.Bool.{cond, not, _||_}
 use mathlib.Core.List.{List}
 use lib.ListN.{length}
 use lib.Dec.{eqb}

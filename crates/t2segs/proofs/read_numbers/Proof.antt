@@ -1,8 +1,8 @@
 -- `t2segs::read_numbers` meets its contract.
-use mathlib.Core.Path.{_≡_, sym, ap, _∙_}
+use mathlib.Core.Path.{sym, ap, _∙_}
 use Prim.Native.Nat.{ℕ}
 use borrow.Author.Tests.{not-true, not-false}
-use Rattle.t800.specs.Packet.{ReadResult, refusedAnswer}
+use Rattle.t800.specs.Packet.{refusedAnswer}
 use Rattle.t2read.specs.Answers.{readResult}
 use Rattle.t2segs.proofs.Numbers.{numbers-refused, numbers-read}
 use borrow.Author.Needs.{needs}
