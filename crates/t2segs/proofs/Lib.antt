@@ -1,0 +1,5 @@
+pub mod Lent
+pub mod Stored
+pub mod Numbers
+pub mod Structs
+pub mod RoundTrip
