@@ -122,86 +122,106 @@ impl Trials {
     pub fn states(&mut self, calls: u64) {
         self.until(calls, |t| {
             let shape = inputs::shape(&mut t.random, 3);
-            let markers = inputs::markers(&mut t.random);
-            let mut state = inputs::state(&mut t.random, 1, &shape);
-            let bits = t.random.pick(&[4, 12, 31, 32]);
-            let layer = inputs::layer(&mut t.random, &state, 2, bits);
-            let damaged = inputs::damaged_state(&mut t.random, &state);
-            t.pair.measure(&damaged, damaged.len(), &layer, markers, 2);
-            let (length, small) = (state.len(), layer.body() < 1 << 16);
-            if small {
-                t.written(&mut state, &layer, markers, 7);
-            } else {
-                t.pair.measure(&state, length, &layer, markers, 2);
-                t.pair.write(&mut state, length, &layer, &[0; 9], markers, 7, 99, 1);
-            }
-            let state = inputs::state(&mut t.random, 2, &shape);
-            for _ in 0..3 {
-                let src = inputs::noise(&mut t.random);
-                t.read(&mut state.clone(), &src, markers, 164 * 27);
-            }
-            let mut damaged = inputs::damaged_state(&mut t.random, &state);
-            let reports = 4 * shape.bands.iter().map(|b| (b[0] * b[1]) as usize).sum::<usize>();
-            let (length, src) = (damaged.len(), inputs::noise(&mut t.random));
-            t.pair.read(&mut damaged, length, &src, markers, reports, 400, 5);
+            t.states_written(&shape);
+            t.states_read(&shape);
         });
+    }
+
+    fn states_written(&mut self, shape: &Shape) {
+        let mut state = inputs::state(&mut self.random, 1, shape);
+        let bits = self.random.pick(&[4, 12, 31, 32]);
+        let layer = inputs::layer(&mut self.random, &state, 2, bits);
+        let markers = inputs::markers(&mut self.random);
+        let damaged = inputs::damaged_state(&mut self.random, &state);
+        self.pair.measure(&damaged, damaged.len(), &layer, markers, 2);
+        if layer.body() < 1 << 16 {
+            self.written(&mut state, &layer, markers, 7);
+        } else {
+            let length = state.len();
+            self.pair.measure(&state, length, &layer, markers, 2);
+            self.pair.write(&mut state, length, &layer, &[0; 9], markers, 7, 99, 1);
+        }
+    }
+
+    fn states_read(&mut self, shape: &Shape) {
+        let state = inputs::state(&mut self.random, 2, shape);
+        let markers = inputs::markers(&mut self.random);
+        for _ in 0..3 {
+            let src = inputs::noise(&mut self.random);
+            self.read(&mut state.clone(), &src, markers, 164 * 27);
+        }
+        let mut damaged = inputs::damaged_state(&mut self.random, &state);
+        let (length, src) = (damaged.len(), inputs::noise(&mut self.random));
+        self.pair.read(&mut damaged, length, &src, markers, 4 * shape.planes.len(), 400, 5);
     }
 
     // ---- lists of other lengths
 
-    /// Every list of a call in turn shorter or longer by one, two or all.
+    /// Calls with one list shorter or longer, each list in turn.
     pub fn lists(&mut self, calls: u64) {
         self.until(calls, |t| {
             let shape = inputs::shape(&mut t.random, 2);
-            let mut state = t.start(true, &shape);
-            let layer = inputs::layer(&mut t.random, &state, 2, 6);
-            let markers = inputs::markers(&mut t.random);
-            let (length, body) = (state.len(), layer.body() as usize);
-            let body = t.random.bytes(body);
-            let change = t.random.below(7);
-            let mut near = |n: usize, is: u64| {
-                if change != is {
-                    n
-                } else {
-                    t.random.pick(&[n.saturating_sub(1), n + 1, n.saturating_sub(2), n + 2, 0, 2 * n + 1])
-                }
-            };
-            let (counts, lengths, marks, scratch, answer) =
-                (near(layer.counts.len(), 0), near(layer.lengths.len(), 1), near(layer.marks.len(), 2), near(length, 3), near(1, 4));
-            let bytes = near(body.len(), 5);
-            let mut other = layer.clone();
-            other.counts.resize(counts, 1);
-            other.lengths.resize(lengths, 3);
-            other.marks.resize(marks, 0);
-            if t.random.once_in(10) && !other.counts.is_empty() {
-                let at = t.random.below(other.counts.len() as u64) as usize;
-                let many = t.random.once_in(2);
-                other.counts[at] = if many { t.random.between(163, 167) as u32 } else { inputs::edge(&mut t.random) };
-                let passes = other.counts.iter().fold(0u32, |sum, c| sum.saturating_add(*c)) as usize;
-                if many && passes < 4000 {
-                    other.lengths.resize(passes, 0);
-                    other.marks.resize(passes, 0);
-                }
-            }
-            let mut given = body.clone();
-            given.resize(bytes, 9);
-            t.pair.measure(&state, scratch, &other, markers, if change == 4 { answer + 1 } else { 2 });
-            let room = t.random.below(64) as usize + body.len();
-            t.pair.write(&mut state, scratch, &other, &given, markers, 3, room, answer);
-
-            let mut reader = t.start(false, &shape);
-            let (src, blocks) = (inputs::noise(&mut t.random), shape.planes.len());
-            let mut near = |n: usize, is: u64| {
-                if change != is {
-                    n
-                } else {
-                    t.random.pick(&[n.saturating_sub(1), n + 1, n.saturating_sub(4), n + 4, 0, 2 * n + 1])
-                }
-            };
-            let (reports, scratch, answer) = (near(4 * blocks, 0), near(length, 3), near(5, 4));
-            let records = t.random.below(40) as usize;
-            t.pair.read(&mut reader, scratch, &src, markers, reports, records, answer);
+            let list = t.random.below(7);
+            t.lists_written(&shape, list);
+            t.lists_read(&shape, list);
         });
+    }
+
+    /// The length of a list, or if it is the one to change one near it.
+    fn near(&mut self, n: usize, changes: bool) -> usize {
+        match changes {
+            false => n,
+            true => self.random.pick(&[n.saturating_sub(1), n + 1, n.saturating_sub(2), n.saturating_sub(4), n + 4, 0, 2 * n + 1]),
+        }
+    }
+
+    fn lists_written(&mut self, shape: &Shape, list: u64) {
+        let mut state = self.start(true, shape);
+        let mut layer = inputs::layer(&mut self.random, &state, 2, 6);
+        let markers = inputs::markers(&mut self.random);
+        let body = layer.body() as usize;
+        let (counts, lengths, marks) = (layer.counts.len(), layer.lengths.len(), layer.marks.len());
+        layer.counts.resize(self.near(counts, list == 0), 1);
+        layer.lengths.resize(self.near(lengths, list == 1), 3);
+        layer.marks.resize(self.near(marks, list == 2), 0);
+        if self.random.once_in(10) {
+            self.other_count(&mut layer);
+        }
+        let scratch = self.near(state.len(), list == 3);
+        let answer = self.near(2, list == 4);
+        self.pair.measure(&state, scratch, &layer, markers, answer);
+        let answer = self.near(1, list == 4);
+        let given = self.near(body, list == 5);
+        let given = self.random.bytes(given);
+        let room = self.random.below(64) as usize + body;
+        self.pair.write(&mut state, scratch, &layer, &given, markers, 3, room, answer);
+    }
+
+    /// One count made any number, or one about 164 with lengths and marks that fit it.
+    fn other_count(&mut self, layer: &mut Layer) {
+        if layer.counts.is_empty() {
+            return;
+        }
+        let at = self.random.below(layer.counts.len() as u64) as usize;
+        if self.random.once_in(2) {
+            layer.counts[at] = inputs::edge(&mut self.random);
+            return;
+        }
+        layer.counts[at] = self.random.between(163, 167) as u32;
+        let passes: u32 = layer.counts.iter().sum();
+        layer.lengths.resize(passes as usize, 0);
+        layer.marks.resize(passes as usize, 0);
+    }
+
+    fn lists_read(&mut self, shape: &Shape, list: u64) {
+        let mut state = self.start(false, shape);
+        let markers = inputs::markers(&mut self.random);
+        let src = inputs::noise(&mut self.random);
+        let reports = self.near(4 * shape.planes.len(), list == 0);
+        let scratch = self.near(state.len(), list == 3);
+        let answer = self.near(5, list == 4);
+        let records = self.random.below(40) as usize;
+        self.pair.read(&mut state, scratch, &src, markers, reports, records, answer);
     }
 
     // ---- every short input, every count
