@@ -17,13 +17,14 @@ use Rattle.t800.proofs.Laws.Layout.{band-length, end-after}
 use Rattle.t800.proofs.Laws.Paths.{AllBelow, leaf-path}
 use Rattle.t800.proofs.Laws.Tests.{either}
 use Rattle.bio.specs.Writing.{output, FreeBitsClear}
+use Rattle.tcd.proofs.Laws.Bands.{length-from}
 use Rattle.tgt.specs.Coding.{putCoded}
 use Rattle.t2block.specs.Blocks.{coded}
 use Rattle.t2block.specs.Runs.{Running, codeNext, codeAll, AllFit, setNext, setAll}
 use Rattle.t2block.proofs.Laws.OneBlock.{Before, reversed-before, BlockBefore}
 use Rattle.t2block.proofs.Laws.Rows.{AllBlocks, From, all-still-fit}
 use Rattle.t2enc.specs.Bands.{bandBlocks, newSet, codeBand, codeBands}
-use Rattle.t2enc.proofs.Laws.BandRows.{code-append, set-append, all-clear, still-fit-behind, first-fit, blocks-from, count-from}
+use Rattle.t2enc.proofs.Laws.BandRows.{code-append, set-append, all-clear, still-fit-behind, first-fit, blocks-from}
 use Rattle.t2enc.proofs.Laws.TwoBands.{BlockBehind, next-length, code-then-set}
 use Rattle.t2enc.proofs.Laws.AllBlocks.{set-is-blocks, code-is-blocks}
 
@@ -157,7 +158,7 @@ module _ (at : ℕ) (b : Band) (t : ℕ) (cs : List ℕ) where
 
 pub blocks-of-first : (at : ℕ) (b : Band) (bs : List Band) → length (blocksAt at (b ∷ bs)) ≡ blocksIn b + length (blocksAt (at + bandLength b) bs)
 unfolding blocksAt
-blocks-of-first at b bs = length-append (bandBlocks at b) (blocksAt (at + bandLength b) bs) ∙ ap (λ (n : ℕ). n + length (blocksAt (at + bandLength b) bs)) (count-from at b (blocksIn b) 0)
+blocks-of-first at b bs = length-append (bandBlocks at b) (blocksAt (at + bandLength b) bs) ∙ ap (λ (n : ℕ). n + length (blocksAt (at + bandLength b) bs)) (length-from at b (blocksIn b) 0)
 
 pub band-clear : (t : ℕ) (cs ls ms : List ℕ) (at : ℕ) (b : Band) (s u : Running) → u ≡ codeBand t cs ls ms at b s → FreeBitsClear (s .output .bio) → FreeBitsClear (u .output .bio)
 unfolding codeBand
@@ -166,7 +167,7 @@ band-clear t cs ls ms at b s u e h = subst (λ (v : Running). FreeBitsClear (v .
 pub band-blocks : (t : ℕ) (cs ls ms : List ℕ) (at : ℕ) (b : Band) (s u : Running) → u ≡ codeBand t cs ls ms at b s → u .block ≡ s .block + blocksIn b
 unfolding codeBand
 band-blocks t cs ls ms at b s u e =
-    ap (λ (v : Running). v .block) e ∙ coded-blocks t cs ls ms (bandBlocks at b) (newSet t cs (bandBlocks at b) (s .block) s) ∙ ap (λ (n : ℕ). s .block + n) (count-from at b (blocksIn b) 0)
+    ap (λ (v : Running). v .block) e ∙ coded-blocks t cs ls ms (bandBlocks at b) (newSet t cs (bandBlocks at b) (s .block) s) ∙ ap (λ (n : ℕ). s .block + n) (length-from at b (blocksIn b) 0)
 
 pub bands-turn : (t : ℕ) (cs ls ms : List ℕ) (at : ℕ) (b : Band) (l bs : List Band) (next : ℕ) (s u : Running) → l ≡ b ∷ bs → next ≡ at + bandLength b → u ≡ codeBand t cs ls ms at b s → codeBands t cs ls ms next bs u ≡ codeBands t cs ls ms at l s
 unfolding codeBands
