@@ -7,7 +7,7 @@ use native.Mathlib.Omega.{arith}
 use lib.ListN.{length, getD, take, drop, drop-of-length-le, length-take, length-drop}
 use lib.Seq.{drop-cons, take-all}
 use Rattle.t800.specs.Base.{sum}
-use Rattle.t2check.specs.FirstSegment.{PassLists}
+use Rattle.t2segment.specs.Segments.{PassLists}
 use Rattle.t2check.specs.Refusals.{PassesLeft}
 
 pub next-entry : (l : List ℕ) (i : ℕ) → i < length l → drop i l ≡ getD l i 0 ∷ drop (i + 1) l
