@@ -1,6 +1,6 @@
 -- Refusals 8 and 9 over the blocks that are left, with the counts, lengths and marks that are left: block by block, and band by band.
 use mathlib.Core.Path.{_≡_, refl, sym, ap, ap₂, _∙_}
-use mathlib.Core.Bool.{Bool, true, false, _||_}
+use mathlib.Core.Bool.{Bool, false, _||_}
 use mathlib.Core.List.{List, [], _∷_, _++_}
 use Prim.Native.Nat.{ℕ, zero, suc, _+_, _-_, _*_, _≤_, _<_}
 use native.Mathlib.Omega.{arith}
@@ -13,13 +13,11 @@ use Rattle.t800.specs.State.{Block, blocksIn, bandNodes, bandLength, blocksFrom
 use Rattle.t800.specs.WriteHeader.{isNew, lengthBitsBefore, segmentTooLong, fieldTooWide}
 use Rattle.t800.proofs.Laws.Tests.{or-left, or-right}
 use Rattle.tcd.proofs.Laws.Bands.{length-from}
+use Rattle.tcdstate.proofs.Laws.BlockPlanes.{or-group}
 use Rattle.t2segment.specs.Segments.{bitsBefore, anyTooLong, anyTooWide, blockTooWide}
+use Rattle.t2segment.proofs.Laws.Segments.{next-entry}
 use Rattle.t2check.specs.Refusals.{wideFrom}
-use Rattle.t2check.proofs.Laws.Lists.{next-entry, sum-splits}
-
-or-group : (a b c : Bool) → (a || (b || c)) ≡ (a || b || c)
-or-group true b c = refl
-or-group false b c = refl
+use Rattle.t2check.proofs.Laws.Lists.{sum-splits}
 
 -- the passes of a block: those from `from` up to `to`
 module _ (from to c : ℕ) (e : to ≡ from + c) where

@@ -128,13 +128,15 @@ no-segment-left ls ms at h = rw (drop-of-length-le ls {i = at} h)
 
 -- ---- loops over them
 
+pub next-entry : (l : List ℕ) (i : ℕ) → i < length l → drop i l ≡ getD l i 0 ∷ drop (i + 1) l
+next-entry l i h = drop-cons l i 0 h ∙ rw (add-one i)
+
 -- pass i into the segment
 module _ (ls ms : List ℕ) (i p b : ℕ) where
   pass-splits : i < length ls → length ls ≡ length ms → firstFrom p b (drop i ls) (drop i ms) ≡ firstFrom p b (getD ls i 0 ∷ drop (i + 1) ls) (getD ms i 0 ∷ drop (i + 1) ms)
   pass-splits h e =
       ap₂ (λ (x y : List ℕ). firstFrom p b x y)
-      (drop-cons ls i 0 h ∙ ap (λ (z : ℕ). getD ls i 0 ∷ drop z ls) (sym (add-one i)))
-      (drop-cons ms i 0 (omega arith) ∙ ap (λ (z : ℕ). getD ms i 0 ∷ drop z ms) (sym (add-one i)))
+      (next-entry ls i h) (next-entry ms i (omega arith))
 
   pub pass-stays : i < length ls → length ls ≡ length ms → eqb (getD ms i 0) 0 ≡ true → firstFrom (p + 1) (b + getD ls i 0) (drop (i + 1) ls) (drop (i + 1) ms) ≡ firstFrom p b (drop i ls) (drop i ms)
   pass-stays h e t = sym (pass-splits h e ∙ first-goes-on p b (getD ls i 0) (getD ms i 0) (drop (i + 1) ls) (drop (i + 1) ms) t)
