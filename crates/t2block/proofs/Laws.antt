@@ -1,4 +1,4 @@
-pub mod FirstSegment
+pub mod Fields
 pub mod Passes
 pub mod OneBlock
 pub mod Rows

@@ -1,24 +1,19 @@
 // The coding of blocks in a packet header (opj_t2_encode_packet of t2.rs): a block's lengths, its passes, the block, a row of them.
 ghost use mathlib.Core.Path.{_≡_};
 ghost use mathlib.Core.Bool.{false, cond};
-ghost use Prim.Native.Nat.{_+_, _-_, _*_, _^_, _<_, _≤_};
+ghost use Prim.Native.Nat.{_+_, _*_, _^_, _<_, _≤_};
 ghost use lib.Dec.{T, ltb};
-ghost use lib.ListN.{length, drop, getD};
-ghost use Rattle.t800.specs.WriteHeader.{lengthBitsBefore, codeInclusion, codeZeroPlanes, codePasses, codeBlock};
-ghost use Rattle.t800.specs.Segments.{segmentsOf, width, bitLength, increment, lengthFields};
+ghost use lib.ListN.{length, getD};
+ghost use Rattle.t800.specs.WriteHeader.{codeInclusion, codeZeroPlanes, codePasses, codeBlock};
+ghost use Rattle.t800.specs.Segments.{segmentsOf, lengthFields};
 ghost use Rattle.bio.specs.Writing.{output, putBits, FreeBitsClear};
 ghost use Rattle.t2codes.specs.PassTable.{isPassTable};
-ghost use Rattle.t2block.specs.Lengths.{segment, firstSegment, tooWide, BlockPasses, lengthsPut, putLengths};
+ghost use Rattle.t2segment.specs.Segments.{anyTooWide, blockTooWide};
+ghost use Rattle.t2block.specs.Lengths.{BlockPasses, lengthsPut, putLengths};
 ghost use Rattle.tgt.specs.Coding.{leafCoded, putCoded};
 ghost use Rattle.t2block.specs.Blocks.{blockAt, blockOver, PassesFit, BlockIn};
 ghost use Rattle.t2block.specs.Runs.{running, codeNext, codeAll, placeAt, rowBlocks, NextFits, AllFit, RowIn, setNext, setAll};
 use t800::Bio;
-
-// A segment's passes in this layer, and their bytes.
-struct SegmentLength {
-    passes: u32,
-    bytes: u32,
-}
 
 // A block's new length bits, and where the bits stand.
 struct LengthsPut {
@@ -44,74 +39,18 @@ pub struct Run {
 
 // ---- lengths
 
-// The segment that begins with pass `from`.
-fn next_segment(lengths: &[u32], marks: &[u8], from: usize) -> SegmentLength
-    requires { ⌜ (length (now marks) ≡ length (now lengths)) × (from ≤ length (now lengths)) × (length (now lengths) ≤ 164) × (firstSegment 0 0 (drop from (now lengths)) (drop from (now marks)) .bytes < 2 ^ 31) ⌝ }
-    ensures { λ r. ⌜ segment r ≡ firstSegment 0 0 (drop from (now (lengths .entry))) (drop from (now (marks .entry))) ⌝ }
-{
-    let mut passes: u32 = 0;
-    let mut bytes: u32 = 0;
-    let mut i = from;
-    while i < lengths.len() {
-        passes += 1;
-        bytes += lengths[i];
-        if marks[i] != 0 {
-            return SegmentLength { passes, bytes };
-        }
-        i += 1;
-    }
-    SegmentLength { passes, bytes }
-}
-
-// Of a length field.
-pub fn field_width(lenbits: u32, passes: u32) -> u32
-    requires { ⌜ (lenbits ≤ 96) × (passes ≤ 164) ⌝ }
-    ensures { λ r. ⌜ r ≡ width lenbits passes ⌝ }
-{
-    let log = math::opj_uint_floorlog2(passes);
-    lenbits + log
-}
-
-// The bits that a length has more than its field.
-fn lacking(lenbits: u32, s: SegmentLength) -> u32
-    requires { ⌜ (lenbits ≤ 32) × (s .passes ≤ 164) × (s .bytes < 2 ^ 31) ⌝ }
-    ensures { λ r. ⌜ r ≡ bitLength (s .bytes) - width lenbits (s .passes) ⌝ }
-{
-    let have = field_width(lenbits, s.passes);
-    let log = math::opj_uint_floorlog2(s.bytes);
-    let want = 1 + log;
-    if want <= have {
-        return 0;
-    }
-    want - have
-}
-
-// What a block's segments add to its length bits.
-pub fn increment(lengths: &[u32], marks: &[u8], lenbits: u32) -> u32
-    requires { ⌜ (BlockPasses (now lengths) (now marks)) × (lenbits ≤ 32) ⌝ }
-    ensures { λ r. ⌜ r ≡ increment lenbits (segmentsOf (now (lengths .entry)) (now (marks .entry))) ⌝ }
-{
-    let mut most: u32 = 0;
-    let mut from: usize = 0;
-    while from < lengths.len() {
-        let s = next_segment(lengths, marks, from);
-        most = math::opj_uint_max(most, lacking(lenbits, s));
-        from += s.passes as usize;
-    }
-    most
-}
-
 // One length per segment.
 fn code_lengths(out: &mut [u8], b: Bio, lengths: &[u32], marks: &[u8], lenbits: u32) -> Bio
-    requires { ⌜ (FreeBitsClear b) × (BlockPasses (now lengths) (now marks)) × (lenbits ≤ 32) × (tooWide lenbits (segmentsOf (now lengths) (now marks)) ≡ false) ⌝ }
+    requires { ⌜ (FreeBitsClear b) × (BlockPasses (now lengths) (now marks)) × (anyTooWide lenbits (segmentsOf (now lengths) (now marks)) ≡ false) ⌝ }
     ensures { λ r. ⌜ output (now (out .exit)) r ≡ putBits (output (now (out .entry)) b) (lengthFields lenbits (segmentsOf (now (lengths .entry)) (now (marks .entry)))) ⌝ }
 {
     let mut bio = b;
     let mut i: usize = 0;
     while i < lengths.len() {
-        let s = next_segment(lengths, marks, i);
-        let bits = field_width(lenbits, s.passes);
-        bio = bio::opj_bio_write(out, bio, s.bytes, bits);
+        let s = t2segment::segment_at(lengths, marks, i);
+        let bytes = s.bytes as u32;
+        let bits = t2segment::field_width(lenbits as u64, s.passes);
+        bio = bio::opj_bio_write(out, bio, bytes, bits as u32);
         i += s.passes as usize;
     }
     bio
@@ -127,10 +66,10 @@ fn put_lengths(
     lengths: &[u32],
     marks: &[u8],
 ) -> LengthsPut
-    requires { ⌜ (T (isPassTable (now codes))) × (FreeBitsClear b) × (1 ≤ count) × (count ≡ length (now lengths)) × (BlockPasses (now lengths) (now marks)) × (before ≤ 32) × (tooWide (before + increment before (segmentsOf (now lengths) (now marks))) (segmentsOf (now lengths) (now marks)) ≡ false) ⌝ }
+    requires { ⌜ (T (isPassTable (now codes))) × (FreeBitsClear b) × (1 ≤ count) × (count ≡ length (now lengths)) × (BlockPasses (now lengths) (now marks)) × (before ≤ 32) × (blockTooWide before (segmentsOf (now lengths) (now marks)) ≡ false) ⌝ }
     ensures { λ r. ⌜ lengthsPut (now (out .exit)) r ≡ putLengths (output (now (out .entry)) b) before count (segmentsOf (now (lengths .entry)) (now (marks .entry))) ⌝ }
 {
-    let more = increment(lengths, marks, before);
+    let more = t2segment::segment_increment(lengths, marks, before);
     let lenbits = before + more;
     let counted = t2codes::put_pass_codeword(codes, out, b, count);
     let widened = t2codes::opj_t2_putcommacode(out, counted, more);
@@ -139,17 +78,6 @@ fn put_lengths(
 }
 
 // ---- one block
-
-// 3 until it is first included.
-fn length_bits_before(words: &[u32], at: usize) -> u32
-    requires { ⌜ at + 3 < length (now words) ⌝ }
-    ensures { λ r. ⌜ r ≡ lengthBitsBefore (now (words .entry)) (blockAt at) ⌝ }
-{
-    if words[at] == 0 {
-        return 3;
-    }
-    words[at + 1]
-}
 
 fn code_passes(
     codes: &[u32; 328],
@@ -164,7 +92,7 @@ fn code_passes(
     requires { ⌜ (T (isPassTable (now codes))) × (FreeBitsClear b) × (at + 3 < length (now words)) × (1 ≤ count) × (PassesFit (getD (now words) at 0) (getD (now words) (at + 1) 0) count (now lengths) (now marks)) ⌝ }
     ensures { λ r. ⌜ leafCoded (now (words .exit)) (now (out .exit)) r ≡ putCoded (output (now (out .entry)) b) (codePasses (blockAt at) count (segmentsOf (now (lengths .entry)) (now (marks .entry))) (now (words .entry))) ⌝ }
 {
-    let before = length_bits_before(words, at);
+    let before = t2segment::length_bits_before(words[at], words[at + 1]);
     let r = put_lengths(codes, out, b, before, count, lengths, marks);
     let passes = words[at] + count;
     words[at] = passes;

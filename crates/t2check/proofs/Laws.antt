@@ -1,4 +1,3 @@
-pub mod Segments
 pub mod Lists
 pub mod BlocksLeft
 pub mod ScratchLength

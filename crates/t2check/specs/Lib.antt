@@ -1,2 +1,1 @@
-pub mod FirstSegment
 pub mod Refusals

@@ -1,31 +1,20 @@
 -- The refusals of measuring, in the parts that the code has.
-use Prim.Native.Nat.{ℕ, zero, suc, _+_, _^_, _≤_}
+use Prim.Native.Nat.{ℕ, zero, suc, _+_, _≤_}
 use mathlib.Core.Path.{_≡_}
 use mathlib.Core.Bool.{Bool, false, cond, _||_, not}
 use mathlib.Core.List.{List, [], _∷_}
 use lib.ListN.{length, getD, take, drop}
-use lib.Dec.{ltb, leb, eqb}
+use lib.Dec.{ltb, eqb}
 use Rattle.t800.specs.Base.{any, sum}
-use Rattle.t800.specs.Segments.{Segment, segmentsOf, width, increment}
+use Rattle.t800.specs.Segments.{segmentsOf}
 use Rattle.t800.specs.State.{notYetIncluded, writer, layer, blocks, bands}
 use Rattle.t800.specs.Ranges.{validState}
 use Rattle.t800.specs.WriteHeader.{Contribution, segmentTooLong, fieldTooWide}
 use Rattle.t800.specs.Packet.{wrongLists}
+use Rattle.t2segment.specs.Segments.{bitsBefore, blockTooWide}
 
 abbrev pub contribution : List ℕ → List ℕ → List ℕ → Contribution
 contribution cs ls ms = record { counts = cs; lengths = ls; marks = ms }
-
--- ---- one block
-
-abbrev pub anyTooLong : List Segment → Bool
-anyTooLong segments = any (λ s. leb (2 ^ 31) (s .bytes)) segments
-
-abbrev pub anyTooWide : ℕ → List Segment → Bool
-anyTooWide lengthBits segments = any (λ s. ltb 32 (width lengthBits (s .passes))) segments
-
--- with its length bits as the packet begins
-abbrev pub blockTooWide : ℕ → List Segment → Bool
-blockTooWide before segments = anyTooWide (before + increment before segments) segments
 
 -- ---- counts, lengths and marks that are left
 
@@ -38,7 +27,7 @@ unfoldable pub wideFrom : List ℕ → ℕ → ℕ → List ℕ → List ℕ →
 wideFrom ws at zero cs ls ms = false
 wideFrom ws at (suc n) [] ls ms = false
 wideFrom ws at (suc n) (c ∷ cs) ls ms =
-    blockTooWide (cond (eqb (getD ws at 0) 0) 3 (getD ws (at + 1) 0)) (segmentsOf (take c ls) (take c ms))
+    blockTooWide (bitsBefore (getD ws at 0) (getD ws (at + 1) 0)) (segmentsOf (take c ls) (take c ms))
     || wideFrom ws (at + 4) n cs (drop c ls) (drop c ms)
 
 -- ---- the whole packet

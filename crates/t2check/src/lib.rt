@@ -1,18 +1,18 @@
-// What turns a packet away before it is written (t2.rs): refusals 5, 6, 3, 7, 8 and 9, a block's segments one by one, and the widths of their length fields.
+// What turns a packet away before it is written (t2.rs): refusals 5, 6, 3, 7, 8 and 9.
 ghost use mathlib.Core.Path.{_≡_};
-ghost use mathlib.Core.Bool.{cond, true, false};
-ghost use Prim.Native.Nat.{_+_, _-_, _*_, _≤_};
-ghost use lib.ListN.{length, take, drop};
-ghost use lib.Dec.{ltb, eqb};
+ghost use mathlib.Core.Bool.{true, false};
+ghost use Prim.Native.Nat.{_+_, _*_, _≤_};
+ghost use lib.ListN.{length, take};
+ghost use lib.Dec.{ltb};
 ghost use Rattle.t800.specs.Base.{any, sum};
-ghost use Rattle.t800.specs.Segments.{segmentsOf, width, bitLength, increment};
+ghost use Rattle.t800.specs.Segments.{segmentsOf};
 ghost use Rattle.t800.specs.State.{writer, blocks, blocksFrom, blocksIn, bandLength, stateLength};
 ghost use Rattle.t800.specs.Ranges.{validState};
 ghost use Rattle.t800.specs.WriteHeader.{segmentTooLong, fieldTooWide};
 ghost use Rattle.t800.specs.Packet.{wrongLists};
 ghost use Rattle.tcd.specs.Geometry.{SidesUpTo64, AllUpTo64};
-ghost use Rattle.t2check.specs.FirstSegment.{segment, firstSegment, PassLists};
-ghost use Rattle.t2check.specs.Refusals.{contribution, anyTooLong, anyTooWide, blockTooWide, wideFrom, PassesLeft, contributionRefusal, measureRefusalFor};
+ghost use Rattle.t2segment.specs.Segments.{PassLists, bitsBefore, anyTooLong, anyTooWide, blockTooWide};
+ghost use Rattle.t2check.specs.Refusals.{contribution, wideFrom, PassesLeft, contributionRefusal, measureRefusalFor};
 use t800::Band;
 
 // ---- the lists (3)
@@ -70,39 +70,13 @@ fn any_count_over_164(counts: &[u32]) -> bool
 
 // ---- one block's segments
 
-// Passes that one length field stands for.
-pub struct CodedSegment {
-    pub passes: u32,
-    pub bytes: u64,
-}
-
-// The segment that begins at a pass: up to the first terminated one, or the last.
-pub fn segment_at(lengths: &[u32], marks: &[u8], at: usize) -> CodedSegment
-    requires { ⌜ PassLists (now lengths) (now marks) × (at ≤ length (now lengths)) ⌝ }
-    ensures { λ r. ⌜ segment (r .passes) (r .bytes) ≡ firstSegment (drop at (now (lengths .entry))) (drop at (now (marks .entry))) ⌝ }
-{
-    let mut passes: u32 = 0;
-    let mut bytes: u64 = 0;
-    let mut i = at;
-    while i < lengths.len() {
-        let one = lengths[i] as u64;
-        passes += 1;
-        bytes += one;
-        if marks[i] != 0 {
-            return CodedSegment { passes, bytes };
-        }
-        i += 1;
-    }
-    CodedSegment { passes, bytes }
-}
-
 fn any_segment_too_long(lengths: &[u32], marks: &[u8]) -> bool
     requires { ⌜ PassLists (now lengths) (now marks) ⌝ }
     ensures { λ r. ⌜ r ≡ anyTooLong (segmentsOf (now (lengths .entry)) (now (marks .entry))) ⌝ }
 {
     let mut at: usize = 0;
     while at < lengths.len() {
-        let s = segment_at(lengths, marks, at);
+        let s = t2segment::segment_at(lengths, marks, at);
         if 0x8000_0000 <= s.bytes {
             return true;
         }
@@ -111,61 +85,14 @@ fn any_segment_too_long(lengths: &[u32], marks: &[u8]) -> bool
     false
 }
 
-// ---- widths
-
-// The sum of a block's length bits and an increment may pass 32 bits: nothing here asks how large they are.
-pub fn field_width(length_bits: u64, passes: u32) -> u64
-    requires { ⌜ «length_bits» ≤ 8589934592 ⌝ }
-    ensures { λ r. ⌜ r ≡ width «length_bits» passes ⌝ }
-{
-    let log = math::opj_uint_floorlog2(passes);
-    length_bits + log as u64
-}
-
-fn bit_length(bytes: u32) -> u32
-    ensures { λ r. ⌜ r ≡ bitLength bytes ⌝ }
-{
-    let log = math::opj_uint_floorlog2(bytes);
-    1 + log
-}
-
-// The bits by which a segment's length is wider than its field.
-fn bits_missing(bytes: u32, passes: u32, length_bits: u32) -> u32
-    ensures { λ r. ⌜ r ≡ bitLength bytes - width «length_bits» passes ⌝ }
-{
-    let bits = bit_length(bytes);
-    let given = field_width(length_bits as u64, passes);
-    if bits as u64 <= given {
-        return 0;
-    }
-    bits - given as u32
-}
-
-// The increment of a block's length bits.
-pub fn segment_increment(lengths: &[u32], marks: &[u8], length_bits: u32) -> u32
-    requires { ⌜ PassLists (now lengths) (now marks) × (anyTooLong (segmentsOf (now lengths) (now marks)) ≡ false) ⌝ }
-    ensures { λ r. ⌜ r ≡ increment «length_bits» (segmentsOf (now (lengths .entry)) (now (marks .entry))) ⌝ }
-{
-    let mut most: u32 = 0;
-    let mut at: usize = 0;
-    while at < lengths.len() {
-        let s = segment_at(lengths, marks, at);
-        let bytes = s.bytes as u32;
-        let missing = bits_missing(bytes, s.passes, length_bits);
-        most = math::opj_uint_max(most, missing);
-        at += s.passes as usize;
-    }
-    most
-}
-
 fn any_field_too_wide(lengths: &[u32], marks: &[u8], length_bits: u64) -> bool
     requires { ⌜ PassLists (now lengths) (now marks) × («length_bits» ≤ 8589934592) ⌝ }
     ensures { λ r. ⌜ r ≡ anyTooWide «length_bits» (segmentsOf (now (lengths .entry)) (now (marks .entry))) ⌝ }
 {
     let mut at: usize = 0;
     while at < lengths.len() {
-        let s = segment_at(lengths, marks, at);
-        if 32 < field_width(length_bits, s.passes) {
+        let s = t2segment::segment_at(lengths, marks, at);
+        if 32 < t2segment::field_width(length_bits, s.passes) {
             return true;
         }
         at += s.passes as usize;
@@ -173,19 +100,12 @@ fn any_field_too_wide(lengths: &[u32], marks: &[u8], length_bits: u64) -> bool
     false
 }
 
-// A block's length bits as the packet begins.
-pub fn length_bits_before(so_far: u32, length_bits: u32) -> u32
-    ensures { λ r. ⌜ r ≡ cond (eqb «so_far» 0) 3 «length_bits» ⌝ }
-{
-    if so_far == 0 { 3 } else { length_bits }
-}
-
 fn block_too_wide(so_far: u32, length_bits: u32, lengths: &[u32], marks: &[u8]) -> bool
     requires { ⌜ PassLists (now lengths) (now marks) × (anyTooLong (segmentsOf (now lengths) (now marks)) ≡ false) ⌝ }
-    ensures { λ r. ⌜ r ≡ blockTooWide (cond (eqb «so_far» 0) 3 «length_bits») (segmentsOf (now (lengths .entry)) (now (marks .entry))) ⌝ }
+    ensures { λ r. ⌜ r ≡ blockTooWide (bitsBefore «so_far» «length_bits») (segmentsOf (now (lengths .entry)) (now (marks .entry))) ⌝ }
 {
-    let before = length_bits_before(so_far, length_bits);
-    let more = segment_increment(lengths, marks, before);
+    let before = t2segment::length_bits_before(so_far, length_bits);
+    let more = t2segment::segment_increment(lengths, marks, before);
     any_field_too_wide(lengths, marks, before as u64 + more as u64)
 }
 

@@ -1,7 +1,7 @@
 // The reading of blocks in a packet header (opj_t2_read_packet_header of t2.rs): a segment, a block's segments, the block, a row of them.
 ghost use mathlib.Core.Path.{_≡_};
 ghost use Prim.Native.Nat.{_+_, _-_, _/_, _^_, _<_, _≤_};
-ghost use lib.ListN.{length, getD};
+ghost use lib.ListN.{length};
 ghost use Rattle.tgt.specs.Reading.{valueAfter};
 ghost use Rattle.t2block.specs.Blocks.{blockAt, BlockIn};
 ghost use Rattle.t2block.specs.Runs.{RowIn};
@@ -89,10 +89,10 @@ fn read_segment(
     s: Segment,
     n: u32,
 ) -> Run
-    requires { ⌜ (r .bio .ct ≤ 8) × (at + 3 < length (now words)) × (block < 2 ^ 32) × (s ≡ currentSegment (now words) (blockAt at)) × (s .used + n ≤ 164) × (getD (now words) (at + 1) 0 ≤ 96) ⌝ }
+    requires { ⌜ (r .bio .ct ≤ 8) × (at + 3 < length (now words)) × (block < 2 ^ 32) × (s ≡ currentSegment (now words) (blockAt at)) × (s .used + n ≤ 164) ⌝ }
     ensures { λ o. ⌜ WithAnyReports (λ reports. reading (now (words .exit)) reports (now (records .exit)) o) (λ reports. nextSegment (now (src .entry)) block (blockAt at) n (reading (now (words .entry)) reports (now (records .entry)) r)) ⌝ }
 {
-    let width = t2block::field_width(words[at + 1], n);
+    let width = t2segment::field_width(words[at + 1] as u64, n);
     let count = r.count;
     let room = records.len() / 4;
     if 32 < width {
@@ -101,7 +101,7 @@ fn read_segment(
     if room <= count {
         return refuse(r, TOO_FEW_RECORDS);
     }
-    let len = bio::opj_bio_read(src, r.bio, width);
+    let len = bio::opj_bio_read(src, r.bio, width as u32);
     words[at + 2] = s.limit;
     words[at + 3] = s.used + n;
     tcd::put_record(records, count, block as u32, s.opens, n, len.value);
@@ -124,7 +124,7 @@ fn read_segments(
     block: usize,
     passes: u32,
 ) -> Run
-    requires { ⌜ (r .bio .ct ≤ 8) × (at + 3 < length (now words)) × (block < 2 ^ 32) × (passes ≤ 164) × (getD (now words) (at + 1) 0 ≤ 96) × (SegmentFits (now words) at) × (r .refusal ≡ 0) ⌝ }
+    requires { ⌜ (r .bio .ct ≤ 8) × (at + 3 < length (now words)) × (block < 2 ^ 32) × (passes ≤ 164) × (SegmentFits (now words) at) × (r .refusal ≡ 0) ⌝ }
     ensures { λ o. ⌜ WithAnyReports (λ reports. reading (now (words .exit)) reports (now (records .exit)) o) (λ reports. nextSegments (now (src .entry)) block (blockAt at) passes passes (reading (now (words .entry)) reports (now (records .entry)) r)) ⌝ }
 {
     let mut run = r;

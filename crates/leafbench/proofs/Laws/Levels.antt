@@ -1,6 +1,6 @@
 -- The levels of a tree, their depth and nodes, level by level; and what the test for a tree says.
 use mathlib.Core.Path.{_≡_, refl, sym, ap, ap₂, _∙_}
-use mathlib.Core.Bool.{Bool, true, false, cond, _&&_, true≢false}
+use mathlib.Core.Bool.{Bool, true, false, cond, _&&_}
 use mathlib.Core.List.{List, [], _∷_}
 use Prim.Native.Nat.{ℕ, zero, suc, _+_, _-_, _*_, _/_, _≤_, _<_}
 use native.Mathlib.Nat.{mul-le-mul}
@@ -11,6 +11,7 @@ use lib.ListN.{length, take}
 use Rattle.t800.specs.declared.Level.{Level}
 use Rattle.t800.specs.TagTree.{levelsFrom, levels, nodesIn, nodes}
 use Rattle.t800.proofs.Laws.Tests.{if-le, if-gt}
+use Rattle.tgt.proofs.Laws.Coding.{both}
 use Rattle.leafbench.specs.Trees.{halved, TreeIn, isTree}
 
 pub sides-small : (a b : ℕ) → a ≤ 64 → b ≤ 64 → a * b ≤ 4096
@@ -110,10 +111,6 @@ unfolding nodes levels
 nodes-small w h a b = few-nodes 7 w h a b
 
 -- ---- the test
-
-both : (a b : Bool) → a && b ≡ true → (a ≡ true) × (b ≡ true)
-both true b e = (refl, e)
-both false b e = absurd (true≢false (sym e))
 
 pub tree-sides : (size w h : ℕ) → isTree size w h ≡ true → (w ≤ 64) × (h ≤ 64) × (size ≡ 3 * nodes w h)
 unfolding isTree

@@ -1,24 +1,23 @@
 -- Refusals 8 and 9 over the blocks that are left, with the counts, lengths and marks that are left: block by block, and band by band.
 use mathlib.Core.Path.{_≡_, refl, sym, ap, ap₂, _∙_}
-use mathlib.Core.Bool.{Bool, true, false, cond, _||_}
+use mathlib.Core.Bool.{Bool, false, _||_}
 use mathlib.Core.List.{List, [], _∷_, _++_}
 use Prim.Native.Nat.{ℕ, zero, suc, _+_, _-_, _*_, _≤_, _<_}
 use native.Mathlib.Omega.{arith}
 use lib.ListN.{length, getD, take, drop, drop-of-length-le}
 use lib.Seq.{drop-drop}
-use lib.Dec.{eqb}
 use Rattle.t800.specs.declared.Band.{Band}
 use Rattle.t800.specs.Base.{sum}
-use Rattle.t800.specs.Segments.{segmentsOf}
+use Rattle.t800.specs.Segments.{Segment, segmentsOf, increment}
 use Rattle.t800.specs.State.{Block, blocksIn, bandNodes, bandLength, blocksFrom, blocksAt}
 use Rattle.t800.specs.WriteHeader.{isNew, lengthBitsBefore, segmentTooLong, fieldTooWide}
 use Rattle.t800.proofs.Laws.Tests.{or-left, or-right}
-use Rattle.t2check.specs.Refusals.{anyTooLong, blockTooWide, wideFrom}
-use Rattle.t2check.proofs.Laws.Lists.{next-entry, sum-splits}
-
-or-group : (a b c : Bool) → (a || (b || c)) ≡ (a || b || c)
-or-group true b c = refl
-or-group false b c = refl
+use Rattle.tcd.proofs.Laws.Bands.{length-from}
+use Rattle.tcdstate.proofs.Laws.BlockPlanes.{or-group}
+use Rattle.t2segment.specs.Segments.{bitsBefore, anyTooLong, anyTooWide, blockTooWide}
+use Rattle.t2segment.proofs.Laws.Segments.{next-entry}
+use Rattle.t2check.specs.Refusals.{wideFrom}
+use Rattle.t2check.proofs.Laws.Lists.{sum-splits}
 
 -- the passes of a block: those from `from` up to `to`
 module _ (from to c : ℕ) (e : to ≡ from + c) where
@@ -66,9 +65,13 @@ none-long-behind (suc n) (c ∷ cs) ls ms h =
 
 -- ---- fields too wide, block by block
 
+-- a block's length bits, the increment and the widths with both
+pub block-wide-parts : (before more bits : ℕ) (ss : List Segment) (t : Bool) → before ≡ bits → more ≡ increment before ss → t ≡ anyTooWide (before + more) ss → t ≡ blockTooWide bits ss
+block-wide-parts before more bits ss t p q r = r ∙ ap (λ (z : ℕ). anyTooWide (before + z) ss) q ∙ ap (λ (z : ℕ). blockTooWide z ss) p
+
 module _ (ws cs ls ms : List ℕ) where
   pub wide-turn : (n i at from to : ℕ) (t : Bool) → i < n → n ≤ length cs → to ≡ from + getD cs i 0
-      → t ≡ blockTooWide (cond (eqb (getD ws at 0) 0) 3 (getD ws (at + 1) 0)) (segmentsOf (take (to - from) (drop from ls)) (take (to - from) (drop from ms)))
+      → t ≡ blockTooWide (bitsBefore (getD ws at 0) (getD ws (at + 1) 0)) (segmentsOf (take (to - from) (drop from ls)) (take (to - from) (drop from ms)))
       → wideFrom ws at (n - i) (drop i cs) (drop from ls) (drop from ms) ≡ (t || wideFrom ws (at + 4) (n - (i + 1)) (drop (i + 1) cs) (drop to ls) (drop to ms))
   unfolding wideFrom
   wide-turn n i at from to t h l e a =
@@ -76,7 +79,7 @@ module _ (ws cs ls ms : List ℕ) where
       let m : ℕ = n - (i + 1) in
       let k : n - i ≡ suc m = omega arith in
       ap₂ (λ (x : ℕ) (z : List ℕ). wideFrom ws at x z (drop from ls) (drop from ms)) k (next-entry cs i (omega arith))
-      ∙ ap₂ (λ (x y : List ℕ). blockTooWide (cond (eqb (getD ws at 0) 0) 3 (getD ws (at + 1) 0)) (segmentsOf x y) || wideFrom ws (at + 4) m (drop (i + 1) cs) (drop c (drop from ls)) (drop c (drop from ms)))
+      ∙ ap₂ (λ (x y : List ℕ). blockTooWide (bitsBefore (getD ws at 0) (getD ws (at + 1) 0)) (segmentsOf x y) || wideFrom ws (at + 4) m (drop (i + 1) cs) (drop c (drop from ls)) (drop c (drop from ms)))
       (sym (part-is from to c e ls)) (sym (part-is from to c e ms))
       ∙ ap (λ (x : Bool). x || wideFrom ws (at + 4) m (drop (i + 1) cs) (drop c (drop from ls)) (drop c (drop from ms))) (sym a)
       ∙ ap₂ (λ (x y : List ℕ). t || wideFrom ws (at + 4) m (drop (i + 1) cs) x y) (behind-is from to c e ls) (behind-is from to c e ms)
@@ -94,7 +97,7 @@ wide-blocks ws at b (suc n) i [] ls ms = refl
 wide-blocks ws at b (suc n) i (c ∷ cs) ls ms =
     let p : ℕ = at + 6 * bandNodes b + 4 * i in
     let k : at + 6 * bandNodes b + 4 * (i + 1) ≡ p + 4 = omega arith in
-    ap (λ (t : Bool). blockTooWide (cond (eqb (getD ws p 0) 0) 3 (getD ws (p + 1) 0)) (segmentsOf (take c ls) (take c ms)) || t)
+    ap (λ (t : Bool). blockTooWide (bitsBefore (getD ws p 0) (getD ws (p + 1) 0)) (segmentsOf (take c ls) (take c ms)) || t)
     (wide-blocks ws at b n (i + 1) cs (drop c ls) (drop c ms) ∙ ap (λ (z : ℕ). wideFrom ws z n cs (drop c ls) (drop c ms)) k)
 
 -- a band's blocks
@@ -116,16 +119,11 @@ unfolding fieldTooWide lengthBitsBefore isNew sum
 wide-splits ws [] ks cs ls ms = refl
 wide-splits ws (j ∷ js) ks [] ls ms = sym (no-counts-left ws ks ls ms)
 wide-splits ws (j ∷ js) ks (c ∷ cs) ls ms =
-    let here : Bool = blockTooWide (cond (eqb (getD ws (j .at) 0) 0) 3 (getD ws (j .at + 1) 0)) (segmentsOf (take c ls) (take c ms)) in
+    let here : Bool = blockTooWide (bitsBefore (getD ws (j .at) 0) (getD ws (j .at + 1) 0)) (segmentsOf (take c ls) (take c ms)) in
     let p : ℕ = sum (take (length js) cs) in
     ap (λ (t : Bool). here || t) (wide-splits ws js ks cs (drop c ls) (drop c ms))
     ∙ ap₂ (λ (x y : List ℕ). here || (fieldTooWide ws js cs (drop c ls) (drop c ms) || fieldTooWide ws ks (drop (length js) cs) x y)) (drop-drop p c ls) (drop-drop p c ms)
     ∙ or-group here (fieldTooWide ws js cs (drop c ls) (drop c ms)) (fieldTooWide ws ks (drop (length js) cs) (drop (c + p) ls) (drop (c + p) ms))
-
-length-from : (at : ℕ) (b : Band) (n i : ℕ) → length (blocksFrom at b n i) ≡ n
-unfolding blocksFrom
-length-from at b zero i = refl
-length-from at b (suc n) i = let r = length-from at b n (i + 1) in omega arith
 
 -- the passes of a band's blocks, which are those from `first` up to `next`
 pub passes-here : (cs : List ℕ) (b : Band) (first next p : ℕ) → next ≡ first + blocksIn b → p ≡ sum (take (next - first) (drop first cs)) → p ≡ sum (take (blocksIn b) (drop first cs))

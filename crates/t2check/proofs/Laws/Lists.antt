@@ -1,17 +1,14 @@
 -- Sums of lists, entry by entry and in two parts; and parts of lists.
-use mathlib.Core.Path.{_≡_, refl, sym, ap, _∙_, subst}
+use mathlib.Core.Path.{_≡_, refl, sym, ap, subst}
 use mathlib.Core.List.{List, [], _∷_}
 use Prim.Native.Nat.{ℕ, zero, suc, _+_, _-_, _≤_, _<_, min}
-use native.Mathlib.Numerals.{add-one}
 use native.Mathlib.Omega.{arith}
 use lib.ListN.{length, getD, take, drop, drop-of-length-le, length-take, length-drop}
-use lib.Seq.{drop-cons, take-all}
+use lib.Seq.{take-all}
 use Rattle.t800.specs.Base.{sum}
-use Rattle.t2check.specs.FirstSegment.{PassLists}
+use Rattle.t2segment.specs.Segments.{PassLists}
+use Rattle.t2segment.proofs.Laws.Segments.{next-entry}
 use Rattle.t2check.specs.Refusals.{PassesLeft}
-
-pub next-entry : (l : List ℕ) (i : ℕ) → i < length l → drop i l ≡ getD l i 0 ∷ drop (i + 1) l
-next-entry l i h = drop-cons l i 0 h ∙ rw (add-one i)
 
 pub sum-turn : (l : List ℕ) (i : ℕ) → i < length l → sum (drop i l) ≡ getD l i 0 + sum (drop (i + 1) l)
 unfolding sum

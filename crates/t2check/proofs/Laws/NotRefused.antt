@@ -1,23 +1,23 @@
--- What a packet says that none of 5, 6, 3, 7, 8 and 9 turns away: of its lists, its counts, and its segments one by one.
-use mathlib.Core.Path.{_≡_, sym, ap, _∙_}
+-- What a packet says that none of 5, 6, 3, 7, 8 and 9 turns away: of its lists, its counts, and its blocks one by one.
+use mathlib.Core.Path.{_≡_, sym, _∙_}
 use mathlib.Core.Logic.{_≢_}
 use mathlib.Core.Bool.{Bool, true, false, not}
 use mathlib.Core.List.{List, [], _∷_}
-use Prim.Native.Nat.{ℕ, zero, suc, _*_, _^_, _≤_}
+use Prim.Native.Nat.{ℕ, zero, suc, _*_, _≤_}
 use native.Mathlib.Omega.{arith}
 use lib.ListN.{length, getD, take, drop}
-use lib.Dec.{ltb, leb, eqb}
-use borrow.Author.Tests.{not-false, eqb-false, ltb-false, leb-false}
+use lib.Dec.{ltb, eqb}
+use borrow.Author.Tests.{not-false, eqb-false, ltb-false}
 use Rattle.t800.specs.Base.{any, sum}
-use Rattle.t800.specs.Segments.{Segment, segmentsOf, width, increment}
+use Rattle.t800.specs.Segments.{segmentsOf}
 use Rattle.t800.specs.State.{Block, notYetIncluded, writer, layer, bands, blocks}
 use Rattle.t800.specs.Ranges.{validState}
 use Rattle.t800.specs.WriteHeader.{Contribution, lengthBitsBefore, segmentTooLong, fieldTooWide}
 use Rattle.t800.specs.Packet.{wrongLists, measureRefusal}
 use Rattle.t800.proofs.Laws.Tests.{or-left, or-right, not-refused}
-use Rattle.t2check.specs.Refusals.{anyTooLong, anyTooWide, blockTooWide, contributionRefusal, measureRefusalFor}
+use Rattle.t2segment.specs.Segments.{anyTooLong, blockTooWide}
+use Rattle.t2check.specs.Refusals.{contributionRefusal, measureRefusalFor}
 use Rattle.t2check.proofs.Laws.ScratchLength.{refusal-by-scratch-length}
-use Rattle.t2check.proofs.Laws.Segments.{length-up-to-31-bits}
 use Rattle.t2check.proofs.Laws.RefusalParts.{lists-right, blocks-of-valid}
 
 -- ---- counts
@@ -75,23 +75,6 @@ not-refused-for ws n p e =
 
 pub not-refused-measure : (ws scratch : List ℕ) (p : Contribution) → measureRefusal ws scratch p ≡ 0 → NotRefused ws (length scratch) p
 not-refused-measure ws scratch p e = not-refused-for ws (length scratch) p (sym (refusal-by-scratch-length ws scratch p) ∙ e)
-
--- ---- segments
-
--- what is so of no segment is so neither of the first nor of those behind it
-pub first-not-wide : (lb : ℕ) (ss : List Segment) (s : Segment) (rest : List Segment) → ss ≡ s ∷ rest → anyTooWide lb ss ≡ false → (width lb (s .passes) ≤ 32) × (anyTooWide lb rest ≡ false)
-unfolding any
-first-not-wide lb ss s rest e h =
-    let k : anyTooWide lb (s ∷ rest) ≡ false = ap (λ (z : List Segment). anyTooWide lb z) (sym e) ∙ h in
-    (ltb-false 32 (width lb (s .passes)) (or-left (ltb 32 (width lb (s .passes))) (anyTooWide lb rest) k), or-right (ltb 32 (width lb (s .passes))) (anyTooWide lb rest) k)
-
-pub increment-up-to-31 : (lb : ℕ) (ss : List Segment) → anyTooLong ss ≡ false → increment lb ss ≤ 31
-unfolding any increment
-increment-up-to-31 lb [] h = omega arith
-increment-up-to-31 lb (s ∷ ss) h =
-    let r = increment-up-to-31 lb ss (or-right (leb (2 ^ 31) (s .bytes)) (anyTooLong ss) h) in
-    let b = length-up-to-31-bits (s .bytes) (leb-false (2 ^ 31) (s .bytes) (or-left (leb (2 ^ 31) (s .bytes)) (anyTooLong ss) h)) in
-    omega arith
 
 -- ---- block by block
 

@@ -1,23 +1,22 @@
 -- The refusals of measuring from what the code has found: each law takes a value for each part, so that a part that is known decides.
 use mathlib.Core.Path.{_≡_, sym, ap, _∙_, subst}
 use mathlib.Core.Bool.{Bool, true, false, cond, not, _||_}
-use mathlib.Core.List.{List, [], _∷_, map}
-use Prim.Native.Nat.{ℕ, _*_, _≤_}
+use mathlib.Core.List.{List}
+use Prim.Native.Nat.{ℕ, _≤_}
 use native.Mathlib.Omega.{arith}
-use lib.ListN.{length, take, length-take}
+use lib.ListN.{length, take}
 use lib.Dec.{ltb, eqb}
 use borrow.Author.Tests.{not-false, eqb-true}
 use Rattle.t800.specs.declared.Band.{Band}
 use Rattle.t800.specs.Base.{any, sum}
-use Rattle.t800.specs.State.{notYetIncluded, writer, bandCount, layer, bands, blocks, blocksIn, stateLength}
+use Rattle.t800.specs.State.{notYetIncluded, writer, bandCount, layer, bands, blocks, stateLength}
 use Rattle.t800.specs.Ranges.{validState}
 use Rattle.t800.specs.WriteHeader.{Contribution, segmentTooLong, fieldTooWide}
 use Rattle.t800.specs.Packet.{wrongLists}
 use Rattle.t800.proofs.Laws.Tests.{or-left, or-right}
 use Rattle.t800.proofs.Laws.Layout.{end-after}
 use Rattle.tcd.specs.Geometry.{AllUpTo64}
-use Rattle.tcd.proofs.Laws.TreeLevels.{area-up-to-4096}
-use Rattle.tcd.proofs.Laws.Bands.{length-blocks}
+use Rattle.tcd.proofs.Laws.Bands.{blocks-up-to-12288}
 use Rattle.tcdstate.specs.Parts.{threeBands}
 use Rattle.tcdstate.proofs.Laws.RangeParts.{first-bands}
 use Rattle.tcdstate.proofs.Laws.ValidStates.{valid-state}
@@ -58,14 +57,6 @@ module _ (ws : List ℕ) (k : ℕ) (valid : validState writer ws k ≡ true) whe
 
     pub length-is : length ws ≡ stateLength (take n bs)
     length-is = valid-state writer ws k valid .length-is ∙ ap stateLength (sym bands-are)
-
-blocks-in-up-to : (bs : List Band) → AllUpTo64 bs → sum (map blocksIn bs) ≤ 4096 * length bs
-unfolding sum blocksIn
-blocks-in-up-to [] h = omega arith
-blocks-in-up-to (b ∷ bs) h = let r = blocks-in-up-to bs (h .1) in let a = area-up-to-4096 (b .across) (b .down) (h .0 .0) (h .0 .1) in omega arith
-
-pub blocks-up-to-12288 : (n : ℕ) (bs : List Band) → n ≤ 3 → AllUpTo64 (take n bs) → length (blocks (take n bs)) ≤ 12288
-blocks-up-to-12288 n bs h s = omega (arith, length-blocks (take n bs), blocks-in-up-to (take n bs) s, length-take n bs)
 
 pub blocks-of-valid : (ws : List ℕ) (n : ℕ) → validState writer ws n ≡ true → length (blocks (bands ws)) ≤ 12288
 unfolding bands

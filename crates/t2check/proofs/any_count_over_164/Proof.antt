@@ -7,7 +7,7 @@ use mathlib.Core.Path.{_≡_, _∙_, refl, sym}
 use native.Mathlib.Omega.{arith}
 use Rattle.t800.specs.Base.{any}
 use Rattle.tcdstate.proofs.Laws.AnyOf.{any-here, any-later}
-use Rattle.t2check.proofs.Laws.Lists.{next-entry}
+use Rattle.t2segment.proofs.Laws.Segments.{next-entry}
 use Rattle.t2check.proofs.any_count_over_164.Statement.{statement}
 use Rattle.t2check.proofs.any_count_over_164.Tie as tie
 

@@ -9,8 +9,8 @@ use native.Mathlib.Omega.{arith}
 use Rattle.t800.specs.Base.{any}
 use Rattle.t800.specs.Segments.{Segment, segmentsOf}
 use Rattle.tcdstate.proofs.Laws.AnyOf.{any-here, any-later}
-use Rattle.t2check.specs.Refusals.{anyTooLong}
-use Rattle.t2check.proofs.Laws.Segments.{next-segment, no-segment-left}
+use Rattle.t2segment.specs.Segments.{anyTooLong}
+use Rattle.t2segment.proofs.Laws.Segments.{next-segment, no-segment-left}
 use Rattle.t2check.proofs.any_segment_too_long.Statement.{statement}
 use Rattle.t2check.proofs.any_segment_too_long.Tie as tie
 

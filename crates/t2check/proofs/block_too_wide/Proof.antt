@@ -2,7 +2,7 @@
 use borrow.Author.Needs.{needs}
 use native.Mathlib.Omega.{arith}
 use Rattle.t800.specs.Segments.{segmentsOf}
-use Rattle.t2check.proofs.Laws.Segments.{block-wide-parts}
+use Rattle.t2check.proofs.Laws.BlocksLeft.{block-wide-parts}
 use Rattle.t2check.proofs.block_too_wide.Statement.{statement}
 use Rattle.t2check.proofs.block_too_wide.Tie as tie
 

@@ -11,7 +11,8 @@ use Rattle.t800.specs.WriteHeader.{fieldTooWide}
 use Rattle.t800.specs.Packet.{wrongLists}
 use Rattle.t800.specs.declared.Band.{Band}
 use Rattle.t2check.specs.Refusals.{contribution}
-use Rattle.t2check.proofs.Laws.RefusalParts.{lists-right, passes-left, first-words, bands-are, sides-are, length-is, blocks-up-to-12288, contribution-parts}
+use Rattle.tcd.proofs.Laws.Bands.{blocks-up-to-12288}
+use Rattle.t2check.proofs.Laws.RefusalParts.{lists-right, passes-left, first-words, bands-are, sides-are, length-is, contribution-parts}
 use Rattle.t2check.proofs.contribution_refusal.Statement.{statement}
 use Rattle.t2check.proofs.contribution_refusal.Tie as tie
 

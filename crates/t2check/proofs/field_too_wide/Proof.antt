@@ -13,11 +13,10 @@ use Rattle.t800.specs.WriteHeader.{segmentTooLong, fieldTooWide}
 use Rattle.t800.specs.declared.Band.{Band}
 use Rattle.t800.proofs.Laws.Layout.{band-length, end-after}
 use Rattle.tcd.specs.Geometry.{noBand}
-use Rattle.tcd.proofs.Laws.Bands.{next-band, sides-of-first, blocks-turn, end-turn, length-blocks}
+use Rattle.tcd.proofs.Laws.Bands.{next-band, sides-of-first, blocks-turn, end-turn, length-blocks, blocks-up-to-12288}
 use Rattle.t2check.specs.Refusals.{PassesLeft}
 use Rattle.t2check.proofs.Laws.Lists.{sum-splits, passes-left-behind, of-rests, on-rests, part-length}
 use Rattle.t2check.proofs.Laws.BlocksLeft.{band-wide-turn, passes-behind-band, none-long-behind-band, passes-here, no-band-left}
-use Rattle.t2check.proofs.Laws.RefusalParts.{blocks-up-to-12288}
 use Rattle.t2check.proofs.field_too_wide.Statement.{statement}
 use Rattle.t2check.proofs.field_too_wide.Tie as tie
 

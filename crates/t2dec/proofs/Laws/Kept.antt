@@ -2,11 +2,11 @@
 -- input's end.
 use mathlib.Core.Path.{_≡_, refl, sym, _∙_, subst}
 use mathlib.Core.List.{List, [], _∷_, reverse}
-use Prim.Native.Nat.{ℕ, zero, suc, _+_, _*_, _/_, _≤_, _<_}
+use Prim.Native.Nat.{ℕ, zero, suc, _+_, _*_, _/_, _≤_}
 use native.Mathlib.Omega.{arith}
 use lib.Dec.{eqb, ltb, leb}
-use lib.ListN.{length, getD, set, drop, length-set}
-use lib.Seq.{getD-set-same, drop-set-lt}
+use lib.ListN.{length, drop}
+use lib.Seq.{drop-set-lt}
 use Rattle.t800.specs.declared.Bio.{Bio}
 use Rattle.t800.specs.Bits.{getBit, readBits}
 use Rattle.t800.specs.PassCount.{readPasses}
@@ -21,7 +21,7 @@ use Rattle.tgt.specs.Reading.{ValueAfter}
 use Rattle.tgt.proofs.Laws.Reading.{readPath-ct, readPath-place, raising-ct, raising-place}
 use Rattle.t2codes.specs.CommaCode.{onesLimit, readCommaLimited}
 use Rattle.t2codes.proofs.Laws.PassCount.{passes-ct, passes-place, passes-between}
-use Rattle.t2codes.proofs.Laws.CommaCode.{ones-ct, ones-place, comma-value}
+use Rattle.t2codes.proofs.Laws.CommaCode.{ones-ct, ones-place}
 use Rattle.t2block.proofs.Laws.OneBlock.{Before, BlockBefore}
 use Rattle.t2block.proofs.Laws.Rows.{AllBlocks}
 use Rattle.t2dec.specs.Reading.{Reading, stopped, nextSegment, nextSegments, passesRead, nextFirst, nextAgain, nextNew, nextOld, nextBlock, nextBlocks, BitsIn}
@@ -52,22 +52,18 @@ pub record Passes (at : ℕ) (ws : List ℕ) (c : ValueAfter) : Type 0 where
   pub few : c .bio .ct ≤ 8
   pub some : 1 ≤ c .value
   pub most : c .value ≤ 164
-  pub bits : getD (c .words) (at + 1) 0 ≤ 96
   pub behind : drop (at + 2) (c .words) ≡ drop (at + 2) ws
 
-pub passes-are : (src : List ℕ) (at before bits : ℕ) (ws : List ℕ) (b : Bio) (c : ValueAfter) → c ≡ passesRead src at before bits ws b → b .ct ≤ 8 → at + 3 < length ws → bits ≤ 32 → Passes at ws c
+pub passes-are : (src : List ℕ) (at before bits : ℕ) (ws : List ℕ) (b : Bio) (c : ValueAfter) → c ≡ passesRead src at before bits ws b → b .ct ≤ 8 → Passes at ws c
 unfolding passesRead readCommaLimited
-passes-are src at before bits ws b c e h l m =
+passes-are src at before bits ws b c e h =
     let n = readPasses src b in
     let v = passes-between src b in
-    let w = comma-value src (n .bio) in
-    let us : List ℕ = set ws at (before + n .value) in
     subst (Passes at ws) (sym e)
     record {
       few = ones-ct src (onesLimit src) 0 (n .bio) (passes-ct src b h);
       some = v .0;
       most = v .1;
-      bits = omega (arith, getD-set-same us (at + 1) (bits + readCommaLimited src (n .bio) .value) 0 (omega (arith, length-set ws at (before + n .value))), w);
       behind = passes-keep src (at + 2) at before bits ws b (omega arith);
     }
 

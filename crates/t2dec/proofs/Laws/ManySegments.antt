@@ -55,16 +55,13 @@ fits-same q at ws vs e h f =
 
 pub record Leaves (at : ℕ) (a b : Reading) : Type 0 where
   pub few : b .bio .ct ≤ 8
-  pub bits : getD (b .words) (at + 1) 0 ≡ getD (a .words) (at + 1) 0
   pub segment : SegmentFits (b .words) at
 
-segment-stored : (ws : List ℕ) (at m u : ℕ) → at + 3 < length ws → u ≤ m → m ≤ 109 → (getD (set (set ws (at + 2) m) (at + 3) u) (at + 1) 0 ≡ getD ws (at + 1) 0) × SegmentFits (set (set ws (at + 2) m) (at + 3) u) at
+segment-stored : (ws : List ℕ) (at m u : ℕ) → at + 3 < length ws → u ≤ m → m ≤ 109 → SegmentFits (set (set ws (at + 2) m) (at + 3) u) at
 segment-stored ws at m u h l k =
     let x : getD (set (set ws (at + 2) m) (at + 3) u) (at + 2) 0 ≡ m = getD-set-other (set ws (at + 2) m) (at + 3) (at + 2) u 0 (omega arith) ∙ getD-set-same ws (at + 2) m 0 (omega arith) in
-    let y : getD (set (set ws (at + 2) m) (at + 3) u) (at + 3) 0 ≡ u = getD-set-same (set ws (at + 2) m) (at + 3) u 0 (omega (arith, length-set ws (at + 2) m)) in (
-      getD-set-other (set ws (at + 2) m) (at + 3) (at + 1) u 0 (omega arith) ∙ getD-set-other ws (at + 2) (at + 1) m 0 (omega arith),
-      record { used = omega arith; limit = omega arith },
-    )
+    let y : getD (set (set ws (at + 2) m) (at + 3) u) (at + 3) 0 ≡ u = getD-set-same (set ws (at + 2) m) (at + 3) u 0 (omega (arith, length-set ws (at + 2) m)) in
+    record { used = omega arith; limit = omega arith }
 
 pub segment-leaves : (src : List ℕ) (i at n : ℕ) (a b : Reading) (s : Segment) → b ≡ nextSegment src i (blockAt at) n a → s ≡ currentSegment (a .words) (blockAt at) → a .bio .ct ≤ 8 → at + 3 < length (a .words)
     → SegmentFits (a .words) at → s .used + n ≤ s .limit → Leaves at a b
@@ -77,10 +74,10 @@ segment-leaves src i at n a b s e q c h f l =
     let el : s .limit ≡ m = ap (λ (z : Segment). z .limit) q in
     let eu : s .used ≡ u = ap (λ (z : Segment). z .used) q in
     let t = segment-stored (a .words) at m (u + n) h (omega (arith, l)) (omega (arith, r .1)) in
-    let same : Leaves at a (stopped 9 a) = record { few = c; bits = refl; segment = f } in
+    let same : Leaves at a (stopped 9 a) = record { few = c; segment = f } in
     subst (Leaves at a) (sym e)
     (either (Leaves at a) (ltb 32 w) _ _ same
-    (either (Leaves at a) (leb _ (a .count)) (stopped 13 a) _ (record { few = c; bits = refl; segment = f }) (record { few = readBits-ct src w (a .bio) c; bits = t .0; segment = t .1 })))
+    (either (Leaves at a) (leb _ (a .count)) (stopped 13 a) _ (record { few = c; segment = f }) (record { few = readBits-ct src w (a .bio) c; segment = t })))
 
 -- ---- the next ones
 

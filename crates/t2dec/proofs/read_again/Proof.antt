@@ -43,12 +43,11 @@ read-segments-requires c κs =
     let at = s .args .at in
     let ws = s .args .words .now in
     let n = c .before .before .before .before .before .before .before .before .before .read-passes in
-    let ps = passes-are (s .args .src .now) at (getD ws at 0) (getD ws (at + 1) 0) ws (s .args .r .bio) (valueAfter (n .last .0) (n .result)) (n .ensures) (s .pre .0) (s .pre .1) (s .pre .3 .bits) in (
+    let ps = passes-are (s .args .src .now) at (getD ws at 0) (getD ws (at + 1) 0) ws (s .args .r .bio) (valueAfter (n .last .0) (n .result)) (n .ensures) (s .pre .0) in (
       omega (arith, ap (λ (r : Run). r .bio .ct) (c .moved .ensures), ps .few),
       omega (arith, n .kept .0, s .pre .1),
       s .pre .2,
       ps .most,
-      ps .bits,
       fits-same (at + 2) at (n .last .0) ws (ps .behind) (omega arith) (s .pre .3 .segment),
       ap (λ (r : Run). r .refusal) (c .moved .ensures),
     )

@@ -46,13 +46,12 @@ read-segments-requires c κs =
     let n = c .before .before .before .before .before .before .before .before .before .before .read-passes in
     let k = leafOf (p .zero) (s .args .row .now) (p .depth) (p .x) in
     let few = raising-ct (s .args .src .now) k (notYetPlanes + 2) 0 (s .args .words .now) (s .args .r .bio) (s .pre .0) in
-    let ps = passes-are (s .args .src .now) (p .at) 0 3 (z .last .0) (z .result .bio) (valueAfter (n .last .0) (n .result)) (n .ensures) (omega (arith, ap (λ (v : ValueAfter). v .bio .ct) (z .ensures), few)) (omega (arith, z .kept .0, s .pre .1 .inside)) (omega arith) in
+    let ps = passes-are (s .args .src .now) (p .at) 0 3 (z .last .0) (z .result .bio) (valueAfter (n .last .0) (n .result)) (n .ensures) (omega (arith, ap (λ (v : ValueAfter). v .bio .ct) (z .ensures), few)) in
     let same = ap (λ (v : ValueAfter). drop (p .at) (v .words)) (z .ensures) ∙ raising-keeps (s .args .src .now) (p .at) k (notYetPlanes + 2) 0 (s .args .words .now) (s .args .r .bio) (path-before (p .at) (p .zero) (s .args .row .now) (p .depth) (p .x) (s .pre .1 .zero)) in (
       omega (arith, ap (λ (r : Run). r .bio .ct) (c .moved .ensures), ps .few),
       omega (arith, n .kept .0, z .kept .0, s .pre .1 .inside),
       s .pre .2,
       ps .most,
-      ps .bits,
       fits-same (p .at + 2) (p .at) (n .last .0) (z .last .0) (ps .behind) (omega arith) (fits-same (p .at) (p .at) (z .last .0) (s .args .words .now) same (omega arith) (s .pre .3)),
       ap (λ (r : Run). r .refusal) (c .moved .ensures),
     )

@@ -4,6 +4,8 @@ use Rattle.bio.specs.Reading.{decoded}
 use Rattle.t2dec.specs.declared.Run.{Run}
 use Rattle.t2dec.specs.Reading.{reading}
 use Rattle.t2dec.proofs.Laws.OneSegment.{segment-wide, segment-past-records, segment-read}
+use Prim.Native.Nat.{_+_}
+use native.Mathlib.Omega.{arith}
 use borrow.Author.Needs.{needs}
 use Rattle.t2dec.proofs.read_segment.Statement.{statement}
 use Rattle.t2dec.proofs.read_segment.Tie as tie
@@ -17,8 +19,11 @@ mul-field-width c = search needs
 slice-read-field-width : tie.Need-slice-read-field-width
 slice-read-field-width c = search needs
 
+cast-field-width : tie.Need-cast-field-width
+cast-field-width c = omega (arith, c .slice-known3 .given (c .before .before .before .before .args .at + 1))
+
 field-width-requires : tie.Need-field-width-requires
-field-width-requires c κs = search needs
+field-width-requires c κs = omega (arith, c .slice-known3 .given (c .before .before .before .before .args .at + 1))
 
 refuse-requires : tie.Need-refuse-requires
 refuse-requires c κs = search needs
@@ -37,6 +42,9 @@ returns-2 c =
     let s = c .before .before .before .before .before .before .before .before in
     λ reports. ap (λ (o : Run). reading (s .args .words .now) reports (s .args .records .now) o) (c .refuse2 .ensures)
     ∙ segment-past-records (s .args .src .now) (s .args .block) (s .args .at) (s .args .n) (reading (s .args .words .now) reports (s .args .records .now) (s .args .r)) _ (c .before .before .before .field-width .ensures) (c .before .before .if1 .left) (c .before .if2 .taken)
+
+cast-opj-bio-read : tie.Need-cast-opj-bio-read
+cast-opj-bio-read c = search needs
 
 opj-bio-read-requires : tie.Need-opj-bio-read-requires
 opj-bio-read-requires c κs = search needs
@@ -89,11 +97,13 @@ read-segment-spec =
     add-field-width
     mul-field-width
     slice-read-field-width
+    cast-field-width
     field-width-requires
     refuse-requires
     returns
     refuse-requires-2
     returns-2
+    cast-opj-bio-read
     opj-bio-read-requires
     add-words
     mul-words

@@ -1,9 +1,9 @@
 -- `t2dec::read_segments` meets its contract.
 use mathlib.Core.Path.{_≡_, refl, sym, _∙_}
 use mathlib.Core.List.{[]}
-use Prim.Native.Nat.{ℕ, _+_, _-_, _≤_}
+use Prim.Native.Nat.{ℕ, _-_, _≤_}
 use native.Mathlib.Omega.{arith}
-use lib.ListN.{length, getD}
+use lib.ListN.{length}
 use Rattle.t2block.specs.Blocks.{blockAt}
 use Rattle.t2dec.specs.Reading.{reading, WithAnyReports, nextSegments, SegmentFits}
 use Rattle.t2dec.proofs.Laws.ManySegments.{has-room, taken-is, segment-leaves, segments-turn, segments-stop, no-segments}
@@ -17,7 +17,6 @@ Inv-loop words₀ records₀ src at block passes run₀ left₀ words records ru
     × (length words ≡ length words₀)
     × (length records ≡ length records₀)
     × (left ≤ 164)
-    × (getD words (at + 1) 0 ≤ 96)
     × (SegmentFits words at)
     × (run .refusal ≡ 0)
     × ((f : ℕ) × (left ≤ f) × WithAnyReports (λ reports. nextSegments src block (blockAt at) f left (reading words reports records run)) (λ reports. nextSegments src block (blockAt at) passes passes (reading words₀ reports records₀ run₀)))
@@ -28,7 +27,7 @@ abbrev μ-loop : tie.MeasureT-loop
 loop-holds : tie.Need-loop-holds Inv-loop μ-loop
 loop-holds c =
     let s = c .before .before .before in
-    (s .pre .0, refl, refl, s .pre .3, s .pre .4, s .pre .5, s .pre .6, (s .args .passes, omega arith, λ reports. refl))
+    (s .pre .0, refl, refl, s .pre .3, s .pre .4, s .pre .5, (s .args .passes, omega arith, λ reports. refl))
 
 current-segment-requires : tie.Need-current-segment-requires Inv-loop μ-loop
 current-segment-requires c κs = omega (arith, c .before .before .before .before .before .before .pre .1, c .before .before .loop .inv .1)
@@ -36,7 +35,7 @@ current-segment-requires c κs = omega (arith, c .before .before .before .before
 sub-room : tie.Need-sub-room Inv-loop μ-loop
 sub-room c =
     let l = c .before .before .before .before .loop in
-    omega (arith, has-room (l .words) (c .before .before .before .before .before .before .before .before .args .at) _ (c .before .current-segment .ensures) (l .inv .5) .0)
+    omega (arith, has-room (l .words) (c .before .before .before .before .before .before .before .before .args .at) _ (c .before .current-segment .ensures) (l .inv .4) .0)
 
 opj-uint-min-requires : tie.Need-opj-uint-min-requires Inv-loop μ-loop
 opj-uint-min-requires c κs = search needs
@@ -46,8 +45,8 @@ read-segment-requires c κs =
     let s = c .before .before .before .before .before .before .before .before .before .before .before in
     let l = c .before .before .before .before .before .before .before .loop in
     let e = c .before .before .before .before .current-segment .ensures in
-    let r = has-room (l .words) (s .args .at) _ e (l .inv .5) in
-    (l .inv .0, omega (arith, s .pre .1, l .inv .1), s .pre .2, e, omega (arith, r .0, r .1, c .before .before .opj-uint-min .ensures), l .inv .4)
+    let r = has-room (l .words) (s .args .at) _ e (l .inv .4) in
+    (l .inv .0, omega (arith, s .pre .1, l .inv .1), s .pre .2, e, omega (arith, r .0, r .1, c .before .before .opj-uint-min .ensures))
 
 same-length : tie.Need-same-length Inv-loop μ-loop
 same-length c = c .before .before .before .before .before .before .read-segment .kept .0 ∙ c .before .before .before .before .before .before .before .before .before .before .before .before .before .before .loop .inv .1
@@ -60,7 +59,7 @@ returns c =
     let s = c .before .before .before .before .before .before .before .before .before .before .before .before .before .before .before .before .before .before in
     let l = c .before .before .before .before .before .before .before .before .before .before .before .before .before .before .loop in
     let t = taken-is (l .words) (s .args .at) (l .left) _ _ (c .before .before .before .before .before .before .before .before .before .before .before .current-segment .ensures) (c .before .before .before .before .before .before .before .before .before .opj-uint-min .ensures) in
-    λ reports. segments-stop (s .args .src .now) (s .args .block) (s .args .at) (l .inv .7 .0) (l .left) _ (reading (l .words) reports (l .records) (l .run)) _ (c .before .before .before .before .before .before .before .before .before .before .before .before .before .loop-test .taken) (l .inv .7 .1) t (c .before .before .before .before .before .before .read-segment .ensures reports) (c .if1 .taken) ∙ l .inv .7 .2 reports
+    λ reports. segments-stop (s .args .src .now) (s .args .block) (s .args .at) (l .inv .6 .0) (l .left) _ (reading (l .words) reports (l .records) (l .run)) _ (c .before .before .before .before .before .before .before .before .before .before .before .before .before .loop-test .taken) (l .inv .6 .1) t (c .before .before .before .before .before .before .read-segment .ensures reports) (c .if1 .taken) ∙ l .inv .6 .2 reports
 
 sub-left : tie.Need-sub-left Inv-loop μ-loop
 sub-left c = omega (arith, c .before .before .before .before .before .before .before .before .before .opj-uint-min .ensures)
@@ -68,7 +67,7 @@ sub-left c = omega (arith, c .before .before .before .before .before .before .be
 loop-less : tie.Need-loop-less Inv-loop μ-loop
 loop-less c =
     let l = c .before .before .before .before .before .before .before .before .before .before .before .before .before .before .loop in
-    let r = has-room (l .words) (c .before .before .before .before .before .before .before .before .before .before .before .before .before .before .before .before .before .before .args .at) _ (c .before .before .before .before .before .before .before .before .before .before .before .current-segment .ensures) (l .inv .5) in
+    let r = has-room (l .words) (c .before .before .before .before .before .before .before .before .before .before .before .before .before .before .before .before .before .before .args .at) _ (c .before .before .before .before .before .before .before .before .before .before .before .current-segment .ensures) (l .inv .4) in
     omega (arith, r .0, c .before .before .before .before .before .before .before .before .before .opj-uint-min .ensures, c .before .before .before .before .before .before .before .before .before .before .before .before .before .loop-test .taken)
 
 loop-again : tie.Need-loop-again Inv-loop μ-loop
@@ -78,18 +77,17 @@ loop-again c =
     let g = c .before .before .before .before .before .before .read-segment in
     let e = c .before .before .before .before .before .before .before .before .before .before .before .current-segment .ensures in
     let m = c .before .before .before .before .before .before .before .before .before .opj-uint-min .ensures in
-    let r = has-room (l .words) (s .args .at) _ e (l .inv .5) in
+    let r = has-room (l .words) (s .args .at) _ e (l .inv .4) in
     let a = reading (l .words) [] (l .records) (l .run) in
-    let k = segment-leaves (s .args .src .now) (s .args .block) (s .args .at) _ a _ _ (g .ensures []) e (l .inv .0) (omega (arith, s .pre .1, l .inv .1)) (l .inv .5) (omega (arith, r .0, m)) in
+    let k = segment-leaves (s .args .src .now) (s .args .block) (s .args .at) _ a _ _ (g .ensures []) e (l .inv .0) (omega (arith, s .pre .1, l .inv .1)) (l .inv .4) (omega (arith, r .0, m)) in
     let t = taken-is (l .words) (s .args .at) (l .left) _ _ e m in (
       k .few,
       g .kept .0 ∙ l .inv .1,
       g .kept .1 .0 ∙ l .inv .2,
       omega (arith, l .inv .3),
-      omega (arith, k .bits, l .inv .4),
       k .segment,
       c .if1 .left,
-      (l .inv .7 .0 - 1, omega (arith, r .0, m, l .inv .7 .1, c .before .before .before .before .before .before .before .before .before .before .before .before .before .loop-test .taken), λ reports. segments-turn (s .args .src .now) (s .args .block) (s .args .at) (l .inv .7 .0) (l .left) _ (reading (l .words) reports (l .records) (l .run)) _ (c .before .before .before .before .before .before .before .before .before .before .before .before .before .loop-test .taken) (l .inv .7 .1) t (g .ensures reports) (c .if1 .left) ∙ l .inv .7 .2 reports),
+      (l .inv .6 .0 - 1, omega (arith, r .0, m, l .inv .6 .1, c .before .before .before .before .before .before .before .before .before .before .before .before .before .loop-test .taken), λ reports. segments-turn (s .args .src .now) (s .args .block) (s .args .at) (l .inv .6 .0) (l .left) _ (reading (l .words) reports (l .records) (l .run)) _ (c .before .before .before .before .before .before .before .before .before .before .before .before .before .loop-test .taken) (l .inv .6 .1) t (g .ensures reports) (c .if1 .left) ∙ l .inv .6 .2 reports),
     )
 
 same-length-3 : tie.Need-same-length-3 Inv-loop μ-loop
@@ -102,7 +100,7 @@ returns-2 : tie.Need-returns-2 Inv-loop μ-loop
 returns-2 c =
     let s = c .before .before .before .before .before in
     let l = c .before .loop in
-    λ reports. sym (no-segments (s .args .src .now) (s .args .block) (blockAt (s .args .at)) (l .inv .7 .0) (l .left) (reading (l .words) reports (l .records) (l .run)) (omega (arith, c .loop-test .left))) ∙ l .inv .7 .2 reports
+    λ reports. sym (no-segments (s .args .src .now) (s .args .block) (blockAt (s .args .at)) (l .inv .6 .0) (l .left) (reading (l .words) reports (l .records) (l .run)) (omega (arith, c .loop-test .left))) ∙ l .inv .6 .2 reports
 
 pub read-segments-spec : {M : Type 1} → statement M
 read-segments-spec =

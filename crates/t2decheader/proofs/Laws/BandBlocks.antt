@@ -1,26 +1,23 @@
 -- Where the blocks of bands stand: each behind its trees' paths, and all within the bands' words.
 use mathlib.Core.Path.{sym, subst}
-use mathlib.Core.List.{List, [], _∷_, _++_, reverse}
+use mathlib.Core.List.{List, [], _∷_, reverse}
 use Prim.Native.Nat.{ℕ, zero, suc, _+_, _*_, _≤_, _<_}
 use native.Mathlib.Omega.{arith}
 use Rattle.t800.specs.declared.Band.{Band}
 use Rattle.t800.specs.TagTree.{nodes, pathToRoot}
-use Rattle.t800.specs.State.{Block, blockOf, blocksIn, bandNodes, bandLength, blocksFrom, blocksAt, endOf}
-use Rattle.t800.proofs.Laws.Paths.{AllBelow, leaf-path}
+use Rattle.t800.specs.State.{blockOf, blocksIn, bandNodes, bandLength, blocksFrom, blocksAt, endOf}
+use Rattle.t800.proofs.Laws.Paths.{leaf-path}
 use Rattle.t800.proofs.Laws.Layout.{band-length, end-after}
 use Rattle.t2block.proofs.Laws.OneBlock.{Before, BlockBefore, onto-before}
 use Rattle.t2block.proofs.Laws.Rows.{AllBlocks}
 use Rattle.t2dec.proofs.Laws.Follows.{Apart}
-
-below-before : (q base m : ℕ) (ns : List ℕ) → base + 3 * m ≤ q → AllBelow m ns → Before q base ns
-below-before q base m [] h a = tt
-below-before q base m (n ∷ ns) h a = (omega (arith, a .0), below-before q base m ns h (a .1))
+use Rattle.t2enc.proofs.Laws.AllBands.{all-append, nodes-before}
 
 -- a tree's path lies before place q if the tree does
 tree-before : (q base w h leaf : ℕ) → leaf < w * h → base + 3 * nodes w h ≤ q → Before q base (reverse (pathToRoot w h leaf))
 tree-before q base w h leaf l f =
     let p = leaf-path w h leaf l in
-    onto-before q base (pathToRoot w h leaf) [] (subst (Before q base) (sym (p .is)) (below-before q base (nodes w h) (leaf ∷ p .above) f (p .below))) tt
+    onto-before q base (pathToRoot w h leaf) [] (subst (Before q base) (sym (p .is)) (nodes-before q base (nodes w h) (leaf ∷ p .above) f (p .below))) tt
 
 module _ (start : ℕ) (b : Band) (i : ℕ) (h : i < blocksIn b) where
   block-before : (q : ℕ) → start + 6 * bandNodes b + 4 * i + 4 ≤ q → BlockBefore q (blockOf start b i)
@@ -40,10 +37,6 @@ from-apart : (size start : ℕ) (b : Band) (n i : ℕ) → i + n ≤ blocksIn b 
 unfolding blocksFrom
 from-apart size start b zero i h l = tt
 from-apart size start b (suc n) i h l = (block-apart start b i (omega arith) size l, from-apart size start b n (i + 1) (omega arith) l)
-
-all-append : (P : Block → Type 0) (ks js : List Block) → AllBlocks P ks → AllBlocks P js → AllBlocks P (ks ++ js)
-all-append P [] js h g = g
-all-append P (k ∷ ks) js h g = (h .0, all-append P ks js (h .1) g)
 
 pub bands-before : (q at : ℕ) (bs : List Band) → endOf at bs ≤ q → AllBlocks (BlockBefore q) (blocksAt at bs)
 unfolding blocksAt endOf

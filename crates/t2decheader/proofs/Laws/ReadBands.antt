@@ -10,10 +10,10 @@ use Rattle.t800.specs.declared.Band.{Band}
 use Rattle.t800.specs.State.{Block, layer, blocksIn, bandNodes, bandLength, blocksAt}
 use Rattle.t800.specs.Ranges.{bandInRange, bandsInRange}
 use Rattle.t800.proofs.Laws.Layout.{band-length}
+use Rattle.tcd.proofs.Laws.Bands.{length-from}
 use Rattle.tcdstate.proofs.Laws.RangeParts.{and-right}
 use Rattle.tcdstate.proofs.Laws.ValidStates.{block-known, block-bounds}
 use Rattle.t2enc.specs.Bands.{bandBlocks}
-use Rattle.t2enc.proofs.Laws.BandRows.{count-from}
 use Rattle.t2dec.specs.Reading.{Reading, nextBlocks}
 use Rattle.t2dec.proofs.Laws.Kept.{Keeps, blocks-keep}
 use Rattle.t2dec.proofs.Laws.Rows.{block-fits, keeps-later, blocks-then, blocks-refused}
@@ -46,7 +46,7 @@ module _ (src : List ℕ) (t start block : ℕ) (l : List Band) (b : Band) (bs :
 
   pub bands-then : c .refusal ≡ 0 → nextBlocks src t (block + blocksIn b) rest c ≡ nextBlocks src t block (blocksAt start l) a
   bands-then z =
-      ap (λ (n : ℕ). nextBlocks src t (block + n) rest c) (sym (count-from start b (blocksIn b) 0))
+      ap (λ (n : ℕ). nextBlocks src t (block + n) rest c) (sym (length-from start b (blocksIn b) 0))
       ∙ blocks-then src t rest c block (bandBlocks start b) a is z
       ∙ two-parts
 

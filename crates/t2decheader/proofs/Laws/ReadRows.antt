@@ -9,13 +9,13 @@ use Rattle.t800.specs.declared.Band.{Band}
 use Rattle.t800.specs.TagTree.{levels}
 use Rattle.t800.specs.State.{Block, blockOf, bandNodes, blocksFrom}
 use Rattle.tcd.specs.Geometry.{padded}
-use Rattle.tcd.proofs.Laws.Bands.{blocks-up-to-4096}
+use Rattle.tcd.proofs.Laws.Bands.{blocks-up-to-4096, length-from}
 use Rattle.tgt.specs.Path.{rowOver}
 use Rattle.tgt.proofs.Laws.Path.{leaf-word}
 use Rattle.t2block.specs.declared.Place.{Place}
 use Rattle.t2block.specs.Runs.{placeAt}
 use Rattle.t2enc.specs.Bands.{gridOf, rowPlace, BandIn}
-use Rattle.t2enc.proofs.Laws.BandRows.{count-from, has-levels, row-counts, path-as, split-row}
+use Rattle.t2enc.proofs.Laws.BandRows.{has-levels, row-counts, path-as, split-row}
 use Rattle.t2dec.specs.Reading.{Reading, nextBlocks, blockIn, blocksOfRow, BlockFits, BlocksFit}
 use Rattle.t2dec.proofs.Laws.Kept.{Keeps, blocks-keep}
 use Rattle.t2dec.proofs.Laws.Rows.{block-fits, keeps-later, blocks-then, blocks-refused}
@@ -68,7 +68,7 @@ module _ (size start : ℕ) (b : Band) (h : BandIn size start b) (y : ℕ) (l : 
 
     pub rows-then : c .refusal ≡ 0 → nextBlocks src t (block + (y + 1) * b .across) (left (y + 1)) c ≡ here (left y)
     rows-then z =
-        let e : block + (y + 1) * b .across ≡ block + y * b .across + length first = omega (arith, count-from start b (b .across) (y * b .across + 0)) in
+        let e : block + (y + 1) * b .across ≡ block + y * b .across + length first = omega (arith, length-from start b (b .across) (y * b .across + 0)) in
         ap (λ (n : ℕ). nextBlocks src t n (left (y + 1)) c) e
         ∙ blocks-then src t (left (y + 1)) c (block + y * b .across) first a is-first z
         ∙ sym (ap here (split-row size start b h y l))

@@ -6,24 +6,26 @@ use mathlib.Core.List.{List, [], _∷_, _++_}
 use Prim.Native.Nat.{ℕ, zero, suc, _+_, _*_, _≤_, _<_}
 use native.Mathlib.Omega.{arith}
 use lib.Dec.{ltb}
-use lib.ListN.{length, getD, set, drop, length-set, length-append}
+use lib.ListN.{length, getD, drop, length-append}
 use lib.Seq.{drop-set-lt}
 use Rattle.t800.specs.declared.Band.{Band}
 use Rattle.t800.specs.declared.Bio.{Bio}
 use Rattle.t800.specs.TagTree.{nodes, pathToRoot, setValue}
-use Rattle.t800.specs.State.{Block, blockOf, blocksIn, bandNodes, bandLength, blocksFrom, blocksAt, blocks, endOf}
+use Rattle.t800.specs.State.{Block, blocksIn, bandNodes, bandLength, blocksFrom, blocksAt, blocks, endOf}
 use Rattle.t800.specs.WriteHeader.{isNew, setNewBlocks, codeBlocks}
 use Rattle.t800.proofs.Laws.Layout.{band-length, end-after}
 use Rattle.t800.proofs.Laws.Paths.{AllBelow, leaf-path}
+use Rattle.t800.proofs.Laws.SetLeaf.{length-setValue}
 use Rattle.t800.proofs.Laws.Tests.{either}
 use Rattle.bio.specs.Writing.{output, FreeBitsClear}
+use Rattle.tcd.proofs.Laws.Bands.{length-from}
 use Rattle.tgt.specs.Coding.{putCoded}
 use Rattle.t2block.specs.Blocks.{coded}
 use Rattle.t2block.specs.Runs.{Running, codeNext, codeAll, AllFit, setNext, setAll}
 use Rattle.t2block.proofs.Laws.OneBlock.{Before, reversed-before, BlockBefore}
 use Rattle.t2block.proofs.Laws.Rows.{AllBlocks, From, all-still-fit}
 use Rattle.t2enc.specs.Bands.{bandBlocks, newSet, codeBand, codeBands}
-use Rattle.t2enc.proofs.Laws.BandRows.{code-append, set-append, all-clear, still-fit-behind, first-fit, blocks-from, count-from}
+use Rattle.t2enc.proofs.Laws.BandRows.{code-append, set-append, all-clear, still-fit-behind, first-fit, blocks-from}
 use Rattle.t2enc.proofs.Laws.TwoBands.{BlockBehind, next-length, code-then-set}
 use Rattle.t2enc.proofs.Laws.AllBlocks.{set-is-blocks, code-is-blocks}
 
@@ -39,12 +41,6 @@ value-keeps q base (n ∷ ns) v ws h =
     either (λ (vs : List ℕ). drop q vs ≡ drop q ws) (ltb v (getD ws (base + 3 * n) 0)) _ _
     (value-keeps q base ns v _ (h .1) ∙ drop-set-lt q ws (base + 3 * n) v (omega (arith, h .0))) refl
 
-value-length : (base : ℕ) (ns : List ℕ) (v : ℕ) (ws : List ℕ) → length (setValue base ns v ws) ≡ length ws
-unfolding setValue
-value-length base [] v ws = refl
-value-length base (n ∷ ns) v ws =
-    either (λ (vs : List ℕ). length vs ≡ length ws) (ltb v (getD ws (base + 3 * n) 0)) _ _ (value-length base ns v _ ∙ length-set ws (base + 3 * n) v) refl
-
 set-keeps : (q t : ℕ) (cs : List ℕ) (ks : List Block) (i : ℕ) (ws : List ℕ) → AllBlocks (InclBefore q) ks → drop q (setAll t cs ks i ws) ≡ drop q ws
 unfolding setAll setNext
 set-keeps q t cs [] i ws b = refl
@@ -56,7 +52,7 @@ set-length : (t : ℕ) (cs : List ℕ) (ks : List Block) (i : ℕ) (ws : List �
 unfolding setAll setNext
 set-length t cs [] i ws = refl
 set-length t cs (k ∷ ks) i ws =
-    set-length t cs ks (i + 1) _ ∙ either (λ (vs : List ℕ). length vs ≡ length ws) (isNew ws k && ltb 0 (getD cs i 0)) _ _ (value-length (k .inclTree) (k .path) t ws) refl
+    set-length t cs ks (i + 1) _ ∙ either (λ (vs : List ℕ). length vs ≡ length ws) (isNew ws k && ltb 0 (getD cs i 0)) _ _ (length-setValue (k .inclTree) (k .path) t ws) refl
 
 -- ---- coding leaves the length, and moves on by one block each
 
@@ -72,11 +68,11 @@ coded-blocks t cs ls ms (k ∷ ks) s = let r = coded-blocks t cs ls ms ks (codeN
 
 -- ---- where a band's blocks stand
 
-all-append : (P : Block → Type 0) (ks js : List Block) → AllBlocks P ks → AllBlocks P js → AllBlocks P (ks ++ js)
+pub all-append : (P : Block → Type 0) (ks js : List Block) → AllBlocks P ks → AllBlocks P js → AllBlocks P (ks ++ js)
 all-append P [] js a b = b
 all-append P (k ∷ ks) js a b = (a .0, all-append P ks js (a .1) b)
 
-nodes-before : (q base m : ℕ) (ns : List ℕ) → base + 3 * m ≤ q → AllBelow m ns → Before q base ns
+pub nodes-before : (q base m : ℕ) (ns : List ℕ) → base + 3 * m ≤ q → AllBelow m ns → Before q base ns
 nodes-before q base m [] h a = tt
 nodes-before q base m (n ∷ ns) h a = (omega (arith, a .0), nodes-before q base m ns h (a .1))
 
@@ -157,7 +153,7 @@ module _ (at : ℕ) (b : Band) (t : ℕ) (cs : List ℕ) where
 
 pub blocks-of-first : (at : ℕ) (b : Band) (bs : List Band) → length (blocksAt at (b ∷ bs)) ≡ blocksIn b + length (blocksAt (at + bandLength b) bs)
 unfolding blocksAt
-blocks-of-first at b bs = length-append (bandBlocks at b) (blocksAt (at + bandLength b) bs) ∙ ap (λ (n : ℕ). n + length (blocksAt (at + bandLength b) bs)) (count-from at b (blocksIn b) 0)
+blocks-of-first at b bs = length-append (bandBlocks at b) (blocksAt (at + bandLength b) bs) ∙ ap (λ (n : ℕ). n + length (blocksAt (at + bandLength b) bs)) (length-from at b (blocksIn b) 0)
 
 pub band-clear : (t : ℕ) (cs ls ms : List ℕ) (at : ℕ) (b : Band) (s u : Running) → u ≡ codeBand t cs ls ms at b s → FreeBitsClear (s .output .bio) → FreeBitsClear (u .output .bio)
 unfolding codeBand
@@ -166,7 +162,7 @@ band-clear t cs ls ms at b s u e h = subst (λ (v : Running). FreeBitsClear (v .
 pub band-blocks : (t : ℕ) (cs ls ms : List ℕ) (at : ℕ) (b : Band) (s u : Running) → u ≡ codeBand t cs ls ms at b s → u .block ≡ s .block + blocksIn b
 unfolding codeBand
 band-blocks t cs ls ms at b s u e =
-    ap (λ (v : Running). v .block) e ∙ coded-blocks t cs ls ms (bandBlocks at b) (newSet t cs (bandBlocks at b) (s .block) s) ∙ ap (λ (n : ℕ). s .block + n) (count-from at b (blocksIn b) 0)
+    ap (λ (v : Running). v .block) e ∙ coded-blocks t cs ls ms (bandBlocks at b) (newSet t cs (bandBlocks at b) (s .block) s) ∙ ap (λ (n : ℕ). s .block + n) (length-from at b (blocksIn b) 0)
 
 pub bands-turn : (t : ℕ) (cs ls ms : List ℕ) (at : ℕ) (b : Band) (l bs : List Band) (next : ℕ) (s u : Running) → l ≡ b ∷ bs → next ≡ at + bandLength b → u ≡ codeBand t cs ls ms at b s → codeBands t cs ls ms next bs u ≡ codeBands t cs ls ms at l s
 unfolding codeBands

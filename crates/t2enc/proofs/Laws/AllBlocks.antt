@@ -1,11 +1,10 @@
 -- Coding and setting with places that run on are t800's coding and setting of what is left of the lists.
 use mathlib.Core.Path.{_≡_, refl, sym, ap, _∙_}
 use mathlib.Core.List.{List, [], _∷_}
-use Prim.Native.Nat.{ℕ, _+_, _≤_, _<_}
-use native.Mathlib.Numerals.{add-one}
+use Prim.Native.Nat.{ℕ, _+_, _≤_}
 use native.Mathlib.Omega.{arith}
 use lib.ListN.{length, getD, take, drop}
-use lib.Seq.{drop-cons, drop-drop}
+use lib.Seq.{drop-drop}
 use Rattle.t800.specs.Segments.{segmentsOf}
 use Rattle.t800.specs.State.{Block}
 use Rattle.t800.specs.TagTree.{Coded}
@@ -13,16 +12,14 @@ use Rattle.t800.specs.WriteHeader.{setNewBlocks, codeBlock, codeBlocks}
 use Rattle.bio.specs.Writing.{Output, putBits}
 use Rattle.bio.proofs.Laws.FreeBits.{putBits-append}
 use Rattle.tgt.specs.Coding.{putCoded}
+use Rattle.t2segment.proofs.Laws.Segments.{next-entry}
 use Rattle.t2block.specs.Blocks.{coded}
 use Rattle.t2block.specs.Runs.{Running, codeNext, codeAll, setNext, setAll}
-
-from-count : (cs : List ℕ) (i : ℕ) → i < length cs → drop i cs ≡ getD cs i 0 ∷ drop (i + 1) cs
-from-count cs i h = rw (add-one i) (drop-cons cs i 0 h)
 
 pub set-is-blocks : (t : ℕ) (cs : List ℕ) (ks : List Block) (i : ℕ) (ws : List ℕ) → i + length ks ≤ length cs → setAll t cs ks i ws ≡ setNewBlocks t ks (drop i cs) ws
 unfolding setAll setNext setNewBlocks
 set-is-blocks t cs [] i ws h = refl
-set-is-blocks t cs (k ∷ ks) i ws h = set-is-blocks t cs ks (i + 1) _ (omega arith) ∙ sym (ap (λ (ds : List ℕ). setNewBlocks t (k ∷ ks) ds ws) (from-count cs i (omega arith)))
+set-is-blocks t cs (k ∷ ks) i ws h = set-is-blocks t cs ks (i + 1) _ (omega arith) ∙ sym (ap (λ (ds : List ℕ). setNewBlocks t (k ∷ ks) ds ws) (next-entry cs i (omega arith)))
 
 -- one block, then those behind it
 blocks-turn : (t : ℕ) (k : Block) (ks : List Block) (c : ℕ) (cs ls ms ws : List ℕ) (o : Output)
@@ -45,4 +42,4 @@ code-is-blocks t cs ls ms (k ∷ ks) s h =
     code-is-blocks t cs ls ms ks u (omega arith)
     ∙ (λ i. putCoded (u .output) (codeBlocks t ks (drop (s .block + 1) cs) (p i) (q i) (u .words)))
     ∙ blocks-turn t k ks c (drop (s .block + 1) cs) (drop (s .pass) ls) (drop (s .pass) ms) (s .words) (s .output)
-    ∙ sym (ap (λ (ds : List ℕ). putCoded (s .output) (codeBlocks t (k ∷ ks) ds (drop (s .pass) ls) (drop (s .pass) ms) (s .words))) (from-count cs (s .block) (omega arith)))
+    ∙ sym (ap (λ (ds : List ℕ). putCoded (s .output) (codeBlocks t (k ∷ ks) ds (drop (s .pass) ls) (drop (s .pass) ms) (s .words))) (next-entry cs (s .block) (omega arith)))

@@ -2,7 +2,7 @@
 use mathlib.Core.Path.{_≡_, refl, sym, ap, _∙_, subst}
 use mathlib.Core.List.{List, [], _∷_, _++_}
 use Prim.Native.Nat.{ℕ, zero, suc, _+_, _-_, _*_, _≤_, _<_}
-use native.Mathlib.Nat.{mul-le-mul, le-refl, zero-add, suc-add}
+use native.Mathlib.Nat.{mul-le-mul, le-refl, zero-add}
 use native.Mathlib.Omega.{arith}
 use lib.ListN.{length, getD, drop}
 use Rattle.t800.specs.declared.Band.{Band}
@@ -11,6 +11,7 @@ use Rattle.t800.specs.State.{Block, blockOf, blocksIn, bandNodes, bandLength, b
 use Rattle.t800.specs.WriteHeader.{isNew, lengthBitsBefore, codeInclusion, codeZeroPlanes, codePasses, codeBlock}
 use Rattle.bio.specs.Writing.{FreeBitsClear}
 use Rattle.tcd.specs.Geometry.{padded}
+use Rattle.tcd.proofs.Laws.Bands.{length-from, blocks-split}
 use Rattle.tgt.specs.Path.{rowOver, pathOver, PathIn, SmallLevels}
 use Rattle.tgt.proofs.Laws.Path as tgt
 use Rattle.t2block.specs.declared.Place.{Place}
@@ -75,22 +76,10 @@ set-core t c k ws = refl
 
 -- ---- row y of a band
 
-row-blocks : (at : ℕ) (b : Band) (m n i : ℕ) → blocksFrom at b (m + n) i ≡ blocksFrom at b m i ++ blocksFrom at b n (i + m)
-unfolding blocksFrom
-row-blocks at b zero n i = let e : i ≡ i + 0 = omega arith in (λ j. blocksFrom at b (zero-add n j) (e j))
-row-blocks at b (suc m) n i =
-    let e : i + 1 + m ≡ i + suc m = omega arith in
-    ap (λ (z : ℕ). blocksFrom at b z i) (suc-add m n) ∙ ap (λ (ks : List Block). blockOf at b i ∷ ks) (row-blocks at b m n (i + 1) ∙ ap (λ (z : ℕ). blocksFrom at b m (i + 1) ++ blocksFrom at b n z) e)
-
 pub blocks-from : (q at : ℕ) (b : Band) (n i : ℕ) → q ≤ at + 6 * bandNodes b + 4 * i → AllBlocks (From q) (blocksFrom at b n i)
 unfolding blocksFrom
 blocks-from q at b zero i h = tt
 blocks-from q at b (suc n) i h = (h, blocks-from q at b n (i + 1) (omega arith))
-
-pub count-from : (at : ℕ) (b : Band) (n i : ℕ) → length (blocksFrom at b n i) ≡ n
-unfolding blocksFrom
-count-from at b zero i = refl
-count-from at b (suc n) i = ap suc (count-from at b n (i + 1))
 
 module _ (size start : ℕ) (b : Band) (h : BandIn size start b) where
   pub has-levels : tgt.TreeLevels (b .across) (b .down) (padded (levels (b .across) (b .down))) (length (levels (b .across) (b .down)))
@@ -185,7 +174,7 @@ module _ (size start : ℕ) (b : Band) (h : BandIn size start b) where
         let f : y * b .across + b .across ≡ (y + 1) * b .across = omega arith in
         let g : y * b .across ≡ y * b .across + 0 = omega arith in
         ap (λ (z : ℕ). blocksFrom start b z (y * b .across)) e
-        ∙ row-blocks start b (b .across) (b .across * (b .down - (y + 1))) (y * b .across)
+        ∙ blocks-split start b (b .across) (b .across * (b .down - (y + 1))) (y * b .across)
         ∙ (λ i. blocksFrom start b (b .across) (g i) ++ blocksFrom start b (b .across * (b .down - (y + 1))) (f i))
 
     module _ (t : ℕ) (cs ls ms : List ℕ) (s : Running) (f : AllFit cs ls ms (s .words) (left y) (s .block) (s .pass)) where
@@ -216,7 +205,7 @@ module _ (size start : ℕ) (b : Band) (h : BandIn size start b) where
         → setAll t cs (left (y + 1)) (i + (y + 1) * b .across) vs ≡ setAll t cs (left y) (i + y * b .across) ws
     left-set t cs i ws vs e =
         let first : List Block = blocksFrom start b (b .across) (y * b .across + 0) in
-        let c : i + (y + 1) * b .across ≡ i + y * b .across + length first = omega (arith, count-from start b (b .across) (y * b .across + 0)) in
+        let c : i + (y + 1) * b .across ≡ i + y * b .across + length first = omega (arith, length-from start b (b .across) (y * b .across + 0)) in
         (λ j. setAll t cs (left (y + 1)) (c j) ((e ∙ sets-row t cs (b .across) 0 (i + y * b .across) ws (omega arith)) j))
         ∙ sym (ap (λ (ks : List Block). setAll t cs ks (i + y * b .across) ws) split-row ∙ set-append t cs first (left (y + 1)) (i + y * b .across) ws)
 

@@ -15,8 +15,9 @@ use Rattle.t800.specs.WriteHeader.{Contribution, isNew, lengthBitsBefore, segme
 use Rattle.t800.proofs.Laws.Layout.{Layout, AllPlaced, layoutOf, blocks-placed}
 use Rattle.t800.proofs.Laws.Tests.{either}
 use Rattle.tcdstate.proofs.Laws.ValidStates.{valid-state, block-known, block-bounds}
-use Rattle.t2check.specs.Refusals.{blockTooWide}
-use Rattle.t2check.proofs.Laws.Lists.{next-entry, sum-turn}
+use Rattle.t2segment.specs.Segments.{blockTooWide}
+use Rattle.t2segment.proofs.Laws.Segments.{next-entry}
+use Rattle.t2check.proofs.Laws.Lists.{sum-turn}
 use Rattle.t2check.proofs.Laws.NotRefused.{NotRefused, count-up-to-164, none-long-first, none-wide-first}
 use Rattle.t2block.specs.Blocks.{PassesFit}
 use Rattle.t2block.specs.Runs.{AllFit}

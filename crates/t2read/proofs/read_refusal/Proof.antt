@@ -10,7 +10,7 @@ use Rattle.t800.specs.State.{reader, blocks}
 use Rattle.tcd.specs.Geometry.{AllUpTo64}
 use Rattle.tcdstate.proofs.Laws.RangeParts.{first-bands}
 use Rattle.tcdstate.proofs.Laws.ValidStates.{valid-state}
-use Rattle.t2check.proofs.Laws.RefusalParts.{blocks-up-to-12288}
+use Rattle.tcd.proofs.Laws.Bands.{blocks-up-to-12288}
 use Rattle.t2decheader.proofs.Laws.HeaderEnd.{thirteen-words}
 use Rattle.t2read.proofs.Laws.Results.{refusal-5, refusal-6, refusal-3, no-refusal}
 use borrow.Author.Needs.{needs}

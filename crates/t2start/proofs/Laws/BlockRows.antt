@@ -13,7 +13,7 @@ use Rattle.t800.specs.TagTree.{levels, nodes, pathToRoot}
 use Rattle.t800.specs.State.{Block, blockOf, blocksIn, bandNodes, bandLength, blocksFrom, endOf}
 use Rattle.t800.proofs.Laws.Layout.{band-length, end-after}
 use Rattle.tcd.specs.Geometry.{noBand, padded}
-use Rattle.tcd.proofs.Laws.Bands.{end-turn}
+use Rattle.tcd.proofs.Laws.Bands.{end-turn, blocks-split}
 use Rattle.tcd.proofs.Laws.TreeLevels.{padded-front}
 use Rattle.tgt.specs.Path.{rowOver, pathOver, PathIn}
 use Rattle.tgt.proofs.Laws.Path.{TreeLevels, climb, path-climbs, path-in}
@@ -24,23 +24,6 @@ pub band-inside : (bs : List Band) (n i at size : ℕ) → n ≤ length bs → i
 band-inside bs n i at size h k e = le-trans (end-after (at + bandLength (getD bs i noBand)) (drop (i + 1) (take n bs))) (le-of-eq (end-turn bs n i at h k ∙ e))
 
 module _ (at : ℕ) (b : Band) where
-  pub blocks-many : (n i : ℕ) → length (blocksFrom at b n i) ≡ n
-  unfolding blocksFrom
-  blocks-many zero i = refl
-  blocks-many (suc n) i = let r = blocks-many n (i + 1) in omega arith
-
-  -- m blocks, and n behind them
-  pub blocks-split : (m n i : ℕ) → blocksFrom at b (m + n) i ≡ blocksFrom at b m i ++ blocksFrom at b n (i + m)
-  unfolding blocksFrom
-  blocks-split zero n i =
-      let e : 0 + n ≡ n = omega arith in
-      let q : i + 0 ≡ i = omega arith in
-      rw (e, q)
-  blocks-split (suc m) n i =
-      let e : suc m + n ≡ suc (m + n) = omega arith in
-      let q : i + 1 + m ≡ i + suc m = omega arith in
-      rw e (ap (λ (ks : List Block). blockOf at b i ∷ ks) (blocks-split m n (i + 1) ∙ ap (λ (k : ℕ). blocksFrom at b m (i + 1) ++ blocksFrom at b n k) q))
-
   -- block j of n from block i on
   pub block-at : (n i j : ℕ) (d : Block) → j < n → getD (blocksFrom at b n i) j d ≡ blockOf at b (i + j)
   unfolding blocksFrom
@@ -65,7 +48,7 @@ module _ (at : ℕ) (b : Band) where
       let n : w * b .down - y * w ≡ w + (w * b .down - (y + 1) * w) = omega (arith, l, mul-comm w (b .down)) in
       let q : y * w + w ≡ (y + 1) * w = omega arith in
       ap (λ (k : ℕ). blocksFrom at b k (y * w)) n
-      ∙ blocks-split w (w * b .down - (y + 1) * w) (y * w)
+      ∙ blocks-split at b w (w * b .down - (y + 1) * w) (y * w)
       ∙ ap (λ (k : ℕ). blocksFrom at b w (y * w) ++ blocksFrom at b (w * b .down - (y + 1) * w) k) q
 
   -- the first row, and past the last

@@ -3,13 +3,13 @@ use mathlib.Core.Path.{_≡_, refl, sym, ap, ap₂, _∙_}
 use mathlib.Core.List.{List, [], _∷_, _++_}
 use Prim.Native.Nat.{ℕ, zero, suc, _+_, _-_, _*_, _≤_, _<_}
 use native.Mathlib.Omega.{arith}
-use lib.ListN.{length, getD, take, drop, replicate, length-append, length-replicate}
+use lib.ListN.{length, getD, take, drop, replicate, length-append}
 use lib.Seq.{sets}
 use Rattle.t800.specs.declared.Band.{Band}
 use Rattle.t800.specs.Base.{wiped}
 use Rattle.t800.specs.State.{notYetIncluded, notYetPlanes, blocksIn, bandNodes, stateLength}
 use Rattle.t800.specs.Start.{freshNodes, freshBlocks, freshBands, bandWords, freshState}
-use Rattle.t800.proofs.Laws.FreshState.{fresh-length}
+use Rattle.t800.proofs.Laws.FreshState.{length-nodes, length-blocks, fresh-length}
 use Rattle.tcd.specs.Geometry.{noBand}
 use Rattle.t2start.proofs.Laws.Runs.{sets-behind, sets-whole, part-length, part-set}
 
@@ -37,18 +37,10 @@ put-turn ws bs i at b h e =
 
 -- ---- a band's own
 
-length-nodes : (v n : ℕ) → length (freshNodes v n) ≡ 3 * n
-unfolding freshNodes
-length-nodes v zero = refl
-length-nodes v (suc n) = let i = length-nodes v n in omega arith
-
 blocks-are-zeros : (n : ℕ) → freshBlocks n ≡ replicate (4 * n) 0
 unfolding freshBlocks
 blocks-are-zeros zero = refl
 blocks-are-zeros (suc n) = let e : 4 * suc n ≡ suc (suc (suc (suc (4 * n)))) = omega arith in rw e (ap (λ (z : List ℕ). 0 ∷ 0 ∷ 0 ∷ 0 ∷ z) (blocks-are-zeros n))
-
-length-blocks : (n : ℕ) → length (freshBlocks n) ≡ 4 * n
-length-blocks n = ap length (blocks-are-zeros n) ∙ length-replicate (4 * n) 0
 
 -- blocks that are wiped where they stand
 pub blocks-wiped : (l part : List ℕ) (from blocks : ℕ) → from + 4 * blocks ≤ length l → part ≡ wiped (take (from + 4 * blocks - from) (drop from l))

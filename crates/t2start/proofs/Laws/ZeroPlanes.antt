@@ -15,11 +15,12 @@ use Rattle.t800.specs.TagTree.{setValue}
 use Rattle.t800.specs.State.{Block, blockOf, blocksIn, bandNodes, bandLength, blocksFrom, blocksAt}
 use Rattle.t800.specs.Start.{setZeroPlanes}
 use Rattle.t800.proofs.Laws.Tests.{or-left, or-right}
+use Rattle.tcd.proofs.Laws.Bands.{length-from}
 use Rattle.tcdstate.proofs.Laws.BlockPlanes.{deepFrom}
 use Rattle.tgt.specs.Path.{rowOver, pathOver}
 use Rattle.tgt.proofs.Laws.Path.{TreeLevels}
 use Rattle.t2start.specs.Parts.{setRow}
-use Rattle.t2start.proofs.Laws.BlockRows.{blocks-many, rows-turn, path-in-row}
+use Rattle.t2start.proofs.Laws.BlockRows.{rows-turn, path-in-row}
 
 -- ---- a list that no entry of which is over
 
@@ -90,7 +91,7 @@ pub band-turn : (l : List Band) (b : Band) (bs : List Band) (at : ℕ) (ps ws vs
     → setZeroPlanes (blocksAt (at + bandLength b) bs) (drop to ps) vs ≡ setZeroPlanes (blocksAt at l) (drop from ps) ws
 unfolding blocksAt
 band-turn l b bs at ps ws vs from to e q p =
-    part-turn (blocksFrom at b (blocksIn b) 0) (blocksAt (at + bandLength b) bs) ps ws vs from to (q ∙ ap (λ (k : ℕ). from + k) (sym (blocks-many at b (blocksIn b) 0))) p
+    part-turn (blocksFrom at b (blocksIn b) 0) (blocksAt (at + bandLength b) bs) ps ws vs from to (q ∙ ap (λ (k : ℕ). from + k) (sym (length-from at b (blocksIn b) 0))) p
     ∙ ap (λ (k : List Band). setZeroPlanes (blocksAt at k) (drop from ps) ws) (sym e)
 
 -- ---- a row
@@ -124,7 +125,7 @@ module _ (at : ℕ) (b : Band) (ls : List Level) (depth : ℕ) (t : TreeLevels (
   row-turn ps part ws vs from to f e p n q =
       let z : y * b .across + 0 ≡ y * b .across = omega arith in
       part-turn (blocksFrom at b (b .across) (y * b .across)) (blocksFrom at b (blocksIn b - (y + 1) * b .across) ((y + 1) * b .across)) ps ws vs from to
-      (e ∙ ap (λ (k : ℕ). from + k) (sym (blocks-many at b (b .across) (y * b .across))))
+      (e ∙ ap (λ (k : ℕ). from + k) (sym (length-from at b (b .across) (y * b .across))))
       (q ∙ row-is 0 part ws (omega arith) ∙ ap (λ (k : ℕ). setZeroPlanes (blocksFrom at b (length part) k) part ws) z
       ∙ ap (λ (k : ℕ). setZeroPlanes (blocksFrom at b k (y * b .across)) part ws) n ∙ ap (λ (l : List ℕ). setZeroPlanes (blocksFrom at b (b .across) (y * b .across)) l ws) p)
       ∙ ap (λ (ks : List Block). setZeroPlanes ks (drop from ps) ws) (sym (rows-turn at b y in-column))

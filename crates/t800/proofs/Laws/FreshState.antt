@@ -17,12 +17,12 @@ use Rattle.t800.proofs.Laws.FirstWords.{FirstWords}
 
 -- ---- lengths
 
-length-nodes : (v n : ℕ) → length (freshNodes v n) ≡ 3 * n
+pub length-nodes : (v n : ℕ) → length (freshNodes v n) ≡ 3 * n
 unfolding freshNodes
 length-nodes v zero = refl
 length-nodes v (suc n) = let i = length-nodes v n in omega arith
 
-length-blocks : (n : ℕ) → length (freshBlocks n) ≡ 4 * n
+pub length-blocks : (n : ℕ) → length (freshBlocks n) ≡ 4 * n
 unfolding freshBlocks
 length-blocks zero = refl
 length-blocks (suc n) = let i = length-blocks n in omega arith

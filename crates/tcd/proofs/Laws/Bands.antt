@@ -1,8 +1,8 @@
 -- The bands of a precinct one after another: sides in range, words and blocks.
 use mathlib.Core.Path.{_≡_, refl, sym, ap, ap₂, _∙_, subst}
 use mathlib.Core.Bool.{Bool, false, _||_}
-use mathlib.Core.List.{List, [], _∷_, map}
-use Prim.Native.Nat.{ℕ, zero, suc, _+_, _≤_, _<_}
+use mathlib.Core.List.{List, [], _∷_, _++_, map}
+use Prim.Native.Nat.{ℕ, zero, suc, _+_, _*_, _≤_, _<_}
 use native.Mathlib.Nat.{le-refl}
 use native.Mathlib.Numerals.{add-one}
 use native.Mathlib.Omega.{arith}
@@ -14,7 +14,7 @@ use Rattle.t800.specs.declared.Band.{Band}
 use Rattle.t800.specs.declared.Level.{Level}
 use Rattle.t800.specs.Base.{sum, any}
 use Rattle.t800.specs.TagTree.{levels}
-use Rattle.t800.specs.State.{blocksIn, bandNodes, bandLength, endOf, blocksFrom, blocksAt, blocks}
+use Rattle.t800.specs.State.{Block, blockOf, blocksIn, bandNodes, bandLength, endOf, blocksFrom, blocksAt, blocks}
 use Rattle.t800.specs.Ranges.{badShape}
 use Rattle.t800.proofs.Laws.Tests.{or-left, or-right}
 use Rattle.t800.proofs.Laws.Layout.{band-length}
@@ -105,10 +105,22 @@ nodes-of-band-up-to b s = nodes-up-to-28672 (b .across) (b .down) (s .0) (s .1)
 pub band-length-up-to : (b : Band) → SidesUpTo64 b → bandLength b ≤ 188416
 band-length-up-to b s = omega (arith, band-length b, nodes-of-band-up-to b s, blocks-up-to-4096 b s)
 
-length-from : (at : ℕ) (b : Band) (n i : ℕ) → length (blocksFrom at b n i) ≡ n
+pub length-from : (at : ℕ) (b : Band) (n i : ℕ) → length (blocksFrom at b n i) ≡ n
 unfolding blocksFrom
 length-from at b zero i = refl
 length-from at b (suc n) i = let r = length-from at b n (i + 1) in omega arith
+
+-- m blocks, and n behind them
+pub blocks-split : (at : ℕ) (b : Band) (m n i : ℕ) → blocksFrom at b (m + n) i ≡ blocksFrom at b m i ++ blocksFrom at b n (i + m)
+unfolding blocksFrom
+blocks-split at b zero n i =
+    let e : 0 + n ≡ n = omega arith in
+    let q : i + 0 ≡ i = omega arith in
+    rw (e, q)
+blocks-split at b (suc m) n i =
+    let e : suc m + n ≡ suc (m + n) = omega arith in
+    let q : i + 1 + m ≡ i + suc m = omega arith in
+    rw e (ap (λ (ks : List Block). blockOf at b i ∷ ks) (blocks-split at b m n (i + 1) ∙ ap (λ (k : ℕ). blocksFrom at b m (i + 1) ++ blocksFrom at b n k) q))
 
 length-at : (at : ℕ) (bs : List Band) → length (blocksAt at bs) ≡ sum (map blocksIn bs)
 unfolding blocksAt sum
@@ -121,6 +133,14 @@ length-at at (b ∷ bs) =
 pub length-blocks : (bs : List Band) → length (blocks bs) ≡ sum (map blocksIn bs)
 unfolding blocks
 length-blocks bs = length-at 13 bs
+
+blocks-in-up-to : (bs : List Band) → AllUpTo64 bs → sum (map blocksIn bs) ≤ 4096 * length bs
+unfolding sum
+blocks-in-up-to [] h = omega arith
+blocks-in-up-to (b ∷ bs) h = let r = blocks-in-up-to bs (h .1) in let a = blocks-up-to-4096 b (h .0) in omega arith
+
+pub blocks-up-to-12288 : (n : ℕ) (bs : List Band) → n ≤ 3 → AllUpTo64 (take n bs) → length (blocks (take n bs)) ≤ 12288
+blocks-up-to-12288 n bs h s = omega (arith, length-blocks (take n bs), blocks-in-up-to (take n bs) s, length-take n bs)
 
 pub blocks-turn : (bs : List Band) (n i total : ℕ) → n ≤ length bs → i < n
     → total + blocksIn (getD bs i noBand) + sum (map blocksIn (drop (i + 1) (take n bs))) ≡ total + sum (map blocksIn (drop i (take n bs)))

@@ -18,7 +18,7 @@ unfoldable pub deepFrom : List Band → List ℕ → Bool
 deepFrom [] ps = false
 deepFrom (b ∷ bs) ps = any (λ p. ltb (b .planes) p) (take (blocksIn b) ps) || deepFrom bs (drop (blocksIn b) ps)
 
-or-group : (a b c : Bool) → (a || (b || c)) ≡ (a || b || c)
+pub or-group : (a b c : Bool) → (a || (b || c)) ≡ (a || b || c)
 or-group true b c = refl
 or-group false b c = refl
 

@@ -1,7 +1,7 @@
--- `t2check::length_bits_before` meets its contract.
+-- `t2segment::length_bits_before` meets its contract.
 use borrow.Author.Tests.{eq-eqb, ne-eqb}
-use Rattle.t2check.proofs.length_bits_before.Statement.{statement}
-use Rattle.t2check.proofs.length_bits_before.Tie as tie
+use Rattle.t2segment.proofs.length_bits_before.Statement.{statement}
+use Rattle.t2segment.proofs.length_bits_before.Tie as tie
 
 returns : tie.Need-returns
 returns c = simp (eq-eqb _ _ (c .if1 .taken))

@@ -1,13 +1,13 @@
--- `t2check::segment_at` meets its contract.
+-- `t2segment::segment_at` meets its contract.
 use Prim.Native.Nat.{_+_, _-_, _*_, _≤_}
 use borrow.Author.Tests.{eq-eqb, ne-eqb}
 use lib.ListN.{length, drop}
 use mathlib.Core.Path.{_≡_, _∙_, refl}
 use native.Mathlib.Omega.{arith}
-use Rattle.t2check.specs.FirstSegment.{firstFrom, firstSegment}
-use Rattle.t2check.proofs.Laws.Segments.{pass-stays, pass-is-last, no-pass-left}
-use Rattle.t2check.proofs.segment_at.Statement.{statement}
-use Rattle.t2check.proofs.segment_at.Tie as tie
+use Rattle.t2segment.specs.Segments.{firstFrom, firstSegment}
+use Rattle.t2segment.proofs.Laws.Segments.{pass-stays, pass-is-last, no-pass-left}
+use Rattle.t2segment.proofs.segment_at.Statement.{statement}
+use Rattle.t2segment.proofs.segment_at.Tie as tie
 
 abbrev Inv-loop : tie.InvT-loop
 Inv-loop lengths marks at passes₀ bytes₀ i₀ passes bytes i = (at + passes ≡ i) × (i ≤ length lengths) × (bytes ≤ 4294967295 * passes) × (firstFrom passes bytes (drop i lengths) (drop i marks) ≡ firstSegment (drop at lengths) (drop at marks))

@@ -1,8 +1,8 @@
--- `t2check::bits_missing` meets its contract.
+-- `t2segment::bits_missing` meets its contract.
 use borrow.Author.Needs.{needs}
 use native.Mathlib.Omega.{arith}
-use Rattle.t2check.proofs.bits_missing.Statement.{statement}
-use Rattle.t2check.proofs.bits_missing.Tie as tie
+use Rattle.t2segment.proofs.bits_missing.Statement.{statement}
+use Rattle.t2segment.proofs.bits_missing.Tie as tie
 
 bit-length-requires : tie.Need-bit-length-requires
 bit-length-requires c κs = search needs

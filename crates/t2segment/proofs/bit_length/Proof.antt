@@ -1,10 +1,10 @@
--- `t2check::bit_length` meets its contract.
+-- `t2segment::bit_length` meets its contract.
 use borrow.Author.Needs.{needs}
 use native.Mathlib.Omega.{arith}
 use Rattle.t800.specs.Segments.{bitLength}
-use Rattle.t2check.proofs.Laws.Segments.{log-up-to-31}
-use Rattle.t2check.proofs.bit_length.Statement.{statement}
-use Rattle.t2check.proofs.bit_length.Tie as tie
+use Rattle.t2segment.proofs.Laws.Segments.{log-up-to-31}
+use Rattle.t2segment.proofs.bit_length.Statement.{statement}
+use Rattle.t2segment.proofs.bit_length.Tie as tie
 
 opj-uint-floorlog2-requires : tie.Need-opj-uint-floorlog2-requires
 opj-uint-floorlog2-requires c κs = search needs

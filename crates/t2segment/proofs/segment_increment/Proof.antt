@@ -1,14 +1,14 @@
--- `t2check::segment_increment` meets its contract.
+-- `t2segment::segment_increment` meets its contract.
 use Prim.Native.Nat.{_-_, _≤_, max}
 use lib.ListN.{length, drop}
 use mathlib.Core.Bool.{false}
 use mathlib.Core.Path.{_≡_}
 use native.Mathlib.Omega.{arith}
 use Rattle.t800.specs.Segments.{segmentsOf, increment}
-use Rattle.t2check.specs.Refusals.{anyTooLong}
-use Rattle.t2check.proofs.Laws.Segments.{next-segment, no-segment-left, increment-turn, first-not-long}
-use Rattle.t2check.proofs.segment_increment.Statement.{statement}
-use Rattle.t2check.proofs.segment_increment.Tie as tie
+use Rattle.t2segment.specs.Segments.{anyTooLong}
+use Rattle.t2segment.proofs.Laws.Segments.{next-segment, no-segment-left, increment-turn, first-not-long}
+use Rattle.t2segment.proofs.segment_increment.Statement.{statement}
+use Rattle.t2segment.proofs.segment_increment.Tie as tie
 
 abbrev Inv-loop : tie.InvT-loop
 Inv-loop lengths marks length-bits most₀ at₀ most at = (at ≤ length lengths) × (max most (increment length-bits (segmentsOf (drop at lengths) (drop at marks))) ≡ increment length-bits (segmentsOf lengths marks)) × (anyTooLong (segmentsOf (drop at lengths) (drop at marks)) ≡ false)

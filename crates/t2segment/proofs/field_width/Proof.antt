@@ -1,9 +1,9 @@
--- `t2check::field_width` meets its contract.
+-- `t2segment::field_width` meets its contract.
 use borrow.Author.Needs.{needs}
 use native.Mathlib.Omega.{arith}
 use Rattle.t800.specs.Segments.{width}
-use Rattle.t2check.proofs.field_width.Statement.{statement}
-use Rattle.t2check.proofs.field_width.Tie as tie
+use Rattle.t2segment.proofs.field_width.Statement.{statement}
+use Rattle.t2segment.proofs.field_width.Tie as tie
 
 opj-uint-floorlog2-requires : tie.Need-opj-uint-floorlog2-requires
 opj-uint-floorlog2-requires c κs = search needs

@@ -8,12 +8,11 @@ use native.Mathlib.Omega.{arith}
 use lib.ListN.{length, getD, drop, length-drop, drop-of-length-le}
 use lib.Seq.{drop-cons, drop-drop}
 use lib.Dec.{eqb, ltb, leb}
-use borrow.Author.Tests.{lt-ltb, leb-false}
+use borrow.Author.Tests.{lt-ltb, ltb-false, leb-false}
 use Rattle.t800.specs.Base.{any, halvings, floorLog2}
 use Rattle.t800.specs.Segments.{Segment, segmentsFrom, segmentsOf, width, bitLength, increment}
 use Rattle.t800.proofs.Laws.Tests.{if-true, if-false, either, or-left, or-right}
-use Rattle.t2check.specs.FirstSegment.{segment, firstFrom, firstSegment}
-use Rattle.t2check.specs.Refusals.{anyTooLong, anyTooWide, blockTooWide}
+use Rattle.t2segment.specs.Segments.{segment, firstFrom, firstSegment, anyTooLong, anyTooWide}
 
 -- ---- one pass more
 
@@ -129,13 +128,15 @@ no-segment-left ls ms at h = rw (drop-of-length-le ls {i = at} h)
 
 -- ---- loops over them
 
+pub next-entry : (l : List ℕ) (i : ℕ) → i < length l → drop i l ≡ getD l i 0 ∷ drop (i + 1) l
+next-entry l i h = drop-cons l i 0 h ∙ rw (add-one i)
+
 -- pass i into the segment
 module _ (ls ms : List ℕ) (i p b : ℕ) where
   pass-splits : i < length ls → length ls ≡ length ms → firstFrom p b (drop i ls) (drop i ms) ≡ firstFrom p b (getD ls i 0 ∷ drop (i + 1) ls) (getD ms i 0 ∷ drop (i + 1) ms)
   pass-splits h e =
       ap₂ (λ (x y : List ℕ). firstFrom p b x y)
-      (drop-cons ls i 0 h ∙ ap (λ (z : ℕ). getD ls i 0 ∷ drop z ls) (sym (add-one i)))
-      (drop-cons ms i 0 (omega arith) ∙ ap (λ (z : ℕ). getD ms i 0 ∷ drop z ms) (sym (add-one i)))
+      (next-entry ls i h) (next-entry ms i (omega arith))
 
   pub pass-stays : i < length ls → length ls ≡ length ms → eqb (getD ms i 0) 0 ≡ true → firstFrom (p + 1) (b + getD ls i 0) (drop (i + 1) ls) (drop (i + 1) ms) ≡ firstFrom p b (drop i ls) (drop i ms)
   pass-stays h e t = sym (pass-splits h e ∙ first-goes-on p b (getD ls i 0) (getD ms i 0) (drop (i + 1) ls) (drop (i + 1) ms) t)
@@ -159,9 +160,11 @@ first-not-long ss s rest e h =
     let k : anyTooLong (s ∷ rest) ≡ false = ap anyTooLong (sym e) ∙ h in
     (leb-false (2 ^ 31) (s .bytes) (or-left (leb (2 ^ 31) (s .bytes)) (anyTooLong rest) k), or-right (leb (2 ^ 31) (s .bytes)) (anyTooLong rest) k)
 
--- a block's length bits, the increment and the widths with both
-pub block-wide-parts : (before more bits : ℕ) (ss : List Segment) (t : Bool) → before ≡ bits → more ≡ increment before ss → t ≡ anyTooWide (before + more) ss → t ≡ blockTooWide bits ss
-block-wide-parts before more bits ss t p q r = r ∙ ap (λ (z : ℕ). anyTooWide (before + z) ss) q ∙ ap (λ (z : ℕ). blockTooWide z ss) p
+pub first-not-wide : (lb : ℕ) (ss : List Segment) (s : Segment) (rest : List Segment) → ss ≡ s ∷ rest → anyTooWide lb ss ≡ false → (width lb (s .passes) ≤ 32) × (anyTooWide lb rest ≡ false)
+unfolding any
+first-not-wide lb ss s rest e h =
+    let k : anyTooWide lb (s ∷ rest) ≡ false = ap (λ (z : List Segment). anyTooWide lb z) (sym e) ∙ h in
+    (ltb-false 32 (width lb (s .passes)) (or-left (ltb 32 (width lb (s .passes))) (anyTooWide lb rest) k), or-right (ltb 32 (width lb (s .passes))) (anyTooWide lb rest) k)
 
 -- ---- logarithms
 
@@ -177,6 +180,14 @@ pub log-up-to-31 : (n : ℕ) → n < 2 ^ 32 → floorLog2 n ≤ 31
 unfolding floorLog2
 log-up-to-31 n h = halvings-up-to 31 n n h
 
-pub length-up-to-31-bits : (bytes : ℕ) → bytes < 2 ^ 31 → bitLength bytes ≤ 31
+length-up-to-31-bits : (bytes : ℕ) → bytes < 2 ^ 31 → bitLength bytes ≤ 31
 unfolding bitLength floorLog2
 length-up-to-31-bits bytes h = omega (arith, halvings-up-to 30 bytes bytes h)
+
+pub increment-up-to-31 : (lb : ℕ) (ss : List Segment) → anyTooLong ss ≡ false → increment lb ss ≤ 31
+unfolding any increment
+increment-up-to-31 lb [] h = omega arith
+increment-up-to-31 lb (s ∷ ss) h =
+    let r = increment-up-to-31 lb ss (or-right (leb (2 ^ 31) (s .bytes)) (anyTooLong ss) h) in
+    let b = length-up-to-31-bits (s .bytes) (leb-false (2 ^ 31) (s .bytes) (or-left (leb (2 ^ 31) (s .bytes)) (anyTooLong ss) h)) in
+    omega arith
