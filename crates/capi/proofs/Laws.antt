@@ -51,7 +51,6 @@ unfolding stateLengthOf
 length-given n bs e = rw e
 
 module _ (ws scratch : List ℕ) (p : Contribution) (m : Markers) (answer : List ℕ) where
-
   pub measure-unlisted : length answer ≢ 2 → record { refusal = 3; scratch = scratch; answer = answer } ≡ measureCall ws scratch p m answer
   unfolding measureCall
   measure-unlisted h = rw (ne-eqb (length answer) 2 h)
@@ -62,7 +61,6 @@ module _ (ws scratch : List ℕ) (p : Contribution) (m : Markers) (answer : List
   measure-listed r s l h e g = rw (eq-eqb (length answer) 2 h, g) (ap measured e)
 
 module _ (ws scratch : List ℕ) (p : Contribution) (body : List ℕ) (m : Markers) (number : ℕ) (output answer : List ℕ) where
-
   pub write-unlisted : length answer ≢ 1 → record { refusal = 3; state = ws; scratch = scratch; output = output; answer = answer } ≡ writeCall ws scratch p body m number output answer
   unfolding writeCall
   write-unlisted h = rw (ne-eqb (length answer) 1 h)
@@ -73,7 +71,6 @@ module _ (ws scratch : List ℕ) (p : Contribution) (body : List ℕ) (m : Marke
   write-listed r vs s o l h e g = rw (eq-eqb (length answer) 1 h, g) (ap written e)
 
 module _ (ws scratch : List ℕ) (m : Markers) (src reports records answer : List ℕ) where
-
   pub read-unlisted : length answer ≢ 5 → record { refusal = 3; state = ws; scratch = scratch; reports = reports; records = records; answer = answer } ≡ readCall ws scratch m src reports records answer
   unfolding readCall
   read-unlisted h = rw (ne-eqb (length answer) 5 h)

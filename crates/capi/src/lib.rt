@@ -67,7 +67,17 @@ pub extern "C" fn tonkelvi_state_length(
 ) -> usize
     ensures { λ r. ⌜ r ≡ stateLengthOf count (threeBands (band across0 down0 planes0) (band across1 down1 planes1) (band across2 down2 planes2)) ⌝ }
 {
-    let bands = three_bands(across0, down0, planes0, across1, down1, planes1, across2, down2, planes2);
+    let bands = three_bands(
+        across0,
+        down0,
+        planes0,
+        across1,
+        down1,
+        planes1,
+        across2,
+        down2,
+        planes2,
+    );
     state_length_of(count, bands)
 }
 
@@ -90,7 +100,17 @@ pub extern "C" fn tonkelvi_start_writer(
 ) -> u32
     ensures { λ r. ⌜ record { answer = r; state = now (state .exit) } ≡ start writer count (threeBands (band across0 down0 planes0) (band across1 down1 planes1) (band across2 down2 planes2)) style (now (planes .entry)) (now (state .entry)) ⌝ }
 {
-    let bands = three_bands(across0, down0, planes0, across1, down1, planes1, across2, down2, planes2);
+    let bands = three_bands(
+        across0,
+        down0,
+        planes0,
+        across1,
+        down1,
+        planes1,
+        across2,
+        down2,
+        planes2,
+    );
     t2::start_writer(count, bands, style, planes, state)
 }
 
@@ -113,7 +133,17 @@ pub extern "C" fn tonkelvi_start_reader(
 ) -> u32
     ensures { λ r. ⌜ record { answer = r; state = now (state .exit) } ≡ start reader count (threeBands (band across0 down0 planes0) (band across1 down1 planes1) (band across2 down2 planes2)) style (now (planes .entry)) (now (state .entry)) ⌝ }
 {
-    let bands = three_bands(across0, down0, planes0, across1, down1, planes1, across2, down2, planes2);
+    let bands = three_bands(
+        across0,
+        down0,
+        planes0,
+        across1,
+        down1,
+        planes1,
+        across2,
+        down2,
+        planes2,
+    );
     t2::start_reader(count, bands, style, planes, state)
 }
 
@@ -189,7 +219,17 @@ pub extern "C" fn tonkelvi_write(
     if answer.len() != 1 {
         return 3;
     }
-    let r = t2::write(state, scratch, counts, lengths, marks, body, Markers { sop, eph }, number, output);
+    let r = t2::write(
+        state,
+        scratch,
+        counts,
+        lengths,
+        marks,
+        body,
+        Markers { sop, eph },
+        number,
+        output,
+    );
     put_one(answer, r.bytes);
     r.refusal
 }
@@ -212,6 +252,13 @@ pub extern "C" fn tonkelvi_read(
         return 3;
     }
     let r = t2::read(state, scratch, src, Markers { sop, eph }, reports, records);
-    put_five(answer, r.present as u64, r.taken, r.segments, r.sop as u64, r.eph as u64);
+    put_five(
+        answer,
+        r.present as u64,
+        r.taken,
+        r.segments,
+        r.sop as u64,
+        r.eph as u64,
+    );
     r.refusal
 }
