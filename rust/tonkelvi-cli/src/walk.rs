@@ -1,0 +1,353 @@
+//! Walks a codestream and reads its packets with the engine.
+use crate::geometry::{self, Resolution};
+use crate::markers::{self, Fields, General, Header, Rect, Settings, Size};
+use crate::message::Message;
+use crate::order::{Precinct, Turn, Turns};
+use std::collections::BTreeMap;
+use std::ops::Range;
+use tonkelvi::{Band, Block, Mark, Markers, Packet, Reader, Refusal};
+
+/// A packet that was read. Offsets count from the file's start.
+pub struct Seen<'a> {
+    pub tile: u32,
+    pub layer: u16,
+    pub precinct: Precinct,
+    /// The precinct's place in its tile's list.
+    pub place: usize,
+    /// The packet's count in its tile.
+    pub count: u32,
+    pub offset: usize,
+    pub markers: Markers,
+    pub packet: &'a Packet,
+    /// Markers, header and body.
+    pub bytes: Range<usize>,
+    pub message: Option<Message>,
+}
+
+/// What is said of a file, a tile or a packet that can't be read.
+#[derive(Clone, Copy, PartialEq, Eq, Debug)]
+pub struct Note {
+    pub tile: Option<u32>,
+    pub turn: Option<(Precinct, u16)>,
+    pub offset: usize,
+    pub message: Message,
+}
+
+/// A precinct that packets were read of.
+pub struct Opened {
+    pub bands: Vec<Band>,
+    pub style: u8,
+    pub reader: Reader,
+}
+
+/// Takes what the walk finds.
+pub trait Visitor {
+    fn packet(&mut self, seen: &Seen);
+    fn note(&mut self, note: Note);
+    /// The tile's precincts after its last packet, `None` where none was read.
+    fn tile_end(&mut self, _tile: u32, _precincts: &[Option<Opened>]) {}
+}
+
+/// A fault in the headers, with its place in the codestream.
+type Fault = (Message, usize);
+
+/// Walks the codestream at `stream` of a file.
+pub fn walk(file: &[u8], stream: Range<usize>, visitor: &mut dyn Visitor) {
+    let base = stream.start;
+    let mut walk = Walk { data: &file[stream], base, size: Size::default(), main: Header::default(), tiles: BTreeMap::new(), visitor };
+    if let Err((message, at)) = walk.all() {
+        walk.visitor.note(Note { tile: None, turn: None, offset: base + at, message });
+    }
+    walk.end();
+}
+
+struct Walk<'a> {
+    data: &'a [u8],
+    base: usize,
+    size: Size,
+    main: Header,
+    tiles: BTreeMap<u32, Tile>,
+    visitor: &'a mut dyn Visitor,
+}
+
+/// A tile whose tile-parts are being read.
+#[derive(Default)]
+struct Tile {
+    header: Header,
+    started: Option<Started>,
+    /// A packet could not be read, so that no later one has a known place.
+    lost: bool,
+}
+
+impl Tile {
+    /// Takes up a segment of a tile-part header; progressions that a later tile-part names come behind the others.
+    fn take(&mut self, marker: u16, segment: &[u8], components: usize) -> Option<()> {
+        let known = self.header.volumes.len();
+        self.header.take(marker, segment, components)?;
+        if let Some(started) = &mut self.started {
+            started.turns.add(&self.header.volumes[known..]);
+        }
+        Some(())
+    }
+}
+
+struct Started {
+    general: General,
+    components: Vec<Vec<Resolution>>,
+    turns: Turns,
+    opened: Vec<Option<Opened>>,
+    count: u32,
+    end: usize,
+}
+
+/// Where a tile-part's packets lie, and the tile it is of.
+struct Part {
+    tile: u32,
+    body: Range<usize>,
+    end: usize,
+    cut: bool,
+}
+
+impl<'a> Walk<'a> {
+    fn u16_at(&self, at: usize) -> Result<u16, Fault> {
+        let bytes = self.data.get(at..at + 2).ok_or((Message::Cut, at))?;
+        Ok(u16::from(bytes[0]) << 8 | u16::from(bytes[1]))
+    }
+
+    /// The content of the marker segment whose marker is at `at`, and the place behind it.
+    fn segment(&self, at: usize) -> Result<(&'a [u8], usize), Fault> {
+        let length = usize::from(self.u16_at(at + 2)?);
+        if length < 2 {
+            return Err((Message::Damaged, at));
+        }
+        let end = at + 2 + length;
+        let data: &'a [u8] = self.data;
+        Ok((data.get(at + 4..end).ok_or((Message::Cut, at))?, end))
+    }
+
+    fn all(&mut self) -> Result<(), Fault> {
+        let mut at = self.main_header()?;
+        loop {
+            match self.u16_at(at)? {
+                markers::SOT => at = self.part(at)?,
+                markers::EOC => return Ok(()),
+                _ => return Err((Message::Damaged, at)),
+            }
+        }
+    }
+
+    /// Reads the main header; answers the place of the first SOT.
+    fn main_header(&mut self) -> Result<usize, Fault> {
+        if self.u16_at(0)? != markers::SOC || self.u16_at(2)? != markers::SIZ {
+            return Err((Message::Damaged, 0));
+        }
+        let (segment, mut at) = self.segment(2)?;
+        self.size = Size::parse(segment).ok_or((Message::Damaged, 2))?;
+        loop {
+            match self.u16_at(at)? {
+                markers::SOT => return Ok(at),
+                marker => {
+                    let (segment, end) = self.segment(at)?;
+                    self.main.take(marker, segment, self.size.steps.len()).ok_or((Message::Damaged, at))?;
+                    at = end;
+                }
+            }
+        }
+    }
+
+    /// Reads the tile-part whose SOT is at `at`; answers the place behind it.
+    fn part(&mut self, at: usize) -> Result<usize, Fault> {
+        let part = self.part_header(at)?;
+        let (number, end, cut) = (part.tile, part.end, part.cut);
+        let mut tile = self.tiles.remove(&number).unwrap_or_default();
+        if !tile.lost {
+            let read = self.packets(&mut tile, &part);
+            if let Err(note) = read {
+                tile.lost = true;
+                self.visitor.note(note);
+            }
+        }
+        self.tiles.insert(number, tile);
+        if cut {
+            return Err((Message::Cut, self.data.len()));
+        }
+        Ok(end)
+    }
+
+    /// Reads SOT and the segments up to SOD.
+    fn part_header(&mut self, at: usize) -> Result<Part, Fault> {
+        let (segment, mut here) = self.segment(at)?;
+        let mut f = Fields::new(segment);
+        let (Some(number), Some(length)) = (f.u16(), f.u32()) else { return Err((Message::Damaged, at)) };
+        let number = u32::from(number);
+        if u64::from(number) >= self.size.tiles() {
+            return Err((Message::Damaged, at));
+        }
+        while self.u16_at(here)? != markers::SOD {
+            let (segment, end) = self.segment(here)?;
+            let marker = self.u16_at(here)?;
+            let tile = self.tiles.entry(number).or_default();
+            tile.take(marker, segment, self.size.steps.len()).ok_or((Message::Damaged, here))?;
+            here = end;
+        }
+        let body = here + 2;
+        let end = self.part_end(at, length);
+        if end < body {
+            return Err((Message::Damaged, at));
+        }
+        let have = end.min(self.data.len());
+        Ok(Part { tile: number, body: body..have, end, cut: end > have })
+    }
+
+    /// The place behind a tile-part; length 0 says that it goes up to EOC.
+    fn part_end(&self, at: usize, length: u32) -> usize {
+        let ends = self.data.ends_with(&markers::EOC.to_be_bytes());
+        match length {
+            0 if ends => self.data.len() - 2,
+            0 => self.data.len(),
+            _ => at + length as usize,
+        }
+    }
+
+    /// Reads the packets of one tile-part.
+    fn packets(&mut self, tile: &mut Tile, part: &Part) -> Result<(), Note> {
+        let settings = Settings { main: &self.main, tile: &tile.header };
+        let base = self.base;
+        let note = |message, at: usize| Note { tile: Some(part.tile), turn: None, offset: base + at, message };
+        if self.main.packed || tile.header.packed {
+            return Err(note(Message::Packed, part.body.start));
+        }
+        if tile.started.is_none() {
+            tile.started = Some(start(&self.size, &settings, part.tile).map_err(|message| note(message, part.body.start))?);
+        }
+        let started = tile.started.as_mut().expect("set above");
+        let mut at = part.body.start;
+        while at < part.body.end {
+            let Some(turn) = started.turns.next() else { return Err(note(Message::Left, at)) };
+            let precinct = started.turns.precincts()[turn.precinct];
+            let refused = |message| Note { turn: Some((precinct, turn.layer)), ..note(message, at) };
+            let (packet, markers) = read(started, &settings, turn, &self.data[at..part.body.end]).map_err(refused)?;
+            let end = at as u64 + packet.taken as u64 + packet.body();
+            if end > part.body.end as u64 {
+                return Err(refused(if part.cut { Message::Cut } else { Message::BodyPast }));
+            }
+            let end = end as usize;
+            let bands = &started.opened[turn.precinct].as_ref().expect("read above").bands;
+            self.visitor.packet(&Seen {
+                tile: part.tile,
+                layer: turn.layer,
+                precinct,
+                place: turn.precinct,
+                count: started.count,
+                offset: base + at,
+                markers,
+                packet: &packet,
+                bytes: base + at..base + end,
+                message: remark(&packet, bands),
+            });
+            started.count += 1;
+            at = end;
+        }
+        started.end = at;
+        Ok(())
+    }
+
+    /// Says which tiles lack packets, and hands on the precincts of all.
+    fn end(&mut self) {
+        for (number, tile) in std::mem::take(&mut self.tiles) {
+            let Some(started) = tile.started else { continue };
+            if !tile.lost && started.turns.left() > 0 {
+                let offset = self.base + started.end;
+                self.visitor.note(Note { tile: Some(number), turn: None, offset, message: Message::Missing });
+            }
+            self.visitor.tile_end(number, &started.opened);
+        }
+    }
+}
+
+/// Lays out a tile: resolutions of each component, precincts, order of packets.
+fn start(size: &Size, settings: &Settings, number: u32) -> Result<Started, Message> {
+    let area = geometry::tile(size, number);
+    let general = settings.general().ok_or(Message::Damaged)?;
+    let mut components = Vec::new();
+    for (c, &steps) in size.steps.iter().enumerate() {
+        let coding = settings.coding(c as u16).ok_or(Message::Damaged)?;
+        let part = geometry::tile_component(area, steps);
+        components.push((0..=coding.levels).map(|r| Resolution::new(part, coding, r)).collect::<Vec<_>>());
+    }
+    let total: u64 = components.iter().flatten().map(Resolution::precincts).sum();
+    if total > geometry::MOST_PRECINCTS {
+        return Err(Message::TooMany);
+    }
+    let precincts = precincts(&components, area, size);
+    let opened = precincts.iter().map(|_| None).collect();
+    let turns = Turns::new(precincts, general.layers, settings.volumes().ok_or(Message::Damaged)?);
+    Ok(Started { general, components, turns, opened, count: 0, end: 0 })
+}
+
+fn precincts(components: &[Vec<Resolution>], area: Rect, size: &Size) -> Vec<Precinct> {
+    let mut list = Vec::new();
+    for (c, resolutions) in components.iter().enumerate() {
+        for resolution in resolutions {
+            for number in 0..resolution.precincts() as u32 {
+                let position = resolution.position(number, area, size.steps[c]);
+                list.push(Precinct { component: c as u16, resolution: resolution.number, number, position });
+            }
+        }
+    }
+    list
+}
+
+/// Reads the packet whose turn it is from the front of `src`.
+fn read(started: &mut Started, settings: &Settings, turn: Turn, src: &[u8]) -> Result<(Packet, Markers), Message> {
+    let precinct = started.turns.precincts()[turn.precinct];
+    let opened = match &mut started.opened[turn.precinct] {
+        Some(opened) => opened,
+        slot => {
+            let resolution = &started.components[usize::from(precinct.component)][usize::from(precinct.resolution)];
+            slot.insert(open(settings, precinct, resolution)?)
+        }
+    };
+    let markers = Markers { sop: started.general.sop, eph: started.general.eph };
+    let packet = opened.reader.read(src, markers).map_err(Message::Refused)?;
+    Ok((packet, markers))
+}
+
+fn open(settings: &Settings, precinct: Precinct, resolution: &Resolution) -> Result<Opened, Message> {
+    let coding = settings.coding(precinct.component).ok_or(Message::Damaged)?;
+    let quantization = settings.quantization(precinct.component).ok_or(Message::Damaged)?;
+    let first = match precinct.resolution {
+        0 => 0,
+        r => 3 * (usize::from(r) - 1) + 1,
+    };
+    let mut bands = Vec::new();
+    for (b, (across, down)) in resolution.blocks(precinct.number).into_iter().enumerate() {
+        let planes = quantization.planes(first + b).ok_or(Message::Damaged)?;
+        bands.push(Band { across, down, planes: planes + settings.shift(precinct.component) });
+    }
+    let reader = Reader::new(&bands, coding.style).map_err(Message::Refused)?;
+    Ok(Opened { bands, style: coding.style, reader })
+}
+
+/// What is to be said of a packet that was read.
+fn remark(packet: &Packet, bands: &[Band]) -> Option<Message> {
+    if has_too_many_zero_planes(packet, bands) {
+        return Some(Message::ZeroPlanes);
+    }
+    match (packet.sop, packet.eph) {
+        (_, Mark::NotFound | Mark::TooFewBytes) => Some(Message::Eph),
+        (Mark::NotFound | Mark::TooFewBytes, _) => Some(Message::Sop),
+        _ => None,
+    }
+}
+
+fn has_too_many_zero_planes(packet: &Packet, bands: &[Band]) -> bool {
+    let planes = bands.iter().flat_map(|band| std::iter::repeat_n(band.planes, (band.across * band.down) as usize));
+    let above = |(block, planes): (&Block, u32)| matches!(block, Block::First { zero_planes, .. } if *zero_planes > planes);
+    packet.blocks.iter().zip(planes).any(above)
+}
+
+/// Whether a message says that the drawing is outside of what the engine reads.
+pub fn out_of_domain(message: Message) -> bool {
+    matches!(message, Message::Refused(Refusal::Shape | Refusal::Style | Refusal::Planes | Refusal::Layers) | Message::Packed)
+}
