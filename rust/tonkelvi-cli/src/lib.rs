@@ -2,6 +2,7 @@
 pub mod arguments;
 pub mod boxes;
 pub mod catalogue;
+pub mod check;
 pub mod files;
 pub mod geometry;
 pub mod jobs;

@@ -1,12 +1,13 @@
 //! The command tonkelvi.
 use std::io::{self, IsTerminal, Write};
-use std::path::PathBuf;
+use std::path::{Path, PathBuf};
 use std::process::ExitCode;
 use tonkelvi_cli::arguments::{self, Arguments, Command};
 use tonkelvi_cli::catalogue::{Catalogue, LANGUAGES};
+use tonkelvi_cli::check::Check;
 use tonkelvi_cli::message::Message;
-use tonkelvi_cli::rows::{Form, Sheet, HEAD};
-use tonkelvi_cli::{files, jobs};
+use tonkelvi_cli::rows::{self, Form, Sheet};
+use tonkelvi_cli::{check, files, jobs};
 
 fn main() -> ExitCode {
     let arguments = arguments::parse(std::env::args_os().skip(1).map(|word| word.to_string_lossy().into_owned()));
@@ -60,48 +61,86 @@ fn paths(arguments: &Arguments) -> Result<Vec<PathBuf>, String> {
     Ok(files::collect(&paths))
 }
 
-/// A file's rows, how many packets it has, and whether it is whole.
+/// A file's rows, a line for standard error, how many packets it has, and whether it is whole.
 struct Answer {
     rows: String,
+    line: Option<String>,
     packets: u64,
     whole: bool,
 }
 
-fn one_file(path: &PathBuf, arguments: &Arguments, catalogue: &Catalogue) -> Answer {
+fn sheet_of(path: &Path, arguments: &Arguments, catalogue: &Catalogue) -> Answer {
     let name = path.to_string_lossy();
     let mut sheet = Sheet::new(&name, arguments.form, catalogue);
     sheet.read(std::fs::read(path));
-    Answer { rows: sheet.rows, packets: sheet.packets, whole: sheet.whole }
+    Answer { rows: sheet.rows, line: None, packets: sheet.packets, whole: sheet.whole }
+}
+
+fn check_of(path: &Path, arguments: &Arguments, catalogue: &Catalogue) -> Answer {
+    let name = path.to_string_lossy();
+    let file = std::fs::read(path).ok();
+    let check = Check::of(&name, arguments.form, catalogue, file.as_deref());
+    let others = check.packets - check.same - check.single_bits;
+    let line = format!(
+        "{name}: {} packets, {} written the same, {} of a single 0 bit, {others} different",
+        check.packets, check.same, check.single_bits
+    );
+    Answer { rows: check.rows, line: Some(line), packets: check.packets, whole: check.whole }
+}
+
+/// What has been done, for the progress line.
+#[derive(Default)]
+struct Done {
+    files: usize,
+    packets: u64,
+    faulty: usize,
+}
+
+impl Done {
+    /// Counts a file and says so on standard error.
+    fn count(&mut self, answer: &Answer, total: usize, quiet: bool) {
+        self.files += 1;
+        self.packets += answer.packets;
+        self.faulty += usize::from(!answer.whole);
+        match &answer.line {
+            _ if quiet => {}
+            Some(line) => eprintln!("{line}"),
+            None if io::stderr().is_terminal() => {
+                let end = if self.files == total { "\n" } else { "" };
+                eprint!("\r{} of {total} files, {} packets, {} files not whole{end}", self.files, self.packets, self.faulty);
+            }
+            None => {}
+        }
+    }
+}
+
+/// The first line of the output.
+fn head(arguments: &Arguments) -> &'static str {
+    match (arguments.form, arguments.command) {
+        (Form::Json, _) => "",
+        (Form::Csv, Command::Check) => check::HEAD,
+        (Form::Csv, _) => rows::HEAD,
+    }
 }
 
 /// Reads all files and prints their rows.
 fn over_files(arguments: &Arguments) -> Result<ExitCode, String> {
     let catalogue = catalogue(arguments)?;
     let files = paths(arguments)?;
+    let work = |path: &PathBuf| match arguments.command {
+        Command::Check => check_of(path, arguments, &catalogue),
+        _ => sheet_of(path, arguments, &catalogue),
+    };
     let mut output = io::BufWriter::new(io::stdout());
-    let progress = !arguments.quiet && io::stderr().is_terminal();
-    let (mut done, mut packets, mut faulty) = (0, 0, 0);
-    let head = if arguments.form == Form::Csv { HEAD } else { "" };
-    let printed = output.write_all(head.as_bytes()).and_then(|()| {
-        jobs::run(
-            &files,
-            arguments.jobs,
-            |path| one_file(path, arguments, &catalogue),
-            |result| {
-                (done, packets, faulty) = (done + 1, packets + result.packets, faulty + u64::from(!result.whole));
-                if progress {
-                    eprint!("\r{done} of {} files, {packets} packets, {faulty} files not whole", files.len());
-                }
-                output.write_all(result.rows.as_bytes())
-            },
-        )
+    let mut done = Done::default();
+    let printed = output.write_all(head(arguments).as_bytes()).and_then(|()| {
+        jobs::run(&files, arguments.jobs, work, |answer| {
+            done.count(&answer, files.len(), arguments.quiet);
+            output.write_all(answer.rows.as_bytes())
+        })
     });
-    let printed = printed.and_then(|()| output.flush());
-    if progress {
-        eprintln!();
-    }
-    match printed {
+    match printed.and_then(|()| output.flush()) {
         Err(error) if error.kind() != io::ErrorKind::BrokenPipe => Err(format!("the output failed: {error}")),
-        _ => Ok(ExitCode::from(u8::from(faulty > 0))),
+        _ => Ok(ExitCode::from(u8::from(done.faulty > 0))),
     }
 }
