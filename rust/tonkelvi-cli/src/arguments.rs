@@ -1,5 +1,7 @@
 //! The command line.
 use crate::rows::Form;
+use std::ffi::OsString;
+use std::path::PathBuf;
 
 pub const HELP: &str = "\
 tonkelvi: reads the packet headers of JPEG 2000 drawings with a proved engine
@@ -34,8 +36,8 @@ pub enum Command {
 #[derive(Clone, PartialEq, Eq, Debug)]
 pub struct Arguments {
     pub command: Command,
-    pub paths: Vec<String>,
-    pub files_from: Vec<String>,
+    pub paths: Vec<PathBuf>,
+    pub files_from: Vec<PathBuf>,
     pub form: Form,
     pub language: Option<String>,
     pub quiet: bool,
@@ -43,9 +45,9 @@ pub struct Arguments {
 }
 
 /// Reads the words behind the program's name; the error is a sentence.
-pub fn parse(words: impl IntoIterator<Item = String>) -> Result<Arguments, String> {
+pub fn parse(words: impl IntoIterator<Item = OsString>) -> Result<Arguments, String> {
     let mut words = words.into_iter();
-    let command = match words.next().as_deref() {
+    let command = match words.next().map(|word| word.to_string_lossy().into_owned()).as_deref() {
         Some("sheet") => Command::Sheet,
         Some("check") => Command::Check,
         Some("explain") => Command::Explain,
@@ -58,7 +60,7 @@ pub fn parse(words: impl IntoIterator<Item = String>) -> Result<Arguments, Strin
         Arguments { command, paths: vec![], files_from: vec![], form: Form::Csv, language: None, quiet: false, jobs: 1 };
     while let Some(word) = words.next() {
         if word == "--" {
-            arguments.paths.extend(words.by_ref());
+            arguments.paths.extend(words.by_ref().map(PathBuf::from));
         } else {
             option(&mut arguments, word, &mut words)?;
         }
@@ -67,21 +69,22 @@ pub fn parse(words: impl IntoIterator<Item = String>) -> Result<Arguments, Strin
 }
 
 /// Takes one option with its value, or a path.
-fn option(arguments: &mut Arguments, word: String, rest: &mut dyn Iterator<Item = String>) -> Result<(), String> {
-    let (name, given) = match word.split_once('=') {
-        Some((name, value)) if word.starts_with("--") => (name.to_string(), Some(value.to_string())),
-        _ => (word.clone(), None),
+fn option(arguments: &mut Arguments, word: OsString, rest: &mut dyn Iterator<Item = OsString>) -> Result<(), String> {
+    let text = word.to_string_lossy().into_owned();
+    let (name, given) = match text.split_once('=') {
+        Some((name, value)) if text.starts_with("--") => (name, Some(OsString::from(value))),
+        _ => (text.as_str(), None),
     };
     let mut value = || given.clone().or_else(|| rest.next()).ok_or(format!("{name} needs a value"));
-    match name.as_str() {
+    match name {
         "--json" => arguments.form = Form::Json,
         "--quiet" | "-q" => arguments.quiet = true,
-        "--lang" => arguments.language = Some(value()?),
-        "--jobs" | "-j" => arguments.jobs = jobs(&value()?)?,
-        "--files-from" => arguments.files_from.push(value()?),
+        "--lang" => arguments.language = Some(value()?.to_string_lossy().into_owned()),
+        "--jobs" | "-j" => arguments.jobs = jobs(&value()?.to_string_lossy())?,
+        "--files-from" => arguments.files_from.push(value()?.into()),
         "--help" | "-h" => arguments.command = Command::Help,
         other if other.starts_with('-') && other != "-" => return Err(format!("there is no option {other}")),
-        _ => arguments.paths.push(word),
+        _ => arguments.paths.push(word.into()),
     }
     Ok(())
 }
@@ -95,15 +98,15 @@ mod tests {
     use super::*;
 
     fn parsed(line: &str) -> Result<Arguments, String> {
-        parse(line.split_whitespace().map(String::from))
+        parse(line.split_whitespace().map(OsString::from))
     }
 
     #[test]
     fn options_in_any_place() {
         let arguments = parsed("sheet a --json --jobs=3 b --lang de -q --files-from - -- --c").unwrap();
-        assert_eq!(arguments.paths, ["a", "b", "--c"]);
+        assert_eq!(arguments.paths, ["a", "b", "--c"].map(PathBuf::from));
         assert_eq!((arguments.form, arguments.jobs, arguments.quiet), (Form::Json, 3, true));
-        assert_eq!((arguments.language.as_deref(), &arguments.files_from[..]), (Some("de"), &["-".to_string()][..]));
+        assert_eq!((arguments.language.as_deref(), &arguments.files_from[..]), (Some("de"), &[PathBuf::from("-")][..]));
     }
 
     #[test]

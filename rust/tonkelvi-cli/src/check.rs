@@ -28,7 +28,8 @@ pub struct Check<'a> {
     catalogue: &'a Catalogue,
     file: &'a [u8],
     kept: BTreeMap<(u32, usize), Vec<Kept>>,
-    pub rows: String,
+    /// Each row with its offset, in the file's order.
+    rows: Vec<(usize, String)>,
     pub packets: u64,
     pub same: u64,
     pub single_bits: u64,
@@ -41,12 +42,18 @@ impl<'a> Check<'a> {
         let kept = BTreeMap::new();
         let bytes = file.unwrap_or_default();
         let mut check =
-            Check { name, form, catalogue, file: bytes, kept, rows: String::new(), packets: 0, same: 0, single_bits: 0, whole: true };
+            Check { name, form, catalogue, file: bytes, kept, rows: Vec::new(), packets: 0, same: 0, single_bits: 0, whole: true };
         match file {
             Some(file) => rows::visit(file, &mut check),
             None => check.note(Note { tile: None, turn: None, offset: 0, message: Message::Unread }),
         }
+        check.rows.sort_by_key(|row| row.0);
         check
+    }
+
+    /// The rows, one a line.
+    pub fn text(&self) -> String {
+        self.rows.iter().map(|row| row.1.as_str()).collect()
     }
 
     fn row(&mut self, note: Note, differs: Option<usize>) {
@@ -63,12 +70,11 @@ impl<'a> Check<'a> {
             note.message.number().to_string(),
         ];
         let sentence = self.catalogue.sentence(note.message);
-        match self.form {
-            Form::Csv => {
-                let _ = writeln!(self.rows, "{},{},{}", quoted(self.name), fields.join(","), quoted(sentence));
-            }
-            Form::Json => json_row(&mut self.rows, self.name, &fields, sentence),
-        }
+        let row = match self.form {
+            Form::Csv => format!("{},{},{}\n", quoted(self.name), fields.join(","), quoted(sentence)),
+            Form::Json => json_row(self.name, &fields, sentence),
+        };
+        self.rows.push((note.offset, row));
     }
 
     /// Writes a precinct's packets again, layer by layer.
@@ -112,7 +118,7 @@ impl Visitor for Check<'_> {
         self.row(note, None);
     }
 
-    fn tile_end(&mut self, tile: u32, precincts: &[Option<Opened>]) {
+    fn tile_end(&mut self, tile: u32, precincts: &[Option<Box<Opened>>]) {
         for (place, opened) in precincts.iter().enumerate() {
             if let (Some(opened), Some(kept)) = (opened, self.kept.remove(&(tile, place))) {
                 self.precinct(tile, opened, &kept);
@@ -226,12 +232,13 @@ fn zero_planes(levels: &[(usize, usize)], tree: &[u32], most: u32) -> Vec<u32> {
 
 const NAMES: [&str; 8] = ["tile", "layer", "resolution", "component", "precinct", "offset", "differs_at", "message"];
 
-fn json_row(out: &mut String, name: &str, fields: &[String; 8], sentence: &str) {
-    let _ = write!(out, "{{\"file\":{}", json_string(name));
+fn json_row(name: &str, fields: &[String; 8], sentence: &str) -> String {
+    let mut out = format!("{{\"file\":{}", json_string(name));
     for (key, value) in NAMES.iter().zip(fields).filter(|(_, value)| !value.is_empty()) {
         let _ = write!(out, ",\"{key}\":{value}");
     }
     let _ = writeln!(out, ",\"sentence\":{}}}", json_string(sentence));
+    out
 }
 
 #[cfg(test)]

@@ -40,10 +40,22 @@ fn is_drawing(path: &Path) -> bool {
 }
 
 /// The paths that a list names, one a line; `-` is standard input.
-pub fn listed(list: &str) -> io::Result<Vec<PathBuf>> {
-    let lines: io::Result<Vec<String>> = match list {
-        "-" => io::stdin().lock().lines().collect(),
-        name => io::BufReader::new(std::fs::File::open(name)?).lines().collect(),
+pub fn listed(list: &Path) -> io::Result<Vec<PathBuf>> {
+    let lines: io::Result<Vec<Vec<u8>>> = match list.to_str() {
+        Some("-") => io::stdin().lock().split(b'\n').collect(),
+        _ => io::BufReader::new(std::fs::File::open(list)?).split(b'\n').collect(),
     };
-    Ok(lines?.into_iter().filter(|line| !line.is_empty()).map(PathBuf::from).collect())
+    Ok(lines?.into_iter().filter(|line| !line.is_empty()).map(path_of).collect())
+}
+
+/// A name's bytes as they are.
+#[cfg(unix)]
+fn path_of(name: Vec<u8>) -> PathBuf {
+    use std::os::unix::ffi::OsStringExt;
+    std::ffi::OsString::from_vec(name).into()
+}
+
+#[cfg(not(unix))]
+fn path_of(name: Vec<u8>) -> PathBuf {
+    String::from_utf8_lossy(&name).trim_end_matches('\r').into()
 }

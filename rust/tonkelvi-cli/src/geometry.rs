@@ -1,8 +1,8 @@
 //! Tiles, resolutions, precincts and code-blocks, after T.800 Annex B.
 use crate::markers::{Coding, Rect, Size};
 
-/// The most precincts that a tile may have here.
-pub const MOST_PRECINCTS: u64 = 1 << 24;
+/// The most precincts that the tiles of a codestream may have here.
+pub const MOST_PRECINCTS: u64 = 1 << 23;
 
 /// The least whole number that is not below `value / 2^shift`.
 fn ceil_shift(value: u32, shift: u32) -> u32 {

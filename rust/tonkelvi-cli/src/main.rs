@@ -10,7 +10,7 @@ use tonkelvi_cli::rows::{self, Form, Sheet};
 use tonkelvi_cli::{check, files, jobs};
 
 fn main() -> ExitCode {
-    let arguments = arguments::parse(std::env::args_os().skip(1).map(|word| word.to_string_lossy().into_owned()));
+    let arguments = arguments::parse(std::env::args_os().skip(1));
     let done = arguments.and_then(|arguments| match arguments.command {
         Command::Help => print(arguments::HELP),
         Command::Version => print(concat!("tonkelvi ", env!("CARGO_PKG_VERSION"), "\n")),
@@ -43,6 +43,7 @@ fn explain(arguments: &Arguments) -> Result<ExitCode, String> {
         return Err("explain needs a number".to_string());
     }
     for word in &arguments.paths {
+        let word = word.to_string_lossy();
         let message = word.parse().ok().and_then(Message::from_number).ok_or(format!("there is no message {word}"))?;
         print(&format!("{}: {}\n{}\n", message.number(), catalogue.sentence(message), catalogue.advice(message)))?;
     }
@@ -51,9 +52,9 @@ fn explain(arguments: &Arguments) -> Result<ExitCode, String> {
 
 /// The paths that the command line and the lists name.
 fn paths(arguments: &Arguments) -> Result<Vec<PathBuf>, String> {
-    let mut paths: Vec<PathBuf> = arguments.paths.iter().map(PathBuf::from).collect();
+    let mut paths = arguments.paths.clone();
     for list in &arguments.files_from {
-        paths.extend(files::listed(list).map_err(|error| format!("{list} can't be read: {error}"))?);
+        paths.extend(files::listed(list).map_err(|error| format!("{} can't be read: {error}", list.display()))?);
     }
     if paths.is_empty() && arguments.files_from.is_empty() {
         return Err("a path is missing".to_string());
@@ -85,7 +86,7 @@ fn check_of(path: &Path, arguments: &Arguments, catalogue: &Catalogue) -> Answer
         "{name}: {} packets, {} written the same, {} of a single 0 bit, {others} different",
         check.packets, check.same, check.single_bits
     );
-    Answer { rows: check.rows, line: Some(line), packets: check.packets, whole: check.whole }
+    Answer { rows: check.text(), line: Some(line), packets: check.packets, whole: check.whole }
 }
 
 /// What has been done, for the progress line.

@@ -102,6 +102,7 @@ impl Size {
             && first_tile_meets(self.tile_y, self.tile_height, self.image.y0)
             && (1..=16384).contains(&self.steps.len())
             && self.steps.iter().all(|&(x, y)| x > 0 && y > 0)
+            && self.tiles() <= 65535
     }
 
     pub fn tiles_across(&self) -> u32 {

@@ -24,6 +24,7 @@ pub struct Turns {
     precincts: Vec<Precinct>,
     next_layer: Vec<u16>,
     layers: u16,
+    left: u64,
     volumes: VecDeque<Volume>,
     groups: VecDeque<Vec<usize>>,
     group_layers: u16,
@@ -34,8 +35,9 @@ pub struct Turns {
 impl Turns {
     pub fn new(precincts: Vec<Precinct>, layers: u16, volumes: Vec<Volume>) -> Turns {
         let next_layer = vec![0; precincts.len()];
+        let left = precincts.len() as u64 * u64::from(layers);
         let volumes = volumes.into();
-        Turns { precincts, next_layer, layers, volumes, groups: VecDeque::new(), group_layers: 0, layer: 0, place: 0 }
+        Turns { precincts, next_layer, layers, left, volumes, groups: VecDeque::new(), group_layers: 0, layer: 0, place: 0 }
     }
 
     /// Adds progressions that a later tile-part names.
@@ -49,7 +51,7 @@ impl Turns {
 
     /// The packets of all layers and precincts that have not been given.
     pub fn left(&self) -> u64 {
-        self.next_layer.iter().map(|&next| u64::from(self.layers - next)).sum()
+        self.left
     }
 
     /// Goes to the next place of the group, its next layer, the next group or the next progression.
@@ -84,14 +86,16 @@ impl Iterator for Turns {
     type Item = Turn;
 
     fn next(&mut self) -> Option<Turn> {
-        loop {
+        while self.left > 0 {
             let turn = self.step()?;
             let next = &mut self.next_layer[turn.precinct];
             if *next == turn.layer {
                 *next += 1;
+                self.left -= 1;
                 return Some(turn);
             }
         }
+        None
     }
 }
 

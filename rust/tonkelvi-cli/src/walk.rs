@@ -5,7 +5,7 @@ use crate::message::Message;
 use crate::order::{Precinct, Turn, Turns};
 use std::collections::BTreeMap;
 use std::ops::Range;
-use tonkelvi::{Band, Block, Mark, Markers, Packet, Reader, Refusal};
+use tonkelvi::{Band, Block, Mark, Markers, Packet, Reader};
 
 /// A packet that was read. Offsets count from the file's start.
 pub struct Seen<'a> {
@@ -45,7 +45,7 @@ pub trait Visitor {
     fn packet(&mut self, seen: &Seen);
     fn note(&mut self, note: Note);
     /// The tile's precincts after its last packet, `None` where none was read.
-    fn tile_end(&mut self, _tile: u32, _precincts: &[Option<Opened>]) {}
+    fn tile_end(&mut self, _tile: u32, _precincts: &[Option<Box<Opened>>]) {}
 }
 
 /// A fault in the headers, with its place in the codestream.
@@ -54,9 +54,11 @@ type Fault = (Message, usize);
 /// Walks the codestream at `stream` of a file.
 pub fn walk(file: &[u8], stream: Range<usize>, visitor: &mut dyn Visitor) {
     let base = stream.start;
-    let mut walk = Walk { data: &file[stream], base, size: Size::default(), main: Header::default(), tiles: BTreeMap::new(), visitor };
-    if let Err((message, at)) = walk.all() {
-        walk.visitor.note(Note { tile: None, turn: None, offset: base + at, message });
+    let data = &file[stream];
+    let mut walk = Walk { data, base, size: Size::default(), main: Header::default(), tiles: BTreeMap::new(), precincts: 0, visitor };
+    match walk.all() {
+        Ok(end) => walk.say_absent_tiles(end),
+        Err((message, at)) => walk.visitor.note(Note { tile: None, turn: None, offset: base + at, message }),
     }
     walk.end();
 }
@@ -67,6 +69,8 @@ struct Walk<'a> {
     size: Size,
     main: Header,
     tiles: BTreeMap<u32, Tile>,
+    /// Precincts of all tiles that were laid out.
+    precincts: u64,
     visitor: &'a mut dyn Visitor,
 }
 
@@ -79,11 +83,17 @@ struct Tile {
     lost: bool,
 }
 
+/// The most progressions that one POC can name.
+const MOST_VOLUMES: usize = 9362;
+
 impl Tile {
     /// Takes up a segment of a tile-part header; progressions that a later tile-part names come behind the others.
     fn take(&mut self, marker: u16, segment: &[u8], components: usize) -> Option<()> {
         let known = self.header.volumes.len();
         self.header.take(marker, segment, components)?;
+        if self.header.volumes.len() > MOST_VOLUMES {
+            return None;
+        }
         if let Some(started) = &mut self.started {
             started.turns.add(&self.header.volumes[known..]);
         }
@@ -95,7 +105,7 @@ struct Started {
     general: General,
     components: Vec<Vec<Resolution>>,
     turns: Turns,
-    opened: Vec<Option<Opened>>,
+    opened: Vec<Option<Box<Opened>>>,
     count: u32,
     end: usize,
 }
@@ -125,12 +135,13 @@ impl<'a> Walk<'a> {
         Ok((data.get(at + 4..end).ok_or((Message::Cut, at))?, end))
     }
 
-    fn all(&mut self) -> Result<(), Fault> {
+    /// Reads headers and tile-parts; answers the place of EOC.
+    fn all(&mut self) -> Result<usize, Fault> {
         let mut at = self.main_header()?;
         loop {
             match self.u16_at(at)? {
                 markers::SOT => at = self.part(at)?,
-                markers::EOC => return Ok(()),
+                markers::EOC => return Ok(at),
                 _ => return Err((Message::Damaged, at)),
             }
         }
@@ -218,7 +229,10 @@ impl<'a> Walk<'a> {
             return Err(note(Message::Packed, part.body.start));
         }
         if tile.started.is_none() {
-            tile.started = Some(start(&self.size, &settings, part.tile).map_err(|message| note(message, part.body.start))?);
+            let most = geometry::MOST_PRECINCTS - self.precincts;
+            let started = start(&self.size, &settings, part.tile, most).map_err(|message| note(message, part.body.start))?;
+            self.precincts += started.opened.len() as u64;
+            tile.started = Some(started);
         }
         let started = tile.started.as_mut().expect("set above");
         let mut at = part.body.start;
@@ -252,6 +266,18 @@ impl<'a> Walk<'a> {
         Ok(())
     }
 
+    /// Says which tiles have no tile-part, with one note for all that follow each other.
+    fn say_absent_tiles(&mut self, end: usize) {
+        let mut before = false;
+        for number in 0..self.size.tiles() as u32 {
+            let absent = !self.tiles.contains_key(&number);
+            if absent && !before {
+                self.visitor.note(Note { tile: Some(number), turn: None, offset: self.base + end, message: Message::Missing });
+            }
+            before = absent;
+        }
+    }
+
     /// Says which tiles lack packets, and hands on the precincts of all.
     fn end(&mut self) {
         for (number, tile) in std::mem::take(&mut self.tiles) {
@@ -265,8 +291,11 @@ impl<'a> Walk<'a> {
     }
 }
 
-/// Lays out a tile: resolutions of each component, precincts, order of packets.
-fn start(size: &Size, settings: &Settings, number: u32) -> Result<Started, Message> {
+/// The most precincts that all progressions of a tile may have to sort.
+const MOST_SORTED: u64 = 1 << 28;
+
+/// Lays out a tile of at most `most` precincts: resolutions of each component, precincts, order of packets.
+fn start(size: &Size, settings: &Settings, number: u32, most: u64) -> Result<Started, Message> {
     let area = geometry::tile(size, number);
     let general = settings.general().ok_or(Message::Damaged)?;
     let mut components = Vec::new();
@@ -276,12 +305,13 @@ fn start(size: &Size, settings: &Settings, number: u32) -> Result<Started, Messa
         components.push((0..=coding.levels).map(|r| Resolution::new(part, coding, r)).collect::<Vec<_>>());
     }
     let total: u64 = components.iter().flatten().map(Resolution::precincts).sum();
-    if total > geometry::MOST_PRECINCTS {
+    let volumes = settings.volumes().ok_or(Message::Damaged)?;
+    if total > most || total * volumes.len() as u64 > MOST_SORTED {
         return Err(Message::TooMany);
     }
     let precincts = precincts(&components, area, size);
     let opened = precincts.iter().map(|_| None).collect();
-    let turns = Turns::new(precincts, general.layers, settings.volumes().ok_or(Message::Damaged)?);
+    let turns = Turns::new(precincts, general.layers, volumes);
     Ok(Started { general, components, turns, opened, count: 0, end: 0 })
 }
 
@@ -305,7 +335,7 @@ fn read(started: &mut Started, settings: &Settings, turn: Turn, src: &[u8]) -> R
         Some(opened) => opened,
         slot => {
             let resolution = &started.components[usize::from(precinct.component)][usize::from(precinct.resolution)];
-            slot.insert(open(settings, precinct, resolution)?)
+            slot.insert(Box::new(open(settings, precinct, resolution)?))
         }
     };
     let markers = Markers { sop: started.general.sop, eph: started.general.eph };
@@ -345,9 +375,4 @@ fn has_too_many_zero_planes(packet: &Packet, bands: &[Band]) -> bool {
     let planes = bands.iter().flat_map(|band| std::iter::repeat_n(band.planes, (band.across * band.down) as usize));
     let above = |(block, planes): (&Block, u32)| matches!(block, Block::First { zero_planes, .. } if *zero_planes > planes);
     packet.blocks.iter().zip(planes).any(above)
-}
-
-/// Whether a message says that the drawing is outside of what the engine reads.
-pub fn out_of_domain(message: Message) -> bool {
-    matches!(message, Message::Refused(Refusal::Shape | Refusal::Style | Refusal::Planes | Refusal::Layers) | Message::Packed)
 }

@@ -1,0 +1,157 @@
+//! Whole, cut and damaged drawings of three encoders; tools/make_drawings.sh makes them.
+use std::path::{Path, PathBuf};
+use tonkelvi_cli::boxes;
+use tonkelvi_cli::catalogue::Catalogue;
+use tonkelvi_cli::check::Check;
+use tonkelvi_cli::message::Message;
+use tonkelvi_cli::rows::{self, Form, Sheet};
+use tonkelvi_cli::walk::{Note, Seen, Visitor};
+
+fn drawings() -> Vec<PathBuf> {
+    let files = tonkelvi_cli::files::collect(&[Path::new(env!("CARGO_MANIFEST_DIR")).join("tests/drawings")]);
+    assert!(files.len() >= 20, "{} drawings", files.len());
+    files
+}
+
+/// The drawings that the engine reads.
+fn whole() -> Vec<(PathBuf, Vec<u8>)> {
+    let known = drawings().into_iter().filter(|path| !path.to_string_lossy().contains("high_throughput"));
+    known.map(|path| (path.clone(), std::fs::read(path).unwrap())).collect()
+}
+
+/// Where packets were found, and what was said.
+#[derive(Default)]
+struct Found {
+    packets: Vec<std::ops::Range<usize>>,
+    notes: Vec<Note>,
+    messages: Vec<Message>,
+}
+
+impl Visitor for Found {
+    fn packet(&mut self, seen: &Seen) {
+        self.packets.push(seen.bytes.clone());
+        self.messages.extend(seen.message);
+    }
+
+    fn note(&mut self, note: Note) {
+        self.notes.push(note);
+    }
+}
+
+fn found(file: &[u8]) -> Found {
+    let mut found = Found::default();
+    rows::visit(file, &mut found);
+    found
+}
+
+fn number(bytes: &[u8]) -> usize {
+    bytes.iter().fold(0, |sum, &byte| sum << 8 | usize::from(byte))
+}
+
+/// The bytes between SOD and the end of each tile-part, by the lengths in the headers alone.
+fn tile_parts(file: &[u8]) -> Vec<std::ops::Range<usize>> {
+    let mut parts = Vec::new();
+    for stream in boxes::codestreams(file).unwrap().streams {
+        let mut at = stream.start + 2;
+        while file[at..at + 2] != [0xff, 0xd9] {
+            if file[at..at + 2] != [0xff, 0x90] {
+                at += 2 + number(&file[at + 2..at + 4]);
+                continue;
+            }
+            let end = match number(&file[at + 6..at + 10]) {
+                0 => stream.end - 2,
+                length => at + length,
+            };
+            while file[at..at + 2] != [0xff, 0x93] {
+                at += 2 + number(&file[at + 2..at + 4]);
+            }
+            parts.push(at + 2..end);
+            at = end;
+        }
+    }
+    parts
+}
+
+#[test]
+fn every_byte_is_accounted_for() {
+    for (path, file) in whole() {
+        let found = found(&file);
+        assert!(found.notes.is_empty() && found.messages.is_empty(), "{path:?} {:?} {:?}", found.notes, found.messages);
+        let mut packets = found.packets.into_iter().peekable();
+        for part in tile_parts(&file) {
+            let mut at = part.start;
+            while let Some(packet) = packets.next_if(|packet| packet.start == at && packet.end <= part.end) {
+                at = packet.end;
+            }
+            assert_eq!(at, part.end, "{path:?}");
+        }
+        assert_eq!(packets.next(), None, "{path:?}");
+    }
+}
+
+#[test]
+fn every_packet_is_written_the_same() {
+    let english = Catalogue::of("en").unwrap();
+    for (path, file) in whole() {
+        let check = Check::of("drawing", Form::Csv, &english, Some(&file));
+        assert!(check.whole && check.packets > 0, "{path:?}");
+        assert_eq!(check.same + check.single_bits, check.packets, "{path:?}");
+        let is_ffmpeg = path.to_string_lossy().contains("ffmpeg");
+        assert_eq!(check.single_bits > 0, is_ffmpeg, "{path:?}");
+    }
+}
+
+#[test]
+fn high_throughput_is_told() {
+    let path = drawings().into_iter().find(|path| path.to_string_lossy().contains("high_throughput")).unwrap();
+    let found = found(&std::fs::read(path).unwrap());
+    assert_eq!(found.notes.iter().map(|note| note.message.number()).collect::<Vec<_>>(), [2]);
+}
+
+#[test]
+fn a_cut_file_is_never_whole() {
+    let english = Catalogue::of("en").unwrap();
+    for (path, file) in whole() {
+        for end in (0..file.len()).step_by(97).chain([file.len() - 2, file.len() - 1]) {
+            let mut sheet = Sheet::new("cut", Form::Csv, &english);
+            sheet.read(Ok(file[..end].to_vec()));
+            assert!(!sheet.whole, "{path:?} {end}");
+        }
+    }
+}
+
+#[test]
+fn damaged_files_are_read_to_an_end() {
+    let english = Catalogue::of("en").unwrap();
+    for (_, file) in whole() {
+        for place in (0..file.len().min(200)).chain((200..file.len()).step_by(101)) {
+            let mut damaged = file.clone();
+            damaged[place] ^= 1 << (place % 8);
+            rows::visit(&damaged, &mut Found::default());
+            Check::of("damaged", Form::Json, &english, Some(&damaged));
+        }
+    }
+}
+
+#[test]
+fn a_missing_tile_part_is_told() {
+    let file = std::fs::read(Path::new(env!("CARGO_MANIFEST_DIR")).join("tests/drawings/openjpeg_LRCP.j2k")).unwrap();
+    let parts = tile_parts(&file);
+    let mut shorter = file[..parts[0].end].to_vec();
+    shorter.extend(&file[parts[1].end..]);
+    let notes = found(&shorter).notes;
+    assert_eq!(notes.iter().map(|note| (note.tile, note.message)).collect::<Vec<_>>(), [(Some(1), Message::Missing)]);
+}
+
+#[test]
+fn a_byte_more_is_told() {
+    let file = std::fs::read(Path::new(env!("CARGO_MANIFEST_DIR")).join("tests/drawings/openjpeg_style1.j2k")).unwrap();
+    let part = tile_parts(&file)[0].clone();
+    let sot = file.windows(2).position(|two| two == [0xff, 0x90]).unwrap();
+    let mut longer = file.clone();
+    longer.insert(part.end, 0);
+    let length = (part.end + 1 - sot) as u32;
+    longer[sot + 6..sot + 10].copy_from_slice(&length.to_be_bytes());
+    let notes = found(&longer).notes;
+    assert_eq!(notes.iter().map(|note| (note.offset, note.message)).collect::<Vec<_>>(), [(part.end, Message::Left)]);
+}
