@@ -124,15 +124,19 @@ impl<'a> Walk<'a> {
         Ok(u16::from(bytes[0]) << 8 | u16::from(bytes[1]))
     }
 
-    /// The content of the marker segment whose marker is at `at`, and the place behind it.
+    /// The content of the marker segment whose marker is at `at`, and the place behind it; FF30 to FF3F stand alone (A.1).
     fn segment(&self, at: usize) -> Result<(&'a [u8], usize), Fault> {
+        match self.u16_at(at)? {
+            0xff30..=0xff3f => return Ok((&[], at + 2)),
+            0xff01..=0xfffe => {}
+            _ => return Err((Message::Damaged, at)),
+        }
         let length = usize::from(self.u16_at(at + 2)?);
         if length < 2 {
             return Err((Message::Damaged, at));
         }
         let end = at + 2 + length;
-        let data: &'a [u8] = self.data;
-        Ok((data.get(at + 4..end).ok_or((Message::Cut, at))?, end))
+        Ok((self.data.get(at + 4..end).ok_or((Message::Cut, at))?, end))
     }
 
     /// Reads headers and tile-parts; answers the place of EOC.

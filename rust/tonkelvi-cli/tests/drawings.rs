@@ -155,3 +155,49 @@ fn a_byte_more_is_told() {
     let notes = found(&longer).notes;
     assert_eq!(notes.iter().map(|note| (note.offset, note.message)).collect::<Vec<_>>(), [(part.end, Message::Left)]);
 }
+
+/// The place and the content of the first segment with this marker.
+fn segment(file: &[u8], marker: u8) -> (usize, Vec<u8>) {
+    let at = file.windows(2).position(|two| two == [0xff, marker]).unwrap();
+    (at, file[at + 4..at + 2 + number(&file[at + 2..at + 4])].to_vec())
+}
+
+/// A marker segment's bytes.
+fn marked(marker: u8, content: &[u8]) -> Vec<u8> {
+    [&[0xff, marker, 0, content.len() as u8 + 2], content].concat()
+}
+
+#[test]
+fn components_with_segments_of_their_own() {
+    let file = std::fs::read(Path::new(env!("CARGO_MANIFEST_DIR")).join("tests/drawings/openjpeg_RPCL.j2k")).unwrap();
+    let (cod_at, cod) = segment(&file, 0x52);
+    let (_, qcd) = segment(&file, 0x5c);
+    let mut own = vec![0xff, 0x30];
+    for component in 0..3 {
+        own.extend(marked(0x53, &[&[component, cod[0] & 1], &cod[5..]].concat()));
+        own.extend(marked(0x5d, &[&[component], &qcd[..]].concat()));
+    }
+    // COD now says no level, other blocks and no precincts, and QCD comes before what is taken from the components' own.
+    let general = marked(0x52, &[&[cod[0] & !1], &cod[1..5], &[0, 4, 4, 0, 1]].concat());
+    let cod_end = cod_at + 4 + cod.len();
+    let other = [&file[..cod_at], &general, &marked(0x5c, &[0x20, 8]), &own, &file[cod_end..]].concat();
+    let (before, after) = (found(&file), found(&other));
+    assert!(after.notes.is_empty() && after.messages.is_empty(), "{:?}", after.notes);
+    let moved = other.len() - file.len();
+    let expected: Vec<_> = before.packets.iter().map(|packet| packet.start + moved..packet.end + moved).collect();
+    assert_eq!(after.packets, expected);
+}
+
+#[test]
+fn several_codestreams_in_boxes() {
+    let file = std::fs::read(Path::new(env!("CARGO_MANIFEST_DIR")).join("tests/drawings/openjpeg_poc.j2k")).unwrap();
+    let mut boxed = vec![0, 0, 0, 12, b'j', b'P', b' ', b' ', 0x0d, 0x0a, 0x87, 0x0a];
+    for _ in 0..2 {
+        boxed.extend((file.len() as u32 + 8).to_be_bytes());
+        boxed.extend(b"jp2c");
+        boxed.extend(&file);
+    }
+    let (one, two) = (found(&file), found(&boxed));
+    assert!(two.notes.is_empty());
+    assert_eq!(two.packets.len(), 2 * one.packets.len());
+}

@@ -1,0 +1,86 @@
+//! The command as it is called.
+use std::io::Write;
+use std::path::Path;
+use std::process::{Command, Output, Stdio};
+
+/// Runs the command in the folder of the drawings, with text on standard input.
+fn tonkelvi(words: &[&str], input: &str) -> Output {
+    let mut child = Command::new(env!("CARGO_BIN_EXE_tonkelvi"))
+        .args(words)
+        .current_dir(Path::new(env!("CARGO_MANIFEST_DIR")).join("tests/drawings"))
+        .env_remove("LC_ALL")
+        .env_remove("LC_MESSAGES")
+        .env("LANG", "C.UTF-8")
+        .stdin(Stdio::piped())
+        .stdout(Stdio::piped())
+        .stderr(Stdio::piped())
+        .spawn()
+        .unwrap();
+    let _ = child.stdin.take().unwrap().write_all(input.as_bytes());
+    child.wait_with_output().unwrap()
+}
+
+fn text(output: &Output) -> String {
+    String::from_utf8(output.stdout.clone()).unwrap()
+}
+
+#[test]
+fn a_whole_file() {
+    let output = tonkelvi(&["sheet", "openjpeg_poc.j2k"], "");
+    let rows = text(&output);
+    assert_eq!(output.status.code(), Some(0));
+    assert!(rows.starts_with("file,tile,layer,resolution,component,precinct,offset,header bytes,body bytes,blocks,passes,lengths,message,"));
+    assert_eq!(rows.lines().count(), 37);
+    assert!(rows.lines().all(|row| row.split(',').count() == 14));
+    assert!(output.stderr.is_empty());
+}
+
+#[test]
+fn a_file_that_is_not_there_and_the_next_one() {
+    let output = tonkelvi(&["sheet", "--lang", "de", "none.jp2", "openjpeg_poc.j2k"], "");
+    let rows = text(&output);
+    assert_eq!(output.status.code(), Some(1));
+    assert_eq!(rows.lines().nth(1), Some("none.jp2,,,,,,0,,,,,,20,Die Datei kann nicht gelesen werden."));
+    assert_eq!(rows.lines().count(), 38);
+}
+
+#[test]
+fn names_on_standard_input_and_threads() {
+    let one = tonkelvi(&["sheet", "."], "");
+    let four = tonkelvi(&["sheet", "--jobs", "4", "."], "");
+    assert_eq!(one.stdout, four.stdout);
+    let listed = tonkelvi(&["sheet", "--files-from", "-"], "openjpeg_poc.j2k\n\nopenjpeg_lossy.jp2\n");
+    assert_eq!(listed.status.code(), Some(0));
+    assert_eq!(text(&listed).lines().count(), 1 + 36 + 27);
+}
+
+#[test]
+fn json_lines() {
+    let output = tonkelvi(&["sheet", "--json", "grok_high_throughput.j2k", "openjpeg_poc.j2k"], "");
+    let rows = text(&output);
+    assert_eq!(rows.lines().count(), 37);
+    assert!(rows.lines().all(|row| row.starts_with("{\"file\":\"") && row.ends_with('}')));
+    assert!(rows.lines().next().unwrap().contains("\"message\":2,\"sentence\":\"The style has"));
+}
+
+#[test]
+fn check_names_single_bits() {
+    let output = tonkelvi(&["check", "ffmpeg_sampled.jp2"], "");
+    assert_eq!(output.status.code(), Some(0));
+    assert_eq!(text(&output).lines().filter(|row| row.contains(",30,")).count(), 2);
+    let said = String::from_utf8(output.stderr).unwrap();
+    assert_eq!(said, "ffmpeg_sampled.jp2: 21 packets, 19 written the same, 2 of a single 0 bit, 0 different\n");
+    assert!(tonkelvi(&["check", "--quiet", "ffmpeg_sampled.jp2"], "").stderr.is_empty());
+}
+
+#[test]
+fn explain_and_help() {
+    let output = tonkelvi(&["explain", "12", "--lang", "fr"], "");
+    assert!(text(&output).starts_with("12: L'entrée se termine par un octet FF"));
+    assert_eq!(output.status.code(), Some(0));
+    assert!(text(&tonkelvi(&["--help"], "")).contains("tonkelvi sheet"));
+    for words in [&["explain", "16"][..], &["explain"], &["sheet"], &[], &["sheet", "--lang", "xx", "."]] {
+        let output = tonkelvi(words, "");
+        assert_eq!((output.status.code(), output.stdout.len()), (Some(2), 0), "{words:?}");
+    }
+}
