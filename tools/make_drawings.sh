@@ -29,6 +29,7 @@ if command -v opj_compress > /dev/null; then
     opj lossy.jp2 -q 20,30,40 -I -s 2,1 -n 3 -TP L -b 8,32
     opj poc.j2k -r 20,5,1 -n 4 -POC T1=0,0,3,2,3,CPRL/T1=2,0,3,4,3,RLCP
     for style in 1 8 25; do opj "style$style.j2k" -r 8,2 -M $style -b 16,16; done
+    opj lengths.j2k -r 20,8,3 -p PCRL -n 3 -c '[16,16]' -t 40,30 -PLT
     opj region.j2k -r 8,1 -ROI c=0,U=9
 fi
 if command -v grk_compress > /dev/null; then

@@ -56,8 +56,7 @@ pub fn parse(words: impl IntoIterator<Item = OsString>) -> Result<Arguments, Str
         Some(other) => return Err(format!("there is no command {other}")),
         None => return Err("a command is missing".to_string()),
     };
-    let mut arguments =
-        Arguments { command, paths: vec![], files_from: vec![], form: Form::Csv, language: None, quiet: false, jobs: 1 };
+    let mut arguments = Arguments { command, paths: vec![], files_from: vec![], form: Form::Csv, language: None, quiet: false, jobs: 1 };
     while let Some(word) = words.next() {
         if word == "--" {
             arguments.paths.extend(words.by_ref().map(PathBuf::from));

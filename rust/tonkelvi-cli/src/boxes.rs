@@ -1,4 +1,5 @@
 //! Where the codestreams of a file stand: the whole file, or the jp2c boxes of a JP2 or JPX file.
+#![allow(clippy::single_range_in_vec_init)]
 use std::ops::Range;
 
 const SIGNATURE: [u8; 12] = [0, 0, 0, 12, b'j', b'P', b' ', b' ', 0x0d, 0x0a, 0x87, 0x0a];

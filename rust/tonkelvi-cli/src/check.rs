@@ -129,10 +129,7 @@ impl Visitor for Check<'_> {
 
 /// The markers that the packet really has.
 fn used(seen: &Seen) -> Markers {
-    Markers {
-        sop: seen.markers.sop && seen.packet.sop == Mark::InOrder,
-        eph: seen.markers.eph && seen.packet.eph == Mark::InOrder,
-    }
+    Markers { sop: seen.markers.sop && seen.packet.sop == Mark::InOrder, eph: seen.markers.eph && seen.packet.eph == Mark::InOrder }
 }
 
 /// Writes a packet again; the error says what is different and from which place of the file on.
@@ -173,8 +170,8 @@ fn contribution(packet: &Packet) -> (Vec<u32>, Vec<u32>, Vec<u8>) {
     let (mut lengths, mut marks) = (Vec::new(), Vec::new());
     for (number, segment) in packet.segments.iter().enumerate() {
         let before = segment.passes.saturating_sub(1) as usize;
-        lengths.extend(std::iter::repeat_n(0, before));
-        marks.extend(std::iter::repeat_n(0, before));
+        lengths.resize(lengths.len() + before, 0);
+        marks.resize(marks.len() + before, 0);
         let goes_on = packet.segments.get(number + 1).is_some_and(|next| next.block == segment.block);
         lengths.push(segment.bytes);
         marks.push(u8::from(goes_on));

@@ -82,10 +82,15 @@ mod tests {
     fn ends_when_taking_fails() {
         let items: Vec<u32> = (0..500).collect();
         let mut taken = 0;
-        let result = run(&items, 3, |n| *n, |_| {
-            taken += 1;
-            Err(io::ErrorKind::BrokenPipe.into())
-        });
+        let result = run(
+            &items,
+            3,
+            |n| *n,
+            |_| {
+                taken += 1;
+                Err(io::ErrorKind::BrokenPipe.into())
+            },
+        );
         assert_eq!((result.unwrap_err().kind(), taken), (io::ErrorKind::BrokenPipe, 1));
     }
 }

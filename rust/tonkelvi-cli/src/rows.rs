@@ -58,14 +58,8 @@ impl<'a> Sheet<'a> {
         match self.form {
             Form::Csv => {
                 let lists = lists.map(|list| list.join(" "));
-                let _ = writeln!(
-                    self.rows,
-                    "{},{},{},{message},{}",
-                    quoted(self.name),
-                    fields.join(","),
-                    lists.join(","),
-                    quoted(sentence)
-                );
+                let _ =
+                    writeln!(self.rows, "{},{},{},{message},{}", quoted(self.name), fields.join(","), lists.join(","), quoted(sentence));
             }
             Form::Json => json_row(&mut self.rows, self.name, &fields, &lists, &message, sentence),
         }

@@ -376,7 +376,7 @@ fn remark(packet: &Packet, bands: &[Band]) -> Option<Message> {
 }
 
 fn has_too_many_zero_planes(packet: &Packet, bands: &[Band]) -> bool {
-    let planes = bands.iter().flat_map(|band| std::iter::repeat_n(band.planes, (band.across * band.down) as usize));
+    let planes = bands.iter().flat_map(|band| vec![band.planes; (band.across * band.down) as usize]);
     let above = |(block, planes): (&Block, u32)| matches!(block, Block::First { zero_planes, .. } if *zero_planes > planes);
     packet.blocks.iter().zip(planes).any(above)
 }

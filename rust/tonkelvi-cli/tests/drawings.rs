@@ -89,6 +89,40 @@ fn every_byte_is_accounted_for() {
     }
 }
 
+/// The packet lengths that PLT gives in the tile-part headers, in the file's order.
+fn told_lengths(file: &[u8]) -> Vec<usize> {
+    let mut lengths = Vec::new();
+    let mut end = 0;
+    for part in tile_parts(file) {
+        let mut at = end + file[end..].windows(4).position(|four| four == [0xff, 0x90, 0, 10]).unwrap() + 12;
+        while at < part.start - 2 {
+            let next = at + 2 + number(&file[at + 2..at + 4]);
+            if file[at + 1] == 0x58 {
+                let mut sum = 0;
+                for byte in &file[at + 5..next] {
+                    sum = sum << 7 | usize::from(byte & 127);
+                    if byte & 128 == 0 {
+                        lengths.push(std::mem::take(&mut sum));
+                    }
+                }
+            }
+            at = next;
+        }
+        end = part.end;
+    }
+    lengths
+}
+
+#[test]
+fn packets_have_the_lengths_that_encoders_tell() {
+    for name in ["openjpeg_lengths.j2k", "grok_lossy.jp2"] {
+        let file = std::fs::read(Path::new(env!("CARGO_MANIFEST_DIR")).join("tests/drawings").join(name)).unwrap();
+        let lengths: Vec<usize> = found(&file).packets.iter().map(ExactSizeIterator::len).collect();
+        assert!(!lengths.is_empty());
+        assert_eq!(told_lengths(&file), lengths, "{name}");
+    }
+}
+
 #[test]
 fn every_packet_is_written_the_same() {
     let english = Catalogue::of("en").unwrap();
@@ -171,16 +205,16 @@ fn marked(marker: u8, content: &[u8]) -> Vec<u8> {
 fn components_with_segments_of_their_own() {
     let file = std::fs::read(Path::new(env!("CARGO_MANIFEST_DIR")).join("tests/drawings/openjpeg_RPCL.j2k")).unwrap();
     let (cod_at, cod) = segment(&file, 0x52);
-    let (_, qcd) = segment(&file, 0x5c);
+    let (qcd_at, qcd) = segment(&file, 0x5c);
     let mut own = vec![0xff, 0x30];
     for component in 0..3 {
         own.extend(marked(0x53, &[&[component, cod[0] & 1], &cod[5..]].concat()));
         own.extend(marked(0x5d, &[&[component], &qcd[..]].concat()));
     }
-    // COD now says no level, other blocks and no precincts, and QCD comes before what is taken from the components' own.
+    // COD now says no level, other blocks and no precincts, and QCD one band alone.
     let general = marked(0x52, &[&[cod[0] & !1], &cod[1..5], &[0, 4, 4, 0, 1]].concat());
-    let cod_end = cod_at + 4 + cod.len();
-    let other = [&file[..cod_at], &general, &marked(0x5c, &[0x20, 8]), &own, &file[cod_end..]].concat();
+    assert_eq!(qcd_at, cod_at + 4 + cod.len());
+    let other = [&file[..cod_at], &own, &general, &marked(0x5c, &[0x20, 8]), &file[qcd_at + 4 + qcd.len()..]].concat();
     let (before, after) = (found(&file), found(&other));
     assert!(after.notes.is_empty() && after.messages.is_empty(), "{:?}", after.notes);
     let moved = other.len() - file.len();
