@@ -18,6 +18,7 @@ struct Kept {
     count: u32,
     markers: Markers,
     bytes: Range<usize>,
+    packed: Option<Vec<u8>>,
     packet: Packet,
 }
 
@@ -110,6 +111,7 @@ impl Visitor for Check<'_> {
             count: seen.count,
             markers: used(seen),
             bytes: seen.bytes.clone(),
+            packed: seen.packed.map(<[u8]>::to_vec),
             packet: seen.packet.clone(),
         });
     }
@@ -129,25 +131,31 @@ impl Visitor for Check<'_> {
 
 /// The markers that the packet really has.
 fn used(seen: &Seen) -> Markers {
-    Markers { sop: seen.markers.sop && seen.packet.sop == Mark::InOrder, eph: seen.markers.eph && seen.packet.eph == Mark::InOrder }
+    Markers {
+        sop: seen.packed.is_none() && seen.markers.sop && seen.packet.sop == Mark::InOrder,
+        eph: seen.markers.eph && seen.packet.eph == Mark::InOrder,
+    }
 }
 
 /// Writes a packet again; the error says what is different and from which place of the file on.
 fn again(writer: &mut Writer, kept: &Kept, file: &[u8]) -> Result<(), (Message, Option<usize>)> {
     let bytes = &file[kept.bytes.clone()];
+    let (before, body) = bytes.split_at(bytes.len() - kept.packet.body() as usize);
+    let header = kept.packed.as_deref().unwrap_or(before);
     if !kept.packet.present {
         *writer = passed_over(writer);
-        let header = if kept.markers.sop { bytes.get(6) } else { bytes.first() };
-        return Err(if header == Some(&0) { (Message::SingleBit, None) } else { (Message::Differs, Some(kept.bytes.start)) });
+        let first = if kept.markers.sop { header.get(6) } else { header.first() };
+        return Err(if first == Some(&0) { (Message::SingleBit, None) } else { (Message::Differs, Some(kept.bytes.start)) });
     }
     let (counts, lengths, marks) = contribution(&kept.packet);
     let layer = Contribution { counts: &counts, lengths: &lengths, marks: &marks };
-    let written = writer.write(layer, &bytes[kept.packet.taken..], kept.markers, kept.count).map_err(refused)?;
-    match written.iter().zip(bytes).position(|(a, b)| a != b) {
-        None if written.len() == bytes.len() => Ok(()),
-        None => Err((Message::Differs, Some(kept.bytes.start + written.len().min(bytes.len())))),
-        Some(place) => Err((Message::Differs, Some(kept.bytes.start + place))),
+    let mut written = writer.write(layer, body, kept.markers, kept.count).map_err(refused)?;
+    written.truncate(written.len() - body.len());
+    if written == header {
+        return Ok(());
     }
+    let place = written.iter().zip(header).take_while(|(a, b)| a == b).count();
+    Err((Message::Differs, Some(kept.bytes.start + if kept.packed.is_some() { 0 } else { place })))
 }
 
 fn refused(refusal: Refusal) -> (Message, Option<usize>) {

@@ -68,7 +68,7 @@ mod tests {
         let items: Vec<u32> = (0..500).collect();
         for jobs in [1, 2, 7] {
             let mut seen = Vec::new();
-            let slow = |n: &u32| if n % 50 == 0 { (0..20_000).fold(*n, |a, b| a ^ b ^ b) } else { *n };
+            let slow = |n: &u32| if n % 50 == 7 { (0..20_000).fold(*n, |a, b| a ^ b ^ b) } else { *n };
             run(&items, jobs, slow, |n| {
                 seen.push(n);
                 Ok(())

@@ -108,7 +108,7 @@ impl Done {
             Some(line) => eprintln!("{line}"),
             None if io::stderr().is_terminal() => {
                 let end = if self.files == total { "\n" } else { "" };
-                eprint!("\r{} of {total} files, {} packets, {} files not whole{end}", self.files, self.packets, self.faulty);
+                eprint!("\r{} of {total} files, {} packets, not whole: {}{end}", self.files, self.packets, self.faulty);
             }
             None => {}
         }

@@ -1,5 +1,5 @@
 //! Marker segments of T.800 Annex A, as far as the walk needs them.
-use std::collections::BTreeMap;
+use std::collections::{BTreeMap, VecDeque};
 
 pub const SOC: u16 = 0xff4f;
 pub const SIZ: u16 = 0xff51;
@@ -246,7 +246,8 @@ pub struct Header {
     pub own_quantization: BTreeMap<u16, Quantization>,
     pub shifts: BTreeMap<u16, u8>,
     pub volumes: Vec<Volume>,
-    pub packed: bool,
+    /// Index and content of each PPM or PPT.
+    pub packed: Vec<(u8, Vec<u8>)>,
 }
 
 impl Header {
@@ -271,7 +272,7 @@ impl Header {
                 self.shifts.insert(component, f.u8()?);
             }
             POC => self.volumes.extend(parse_volumes(f, components)?),
-            PPM | PPT => self.packed = true,
+            PPM | PPT => self.packed.push((f.u8()?, f.bytes.to_vec())),
             _ => {}
         }
         Some(())
@@ -286,6 +287,20 @@ impl Header {
         self.coding = Some(Coding::parse(f, flags & 1 != 0)?);
         Some(())
     }
+}
+
+/// The packet headers of each tile-part, from a main header's PPM segments; `None` if a length is wrong (A.7.4).
+pub fn packed_by_part(mut segments: Vec<(u8, Vec<u8>)>) -> Option<VecDeque<Vec<u8>>> {
+    segments.sort_by_key(|segment| segment.0);
+    let all: Vec<u8> = segments.into_iter().flat_map(|segment| segment.1).collect();
+    let mut f = Fields::new(&all);
+    let mut parts = VecDeque::new();
+    while !f.is_empty() {
+        let length = f.u32()? as usize;
+        parts.push_back(f.bytes.get(..length)?.to_vec());
+        f.bytes = &f.bytes[length..];
+    }
+    Some(parts)
 }
 
 /// Main header and tile header together: what the tile says goes first, and a component's own segment before the general one.
@@ -371,6 +386,13 @@ mod tests {
         assert_eq!(levels(&main, &tile), [3, 3, 3]);
         tile.own_coding.insert(2, coding(4));
         assert_eq!(levels(&main, &tile), [3, 3, 4]);
+    }
+
+    #[test]
+    fn packed_headers_by_hand() {
+        let segments = vec![(1, vec![0, 2, 7, 8]), (0, vec![0, 0, 0, 1, 9, 0, 0])];
+        assert_eq!(packed_by_part(segments), Some(VecDeque::from([vec![9], vec![7, 8]])));
+        assert_eq!(packed_by_part(vec![(0, vec![0, 0, 0, 2, 9])]), None);
     }
 
     #[test]

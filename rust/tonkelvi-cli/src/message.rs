@@ -26,7 +26,7 @@ pub enum Message {
     Left,
     /// A block has more zero planes than its band has planes.
     ZeroPlanes,
-    /// Packet headers are packed in PPM or PPT.
+    /// The packet headers packed in PPM or PPT end early.
     Packed,
     /// A tile has more precincts than are read here.
     TooMany,

@@ -3,7 +3,7 @@ use crate::geometry::{self, Resolution};
 use crate::markers::{self, Fields, General, Header, Rect, Settings, Size};
 use crate::message::Message;
 use crate::order::{Precinct, Turn, Turns};
-use std::collections::BTreeMap;
+use std::collections::{BTreeMap, VecDeque};
 use std::ops::Range;
 use tonkelvi::{Band, Block, Mark, Markers, Packet, Reader};
 
@@ -19,8 +19,10 @@ pub struct Seen<'a> {
     pub offset: usize,
     pub markers: Markers,
     pub packet: &'a Packet,
-    /// Markers, header and body.
+    /// Markers, header and body; without the header where it is packed.
     pub bytes: Range<usize>,
+    /// The header that PPM or PPT has, with EPH.
+    pub packed: Option<&'a [u8]>,
     pub message: Option<Message>,
 }
 
@@ -55,7 +57,8 @@ type Fault = (Message, usize);
 pub fn walk(file: &[u8], stream: Range<usize>, visitor: &mut dyn Visitor) {
     let base = stream.start;
     let data = &file[stream];
-    let mut walk = Walk { data, base, size: Size::default(), main: Header::default(), tiles: BTreeMap::new(), precincts: 0, visitor };
+    let (size, main, tiles) = (Size::default(), Header::default(), BTreeMap::new());
+    let mut walk = Walk { data, base, size, main, tiles, packed: None, precincts: 0, visitor };
     match walk.all() {
         Ok(end) => walk.say_absent_tiles(end),
         Err((message, at)) => walk.visitor.note(Note { tile: None, turn: None, offset: base + at, message }),
@@ -69,6 +72,8 @@ struct Walk<'a> {
     size: Size,
     main: Header,
     tiles: BTreeMap<u32, Tile>,
+    /// The packet headers of the tile-parts to come, if PPM is used.
+    packed: Option<VecDeque<Vec<u8>>>,
     /// Precincts of all tiles that were laid out.
     precincts: u64,
     visitor: &'a mut dyn Visitor,
@@ -78,6 +83,8 @@ struct Walk<'a> {
 #[derive(Default)]
 struct Tile {
     header: Header,
+    /// Packet headers of PPM or PPT, if used, that no packet has taken.
+    packed: Option<VecDeque<u8>>,
     started: Option<Started>,
     /// A packet could not be read, so that no later one has a known place.
     lost: bool,
@@ -91,6 +98,9 @@ impl Tile {
     fn take(&mut self, marker: u16, segment: &[u8], components: usize) -> Option<()> {
         let known = self.header.volumes.len();
         self.header.take(marker, segment, components)?;
+        for (_, headers) in std::mem::take(&mut self.header.packed) {
+            self.add_packed(headers);
+        }
         if self.header.volumes.len() > MOST_VOLUMES {
             return None;
         }
@@ -98,6 +108,10 @@ impl Tile {
             started.turns.add(&self.header.volumes[known..]);
         }
         Some(())
+    }
+
+    fn add_packed(&mut self, headers: Vec<u8>) {
+        self.packed.get_or_insert_with(VecDeque::new).extend(headers);
     }
 }
 
@@ -142,6 +156,10 @@ impl<'a> Walk<'a> {
     /// Reads headers and tile-parts; answers the place of EOC.
     fn all(&mut self) -> Result<usize, Fault> {
         let mut at = self.main_header()?;
+        if !self.main.packed.is_empty() {
+            let packed = markers::packed_by_part(std::mem::take(&mut self.main.packed));
+            self.packed = Some(packed.ok_or((Message::Damaged, at))?);
+        }
         loop {
             match self.u16_at(at)? {
                 markers::SOT => at = self.part(at)?,
@@ -175,6 +193,9 @@ impl<'a> Walk<'a> {
         let part = self.part_header(at)?;
         let (number, end, cut) = (part.tile, part.end, part.cut);
         let mut tile = self.tiles.remove(&number).unwrap_or_default();
+        if let Some(packed) = &mut self.packed {
+            tile.add_packed(packed.pop_front().unwrap_or_default());
+        }
         if !tile.lost {
             let read = self.packets(&mut tile, &part);
             if let Err(note) = read {
@@ -229,9 +250,6 @@ impl<'a> Walk<'a> {
         let settings = Settings { main: &self.main, tile: &tile.header };
         let base = self.base;
         let note = |message, at: usize| Note { tile: Some(part.tile), turn: None, offset: base + at, message };
-        if self.main.packed || tile.header.packed {
-            return Err(note(Message::Packed, part.body.start));
-        }
         if tile.started.is_none() {
             let most = geometry::MOST_PRECINCTS - self.precincts;
             let started = start(&self.size, &settings, part.tile, most).map_err(|message| note(message, part.body.start))?;
@@ -240,12 +258,12 @@ impl<'a> Walk<'a> {
         }
         let started = tile.started.as_mut().expect("set above");
         let mut at = part.body.start;
-        while at < part.body.end {
+        while at < part.body.end || tile.packed.as_ref().is_some_and(|packed| !packed.is_empty()) {
             let Some(turn) = started.turns.next() else { return Err(note(Message::Left, at)) };
             let precinct = started.turns.precincts()[turn.precinct];
             let refused = |message| Note { turn: Some((precinct, turn.layer)), ..note(message, at) };
-            let (packet, markers) = read(started, &settings, turn, &self.data[at..part.body.end]).map_err(refused)?;
-            let end = at as u64 + packet.taken as u64 + packet.body();
+            let read = read(started, &settings, turn, &self.data[at..part.body.end], &mut tile.packed).map_err(refused)?;
+            let end = at as u64 + read.before as u64 + read.packet.body();
             if end > part.body.end as u64 {
                 return Err(refused(if part.cut { Message::Cut } else { Message::BodyPast }));
             }
@@ -258,10 +276,11 @@ impl<'a> Walk<'a> {
                 place: turn.precinct,
                 count: started.count,
                 offset: base + at,
-                markers,
-                packet: &packet,
+                markers: read.markers,
+                packet: &read.packet,
                 bytes: base + at..base + end,
-                message: remark(&packet, bands),
+                packed: read.packed.as_deref(),
+                message: remark(&read.packet, bands),
             });
             started.count += 1;
             at = end;
@@ -332,8 +351,16 @@ fn precincts(components: &[Vec<Resolution>], area: Rect, size: &Size) -> Vec<Pre
     list
 }
 
-/// Reads the packet whose turn it is from the front of `src`.
-fn read(started: &mut Started, settings: &Settings, turn: Turn, src: &[u8]) -> Result<(Packet, Markers), Message> {
+/// A packet that was read, and how many bytes stand before its body.
+struct Read {
+    packet: Packet,
+    markers: Markers,
+    before: usize,
+    packed: Option<Vec<u8>>,
+}
+
+/// Reads the packet whose turn it is from the front of `src`, its header from `packed` where that is used.
+fn read(started: &mut Started, settings: &Settings, turn: Turn, src: &[u8], packed: &mut Option<VecDeque<u8>>) -> Result<Read, Message> {
     let precinct = started.turns.precincts()[turn.precinct];
     let opened = match &mut started.opened[turn.precinct] {
         Some(opened) => opened,
@@ -343,8 +370,27 @@ fn read(started: &mut Started, settings: &Settings, turn: Turn, src: &[u8]) -> R
         }
     };
     let markers = Markers { sop: started.general.sop, eph: started.general.eph };
-    let packet = opened.reader.read(src, markers).map_err(Message::Refused)?;
-    Ok((packet, markers))
+    match packed {
+        Some(packed) => read_packed(&mut opened.reader, markers, src, packed),
+        None => {
+            let packet = opened.reader.read(src, markers).map_err(Message::Refused)?;
+            Ok(Read { before: packet.taken, packet, markers, packed: None })
+        }
+    }
+}
+
+/// Reads a header from `packed` and takes it away; SOP, if used, stands before the body in `src`.
+fn read_packed(reader: &mut Reader, markers: Markers, src: &[u8], packed: &mut VecDeque<u8>) -> Result<Read, Message> {
+    if packed.is_empty() {
+        return Err(Message::Packed);
+    }
+    let mut packet = reader.read(packed.make_contiguous(), Markers { sop: false, eph: markers.eph }).map_err(Message::Refused)?;
+    let header = packed.drain(..packet.taken).collect();
+    let has_sop = markers.sop && src.len() >= 6 && src.starts_with(&[0xff, 0x91]);
+    if markers.sop && !has_sop {
+        packet.sop = Mark::NotFound;
+    }
+    Ok(Read { before: if has_sop { 6 } else { 0 }, packet, markers, packed: Some(header) })
 }
 
 fn open(settings: &Settings, precinct: Precinct, resolution: &Resolution) -> Result<Opened, Message> {

@@ -23,6 +23,7 @@ fn whole() -> Vec<(PathBuf, Vec<u8>)> {
 #[derive(Default)]
 struct Found {
     packets: Vec<std::ops::Range<usize>>,
+    headers: Vec<usize>,
     notes: Vec<Note>,
     messages: Vec<Message>,
 }
@@ -30,6 +31,7 @@ struct Found {
 impl Visitor for Found {
     fn packet(&mut self, seen: &Seen) {
         self.packets.push(seen.bytes.clone());
+        self.headers.push(seen.packet.taken);
         self.messages.extend(seen.message);
     }
 
@@ -234,4 +236,57 @@ fn several_codestreams_in_boxes() {
     let (one, two) = (found(&file), found(&boxed));
     assert!(two.notes.is_empty());
     assert_eq!(two.packets.len(), 2 * one.packets.len());
+}
+
+/// A codestream whose packets have SOP, with the headers moved to PPM, or else to PPT.
+fn packed(file: &[u8], in_main: bool) -> Vec<u8> {
+    let found = found(file);
+    let mut packets = found.packets.iter().zip(&found.headers).peekable();
+    let first = file.windows(4).position(|four| four == [0xff, 0x90, 0, 10]).unwrap();
+    let (mut main, mut parts, mut at) = (Vec::new(), Vec::new(), first);
+    for part in tile_parts(file) {
+        let (mut headers, mut bodies) = (Vec::new(), Vec::new());
+        while let Some((packet, header)) = packets.next_if(|(packet, _)| packet.start < part.end) {
+            headers.extend(&file[packet.start + 6..packet.start + header]);
+            bodies.extend(&file[packet.start..packet.start + 6]);
+            bodies.extend(&file[packet.start + header..packet.end]);
+        }
+        let mut head = file[at..part.start - 2].to_vec();
+        if in_main {
+            main.extend((headers.len() as u32).to_be_bytes());
+            main.extend(headers);
+        } else {
+            for (index, some) in headers.chunks(200).enumerate() {
+                head.extend(marked(0x61, &[&[index as u8], some].concat()));
+            }
+        }
+        let length = (head.len() + 2 + bodies.len()) as u32;
+        head[6..10].copy_from_slice(&length.to_be_bytes());
+        parts.extend([&head[..], &[0xff, 0x93], &bodies].concat());
+        at = part.end;
+    }
+    let segments = main.chunks(200).enumerate().flat_map(|(index, some)| marked(0x60, &[&[index as u8], some].concat()));
+    [&file[..first], &segments.collect::<Vec<u8>>(), &parts, &file[at..]].concat()
+}
+
+#[test]
+fn packed_headers() {
+    let english = Catalogue::of("en").unwrap();
+    for name in ["openjpeg_RPCL.j2k", "grok_LRCP.j2k", "ffmpeg_cprl.j2k"] {
+        let file = std::fs::read(Path::new(env!("CARGO_MANIFEST_DIR")).join("tests/drawings").join(name)).unwrap();
+        for in_main in [true, false] {
+            let packed = packed(&file, in_main);
+            let (before, after) = (found(&file), found(&packed));
+            assert!(after.notes.is_empty() && after.messages.is_empty(), "{name} {in_main} {:?} {:?}", after.notes, after.messages);
+            let headers: Vec<usize> = before.headers.iter().map(|header| header - 6).collect();
+            assert_eq!(after.headers, headers, "{name} {in_main}");
+            let check = Check::of(name, Form::Csv, &english, Some(&packed));
+            assert_eq!((check.whole, check.same + check.single_bits), (true, check.packets), "{name} {in_main}");
+            for place in (0..packed.len()).step_by(37) {
+                let mut damaged = packed.clone();
+                damaged[place] ^= 0x11;
+                Check::of(name, Form::Csv, &english, Some(&damaged));
+            }
+        }
+    }
 }
