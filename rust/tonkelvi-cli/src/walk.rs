@@ -247,46 +247,58 @@ impl<'a> Walk<'a> {
 
     /// Reads the packets of one tile-part.
     fn packets(&mut self, tile: &mut Tile, part: &Part) -> Result<(), Note> {
-        let settings = Settings { main: &self.main, tile: &tile.header };
-        let base = self.base;
-        let note = |message, at: usize| Note { tile: Some(part.tile), turn: None, offset: base + at, message };
-        if tile.started.is_none() {
-            let most = geometry::MOST_PRECINCTS - self.precincts;
-            let started = start(&self.size, &settings, part.tile, most).map_err(|message| note(message, part.body.start))?;
-            self.precincts += started.opened.len() as u64;
-            tile.started = Some(started);
-        }
-        let started = tile.started.as_mut().expect("set above");
         let mut at = part.body.start;
-        while at < part.body.end || tile.packed.as_ref().is_some_and(|packed| !packed.is_empty()) {
-            let Some(turn) = started.turns.next() else { return Err(note(Message::Left, at)) };
-            let precinct = started.turns.precincts()[turn.precinct];
-            let refused = |message| Note { turn: Some((precinct, turn.layer)), ..note(message, at) };
-            let read = read(started, &settings, turn, &self.data[at..part.body.end], &mut tile.packed).map_err(refused)?;
-            let end = at as u64 + read.before as u64 + read.packet.body();
-            if end > part.body.end as u64 {
-                return Err(refused(if part.cut { Message::Cut } else { Message::BodyPast }));
-            }
-            let end = end as usize;
-            let bands = &started.opened[turn.precinct].as_ref().expect("read above").bands;
-            self.visitor.packet(&Seen {
-                tile: part.tile,
-                layer: turn.layer,
-                precinct,
-                place: turn.precinct,
-                count: started.count,
-                offset: base + at,
-                markers: read.markers,
-                packet: &read.packet,
-                bytes: base + at..base + end,
-                packed: read.packed.as_deref(),
-                message: remark(&read.packet, bands),
-            });
-            started.count += 1;
-            at = end;
+        if tile.started.is_none() {
+            tile.started = Some(self.lay_out(tile, part.tile).map_err(|message| self.note_at(part, at, message))?);
         }
-        started.end = at;
+        while at < part.body.end || tile.packed.as_ref().is_some_and(|packed| !packed.is_empty()) {
+            at = self.packet(tile, part, at)?;
+        }
+        if let Some(started) = &mut tile.started {
+            started.end = at;
+        }
         Ok(())
+    }
+
+    fn note_at(&self, part: &Part, at: usize, message: Message) -> Note {
+        Note { tile: Some(part.tile), turn: None, offset: self.base + at, message }
+    }
+
+    fn lay_out(&mut self, tile: &Tile, number: u32) -> Result<Started, Message> {
+        let settings = Settings { main: &self.main, tile: &tile.header };
+        let started = start(&self.size, &settings, number, geometry::MOST_PRECINCTS - self.precincts)?;
+        self.precincts += started.opened.len() as u64;
+        Ok(started)
+    }
+
+    /// Reads the packet at `at`; answers the place behind it.
+    fn packet(&mut self, tile: &mut Tile, part: &Part, at: usize) -> Result<usize, Note> {
+        let settings = Settings { main: &self.main, tile: &tile.header };
+        let started = tile.started.as_mut().expect("laid out before");
+        let turn = started.turns.next().ok_or_else(|| self.note_at(part, at, Message::Left))?;
+        let precinct = started.turns.precincts()[turn.precinct];
+        let refused = |message| Note { turn: Some((precinct, turn.layer)), ..self.note_at(part, at, message) };
+        let read = read(started, &settings, turn, &self.data[at..part.body.end], &mut tile.packed).map_err(refused)?;
+        let end = at as u64 + read.before as u64 + read.packet.body();
+        if end > part.body.end as u64 {
+            return Err(refused(if part.cut { Message::Cut } else { Message::BodyPast }));
+        }
+        let bands = &started.opened[turn.precinct].as_ref().expect("read above").bands;
+        self.visitor.packet(&Seen {
+            tile: part.tile,
+            layer: turn.layer,
+            precinct,
+            place: turn.precinct,
+            count: started.count,
+            offset: self.base + at,
+            markers: read.markers,
+            packet: &read.packet,
+            bytes: self.base + at..self.base + end as usize,
+            packed: read.packed.as_deref(),
+            message: remark(&read.packet, bands),
+        });
+        started.count += 1;
+        Ok(end as usize)
     }
 
     /// Says which tiles have no tile-part, with one note for all that follow each other.
