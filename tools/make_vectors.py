@@ -392,7 +392,7 @@ def bits(text):
 
 
 def published_list(model, oracle):
-    calls = Calls("published", "Worked packet headers of T.800: the tag tree of B.10.2, the two packets of B.10.8, the two of the codestream in J.10.1", model)
+    calls = Calls("published", "Worked packet headers recalled from T.800, not looked up, and so read and written by the crate: a tag tree (B.10.2), two packets (B.10.8), two of a codestream (J.10.1)", model)
     w = Asked(calls, oracle)
     # B.10.8: zero planes 3 4 7 / 3 3 6; its first packet spends one length bit more than it must, so that it is read and not written
     band, planes = [(3, 2, 10)], [7, 6, 3, 7, 7, 4]

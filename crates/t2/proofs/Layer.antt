@@ -1,24 +1,24 @@
 -- One layer written and read back, from the round trip of the calls.
 use mathlib.Core.Path.{_≡_, refl, sym, ap, _∙_, subst}
 use mathlib.Core.Logic.{_≢_}
-use mathlib.Core.Bool.{Bool, true, false, cond, _&&_}
+use mathlib.Core.Bool.{Bool, true, false, not, _&&_}
 use mathlib.Core.List.{List, [], _∷_}
 use Prim.Native.Nat.{ℕ, zero, suc, _-_, _*_, _≤_}
 use lib.ListN.{length, take}
 use lib.Dec.{T, eqb}
-use borrow.Author.Tests.{eq-eqb}
+use borrow.Author.Tests.{eq-eqb, ne-eqb}
 use Rattle.t800.specs.declared.ReadAnswer.{ReadAnswer}
 use Rattle.t800.specs.Base.{sum}
 use Rattle.t800.specs.State.{writer, reader}
 use Rattle.t800.specs.Start.{StartResult, start}
-use Rattle.t800.specs.Packet.{WriteResult, write, ReadResult, read}
+use Rattle.t800.specs.Packet.{WriteResult, write, ReadResult, refusedAnswer, read}
 use Rattle.t800.specs.Book.{BlockEntry, newBook, terminatedAsStyle}
 use Rattle.t800.specs.RoundTrip.{WriteCall, writeOf, Owed}
 use Rattle.t800.specs.RoundTrip as defs
-use Rattle.t800.proofs.Laws.Tests.{if-true}
+use Rattle.t800.proofs.Laws.Tests.{if-true, if-false}
 use Rattle.t800.proofs.Trip.Calls.{is-accepted}
-use Rattle.t2.specs.Calls.{Started, Written, WasRead, WriterMade, written, Follows, wasAccepted, owedFor, owedOf, allTerminated, packetMade, ReadAsOwed, RoundTripOfCalls}
-use Rattle.t2.specs.Layer.{FirstLayer, Lent, startOf, writeOfLayer, GivesEntry}
+use Rattle.t2.specs.Calls.{Started, Written, WasRead, written, Follows, wasAccepted, owedFor, owedOf, allTerminated, packetMade, ReadAsOwed, RoundTripOfCalls}
+use Rattle.t2.specs.Layer.{FirstLayer, Lent, startOf, writeOfLayer, layerResult, layerBy, writeAndRead, GivesEntry}
 use Rattle.t2.proofs.RoundTrip.{round-trip-of-calls}
 
 one-owed : (style : ℕ) (book : List BlockEntry) (w : Written) → wasAccepted w ≡ true → owedOf style book (written w ∷ []) ≡ owedFor style book w ∷ []
@@ -108,3 +108,49 @@ module _ (l : FirstLayer) (b : Lent) (answer : ReadAnswer) (reports records : Li
       → p ≡ write (s .state) (b .scratch) (l .contribution) (l .body) (l .markers) (l .number) (b .output) → p .answer .refusal ≢ 0 → GivesEntry l b answer reports records
   packet-refused s p e f n h =
       absurd (n (ap (λ (z : WriteResult). z .answer .refusal) f ∙ ap (λ (z : StartResult). write (z .state) (b .scratch) (l .contribution) (l .body) (l .markers) (l .number) (b .output) .answer .refusal) e ∙ h .accepted))
+
+-- ---- all that the calls leave
+
+module _ (l : FirstLayer) (b : Lent) (s : StartResult) (sm : s ≡ start writer (l .count) (l .bands) (l .style) (l .planes) (b .writer)) where
+  abbrev readerStart : StartResult
+  readerStart = start reader (l .count) (l .bands) (l .style) [] (b .reader)
+
+  abbrev packetFrom : StartResult → WriteResult
+  packetFrom z = write (z .state) (b .scratch) (l .contribution) (l .body) (l .markers) (l .number) (b .output)
+
+  abbrev readFrom : StartResult → WriteResult → ReadResult
+  readFrom t p = read (t .state) (p .scratch) (l .markers) (p .output) (b .reports) (b .records)
+
+  by-results : (t : StartResult) (p : WriteResult) (q : ReadResult) → t ≡ readerStart → p ≡ packetFrom s → q ≡ readFrom t p → layerBy b s t p q ≡ writeAndRead l b
+  unfolding writeAndRead
+  by-results t p q tm pm qm =
+      let whole : p ≡ writeOfLayer l b = pm ∙ ap packetFrom sm in
+      λ i. layerBy b (sm i) (tm i) (whole i) ((qm ∙ (λ j. readFrom (tm j) (whole j))) i)
+
+  pub ends-at-writer : (a : ReadAnswer) → a ≡ refusedAnswer (s .answer) → s .answer ≢ 0 → layerResult a (s .state) (b .reader) (b .scratch) (b .output) (b .reports) (b .records) ≡ writeAndRead l b
+  unfolding layerBy
+  ends-at-writer a e n =
+      ap (λ (z : ReadAnswer). layerResult z (s .state) (b .reader) (b .scratch) (b .output) (b .reports) (b .records)) e
+      ∙ sym (if-true (not (eqb (s .answer) 0)) _ _ (ap not (ne-eqb (s .answer) 0 n))) ∙ by-results readerStart (packetFrom s) (readFrom readerStart (packetFrom s)) refl refl refl
+
+  module _ (z : s .answer ≡ 0) (t : StartResult) (tm : t ≡ readerStart) where
+    pub ends-at-reader : (a : ReadAnswer) → a ≡ refusedAnswer (t .answer) → t .answer ≢ 0 → layerResult a (s .state) (t .state) (b .scratch) (b .output) (b .reports) (b .records) ≡ writeAndRead l b
+    unfolding layerBy
+    ends-at-reader a e n =
+        ap (λ (x : ReadAnswer). layerResult x (s .state) (t .state) (b .scratch) (b .output) (b .reports) (b .records)) e
+        ∙ sym (if-false (not (eqb (s .answer) 0)) _ _ (ap not (eq-eqb (s .answer) 0 z)) ∙ if-true (not (eqb (t .answer) 0)) _ _ (ap not (ne-eqb (t .answer) 0 n)))
+        ∙ by-results t (packetFrom s) (readFrom t (packetFrom s)) tm refl refl
+
+    module _ (y : t .answer ≡ 0) (p : WriteResult) (pm : p ≡ packetFrom s) where
+      pub ends-at-packet : (a : ReadAnswer) → a ≡ refusedAnswer (p .answer .refusal) → p .answer .refusal ≢ 0 → layerResult a (p .state) (t .state) (p .scratch) (p .output) (b .reports) (b .records) ≡ writeAndRead l b
+      unfolding layerBy
+      ends-at-packet a e n =
+          ap (λ (x : ReadAnswer). layerResult x (p .state) (t .state) (p .scratch) (p .output) (b .reports) (b .records)) e
+          ∙ sym (if-false (not (eqb (s .answer) 0)) _ _ (ap not (eq-eqb (s .answer) 0 z)) ∙ if-false (not (eqb (t .answer) 0)) _ _ (ap not (eq-eqb (t .answer) 0 y)) ∙ if-true (not (eqb (p .answer .refusal) 0)) _ _ (ap not (ne-eqb (p .answer .refusal) 0 n)))
+          ∙ by-results t p (readFrom t p) tm pm refl
+
+      pub ends-read : (q : ReadResult) → q ≡ readFrom t p → p .answer .refusal ≡ 0 → layerResult (q .answer) (p .state) (q .state) (q .scratch) (p .output) (q .reports) (q .records) ≡ writeAndRead l b
+      unfolding layerBy
+      ends-read q qm x =
+          sym (if-false (not (eqb (s .answer) 0)) _ _ (ap not (eq-eqb (s .answer) 0 z)) ∙ if-false (not (eqb (t .answer) 0)) _ _ (ap not (eq-eqb (t .answer) 0 y)) ∙ if-false (not (eqb (p .answer .refusal) 0)) _ _ (ap not (eq-eqb (p .answer .refusal) 0 x)))
+          ∙ by-results t p q tm pm qm

@@ -1,19 +1,18 @@
 -- Demand 1 of the calls, from their contracts.
 use mathlib.Core.Path.{_≡_, refl, sym, ap, _∙_, subst}
 use mathlib.Core.Logic.{_≢_}
-use mathlib.Core.Bool.{Bool, true, false, cond, not, _&&_, _||_, true≢false}
+use mathlib.Core.Bool.{Bool, true, false, cond, not, _&&_, _||_}
 use mathlib.Core.List.{List, [], _∷_, _++_, reverse}
-use Prim.Native.Nat.{ℕ, zero, suc, _+_, _-_, _*_, _/_, _≤_, _<_}
+use Prim.Native.Nat.{ℕ, zero, suc, _+_, _-_, _*_, _/_, _≤_}
 use native.Mathlib.Omega.{arith}
-use lib.ListN.{length, take, set}
+use lib.ListN.{length}
 use lib.Dec.{ltb, leb, eqb}
-use borrow.Author.Tests.{eq-eqb, ne-eqb, eqb-true, eqb-false}
+use borrow.Author.Tests.{ne-eqb, eqb-true}
 use Rattle.t800.specs.declared.Bio.{Bio}
 use Rattle.t800.specs.Bits.{Decoded, bioAt, getBit, endsInFF}
 use Rattle.t800.specs.State.{Block, reader, notYetIncluded, layer, bands, blocks, lengthBits}
 use Rattle.t800.specs.Ranges.{validState}
-use Rattle.t800.specs.Segments.{width, readComma}
-use Rattle.t800.specs.PassCount.{readPasses}
+use Rattle.t800.specs.Segments.{width}
 use Rattle.t800.specs.TagTree.{PathRead, value, readPath}
 use Rattle.t800.specs.Reports.{absent}
 use Rattle.t800.specs.Start.{StartResult, startRefusal, start}
@@ -21,7 +20,7 @@ use Rattle.t800.specs.MarkerSegments.{readSop}
 use Rattle.t800.specs.ReadHeader.{HeaderRead, refused, movedTo, withReport, readSegment, readSegments, readIncluded, readNewBlock, readOldBlock, readBlock, readBlocks, readHeader, passesTaken}
 use Rattle.t800.specs.WriteHeader.{isNew}
 use Rattle.t800.specs.Packet.{MeasureResult, measureRefusal, measure, WriteResult, writeRefusal, write, ReadResult, readRefusal, readAbsent, readPresent, read}
-use Rattle.t800.specs.RoundTrip.{WriteCall, writeOf, ReadCall, readOf}
+use Rattle.t800.specs.RoundTrip.{WriteCall, ReadCall}
 use Rattle.t800.proofs.Laws.Tests.{if-true, if-false, if-eq, if-ne, either, on-eq}
 use Rattle.t2.specs.Calls.{Started, Measured, Written, WasRead}
 use Rattle.t2.specs.Numbers.{Check, check, startChecks, measureChecks, bodyChecks, writeChecks, readChecks, NoneHolds, NumberIs, NumbersOfCalls}

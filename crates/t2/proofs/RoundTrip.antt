@@ -1,9 +1,9 @@
 -- Demand 3 of the calls, from the round trip of the definitions: what a call that meets its contract leaves is what its definition gives.
 use mathlib.Core.Path.{_≡_, refl, sym, ap, _∙_, subst}
-use mathlib.Core.Bool.{Bool, cond, _&&_}
-use mathlib.Core.List.{List, [], _∷_, _++_}
+use mathlib.Core.Bool.{cond, _&&_}
+use mathlib.Core.List.{List, [], _∷_}
 use Prim.Native.Nat.{ℕ, _-_, _<_}
-use lib.ListN.{length, take}
+use lib.ListN.{take}
 use lib.Dec.{T, eqb}
 use Rattle.t800.specs.Base.{sum}
 use Rattle.t800.specs.State.{writer, reader}
@@ -11,9 +11,9 @@ use Rattle.t800.specs.Start.{StartResult, start}
 use Rattle.t800.specs.Packet.{WriteResult, ReadResult}
 use Rattle.t800.specs.Book.{BlockEntry, newBook, entry, addCounts, terminatedAsStyle}
 use Rattle.t800.specs.RoundTrip as defs
-use Rattle.t800.specs.RoundTrip.{WriterCall, measuring, writing, writeOf, ReaderCall, refusedRead, packetRead, ReadCall, readOf, withMore, Owed, ReadsPacket, GivesEntry, owed, allTerminatedAsStyle, ReadsAsOwed, RoundTrip}
+use Rattle.t800.specs.RoundTrip.{WriterCall, measuring, writing, writeOf, ReaderCall, refusedRead, packetRead, readOf, Owed, GivesEntry, owed, allTerminatedAsStyle, ReadsAsOwed, RoundTrip}
 use Rattle.t800.proofs.Trip.RoundTrip.{round-trip}
-use Rattle.t2.specs.Calls.{Started, Measured, Written, WasRead, WriterMade, measured, written, Follows, wasAccepted, owedFor, owedOf, allTerminated, ReaderMade, refusedMade, packetMade, ReadAsOwed, RoundTripOfCalls}
+use Rattle.t2.specs.Calls.{Written, WasRead, WriterMade, measured, written, Follows, owedFor, owedOf, allTerminated, ReaderMade, refusedMade, packetMade, ReadAsOwed, RoundTripOfCalls}
 
 -- ---- the writer's calls
 

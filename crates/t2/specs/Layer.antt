@@ -1,18 +1,19 @@
 -- One layer written and read back: what the book owes for it (document 01, "The round trip").
 use mathlib.Core.Path.{_≡_}
 use Prim.Native.Nat.{ℕ, _*_, _≤_}
+use mathlib.Core.Bool.{cond, not}
 use mathlib.Core.List.{List, []}
 use lib.ListN.{length, take}
-use lib.Dec.{T}
+use lib.Dec.{T, eqb}
 use Rattle.t800.specs.declared.Band.{Band}
 use Rattle.t800.specs.declared.Markers.{Markers}
 use Rattle.t800.specs.declared.ReadAnswer.{ReadAnswer}
 use Rattle.t800.specs.Base.{overwrite}
 use Rattle.t800.specs.State.{writer, reader}
-use Rattle.t800.specs.Start.{start}
+use Rattle.t800.specs.Start.{StartResult, start}
 use Rattle.t800.specs.Reports.{reportWords, recordWords}
 use Rattle.t800.specs.WriteHeader.{Contribution}
-use Rattle.t800.specs.Packet.{front, WriteResult, write}
+use Rattle.t800.specs.Packet.{front, WriteResult, write, ReadResult, refusedAnswer, read}
 use Rattle.t800.specs.Book.{Entry, newBook, entry, terminatedAsStyle}
 
 -- what a precinct is started with, and what its first layer brings
@@ -51,6 +52,34 @@ startOf l b = start writer (l .count) (l .bands) (l .style) (l .planes) (b .writ
 
 abbrev pub writeOfLayer : FirstLayer → Lent → WriteResult
 writeOfLayer l b = write (startOf l b) (b .scratch) (l .contribution) (l .body) (l .markers) (l .number) (b .output)
+
+-- what the four calls leave
+pub record LayerResult : Type 0 where
+  pub answer : ReadAnswer
+  pub writer : List ℕ
+  pub reader : List ℕ
+  pub scratch : List ℕ
+  pub output : List ℕ
+  pub reports : List ℕ
+  pub records : List ℕ
+
+abbrev pub layerResult : ReadAnswer → List ℕ → List ℕ → List ℕ → List ℕ → List ℕ → List ℕ → LayerResult
+layerResult answer w r scratch output reports records = record { answer = answer; writer = w; reader = r; scratch = scratch; output = output; reports = reports; records = records }
+
+-- by the results of both starts, the write and the read: the first that is refused ends it, with its number
+unfoldable pub layerBy : Lent → StartResult → StartResult → WriteResult → ReadResult → LayerResult
+layerBy b s t p q =
+    cond (not (eqb (s .answer) 0)) (layerResult (refusedAnswer (s .answer)) (s .state) (b .reader) (b .scratch) (b .output) (b .reports) (b .records))
+    (cond (not (eqb (t .answer) 0)) (layerResult (refusedAnswer (t .answer)) (s .state) (t .state) (b .scratch) (b .output) (b .reports) (b .records))
+    (cond (not (eqb (p .answer .refusal) 0)) (layerResult (refusedAnswer (p .answer .refusal)) (p .state) (t .state) (p .scratch) (p .output) (b .reports) (b .records))
+    (layerResult (q .answer) (p .state) (q .state) (q .scratch) (p .output) (q .reports) (q .records))))
+
+unfoldable pub writeAndRead : FirstLayer → Lent → LayerResult
+writeAndRead l b =
+    let s = start writer (l .count) (l .bands) (l .style) (l .planes) (b .writer) in
+    let t = start reader (l .count) (l .bands) (l .style) [] (b .reader) in
+    let p = write (s .state) (b .scratch) (l .contribution) (l .body) (l .markers) (l .number) (b .output) in
+    layerBy b s t p (read (t .state) (p .scratch) (l .markers) (p .output) (b .reports) (b .records))
 
 -- nothing refuses the starts and the packet, and the premises of the round trip hold
 pub record Premises (l : FirstLayer) (b : Lent) : Type 0 where

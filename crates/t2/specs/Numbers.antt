@@ -6,14 +6,12 @@ use mathlib.Core.Bool.{Bool, true, false, cond, not, _&&_, _||_}
 use mathlib.Core.List.{List, [], _∷_, _++_}
 use lib.ListN.{length, take}
 use lib.Dec.{ltb, eqb}
-use Rattle.t800.specs.declared.Band.{Band}
-use Rattle.t800.specs.declared.Markers.{Markers}
 use Rattle.t800.specs.Base.{any, sum}
 use Rattle.t800.specs.Bits.{bioAt, getBit}
 use Rattle.t800.specs.State.{notYetIncluded, writer, reader, blocks, bands, layer, stateLength}
 use Rattle.t800.specs.Ranges.{badShape, badStyle, bandTooDeep, blockTooDeep, validState}
 use Rattle.t800.specs.MarkerSegments.{readSop}
-use Rattle.t800.specs.WriteHeader.{Contribution, segmentTooLong, fieldTooWide}
+use Rattle.t800.specs.WriteHeader.{segmentTooLong, fieldTooWide}
 use Rattle.t800.specs.ReadHeader.{readHeader}
 use Rattle.t800.specs.Packet.{wrongLists, packet}
 use Rattle.t800.specs.RoundTrip.{WriteCall, ReadCall}

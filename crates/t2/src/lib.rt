@@ -12,7 +12,7 @@ ghost use Rattle.t800.specs.Packet.{measure, write, read, refusedAnswer};
 ghost use Rattle.t2check.specs.Refusals.{contribution, measureRefusalFor};
 ghost use Rattle.t2encheader.specs.Header.{headerCoded};
 ghost use Rattle.t2.specs.Front.{bytesPut, putBytes, putFront};
-ghost use Rattle.t2.specs.Layer.{firstLayer, lent, GivesEntry};
+ghost use Rattle.t2.specs.Layer.{firstLayer, lent, layerResult, writeAndRead, GivesEntry};
 use t800::Band;
 use t800::Markers;
 use t800::MeasureAnswer;
@@ -234,7 +234,7 @@ pub fn write_and_read(
     reports: &mut [u32],
     records: &mut [u32],
 ) -> ReadAnswer
-    ensures { λ r. ⌜ GivesEntry (firstLayer count bands style (now (planes .entry)) (contribution (now (counts .entry)) (now (lengths .entry)) (now (marks .entry))) (now (body .entry)) markers number) (lent (now (writer .entry)) (now (reader .entry)) (now (scratch .entry)) (now (output .entry)) (now (reports .entry)) (now (records .entry))) r (now (reports .exit)) (now (records .exit)) ⌝ }
+    ensures { λ r. ⌜ (layerResult r (now (writer .exit)) (now (reader .exit)) (now (scratch .exit)) (now (output .exit)) (now (reports .exit)) (now (records .exit)) ≡ writeAndRead (firstLayer count bands style (now (planes .entry)) (contribution (now (counts .entry)) (now (lengths .entry)) (now (marks .entry))) (now (body .entry)) markers number) (lent (now (writer .entry)) (now (reader .entry)) (now (scratch .entry)) (now (output .entry)) (now (reports .entry)) (now (records .entry)))) × GivesEntry (firstLayer count bands style (now (planes .entry)) (contribution (now (counts .entry)) (now (lengths .entry)) (now (marks .entry))) (now (body .entry)) markers number) (lent (now (writer .entry)) (now (reader .entry)) (now (scratch .entry)) (now (output .entry)) (now (reports .entry)) (now (records .entry))) r (now (reports .exit)) (now (records .exit)) ⌝ }
 {
     let first = start_writer(count, bands, style, planes, writer);
     if first != 0 {

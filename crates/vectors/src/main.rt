@@ -1057,7 +1057,11 @@ fn main() {
         none,
         hand_score(),
     );
-    let published = group(b"worked headers of T.800", hand, published_score());
+    let published = group(
+        b"worked headers as recalled from T.800",
+        hand,
+        published_score(),
+    );
     let writes = group(b"writes", published, writes_score());
     let loaded = group(b"writes from loaded states", writes, loaded_score());
     let reads = group(b"reads", loaded, reads_score());

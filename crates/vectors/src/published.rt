@@ -1,4 +1,4 @@
-// Worked packet headers of T.800: the tag tree of B.10.2, the two packets of B.10.8, the two of the codestream in J.10.1. Written by tools/make_vectors.py; its head says how a list is read.
+// Worked packet headers recalled from T.800, not looked up, and so read and written by the crate: a tag tree (B.10.2), two packets (B.10.8), two of a codestream (J.10.1). Written by tools/make_vectors.py; its head says how a list is read.
 pub const PUBLISHED: [u32; 214] = [
     0x02011414,
     0x0a020301,

@@ -1,17 +1,15 @@
 -- The answers of measuring and writing: what each refusal and what success leaves.
-use mathlib.Core.Path.{_≡_, refl, sym, ap, _∙_, subst}
+use mathlib.Core.Path.{_≡_, sym, ap, _∙_}
 use mathlib.Core.Logic.{_≢_}
-use mathlib.Core.Bool.{Bool, true, false, cond, not, _||_}
+use mathlib.Core.Bool.{Bool, true, false, cond, not}
 use mathlib.Core.List.{List, _++_}
-use Prim.Native.Nat.{ℕ, zero, _+_, _≤_, _<_}
+use Prim.Native.Nat.{ℕ, _+_, _≤_}
 use native.Mathlib.Omega.{arith}
 use lib.ListN.{length, drop, replicate, length-append}
 use lib.Seq.{sets, sets-eq}
 use lib.Dec.{eqb, ltb, leb}
 use borrow.Author.Tests.{eq-eqb, ne-eqb, lt-ltb, le-ltb, leb-true, leb-false, not-true, not-false}
 use Rattle.t800.specs.declared.Markers.{Markers}
-use Rattle.t800.specs.declared.MeasureAnswer.{MeasureAnswer}
-use Rattle.t800.specs.declared.WriteAnswer.{WriteAnswer}
 use Rattle.t800.specs.Base.{any, sum, overwrite, wiped}
 use Rattle.t800.specs.State.{writer, notYetIncluded, blocks, bands, layer}
 use Rattle.t800.specs.Ranges.{validState}
@@ -22,7 +20,7 @@ use Rattle.t2check.specs.Refusals.{measureRefusalFor}
 use Rattle.tcdstate.proofs.Laws.ValidStates.{valid-state}
 use Rattle.t2check.proofs.Laws.NotRefused.{NotRefused, not-refused-for}
 use Rattle.t2check.proofs.Laws.ScratchLength.{refusal-by-scratch-length}
-use Rattle.t2encheader.specs.Header.{HeaderCoded, headerCoded}
+use Rattle.t2encheader.specs.Header.{HeaderCoded}
 use Rattle.t2.specs.Front.{BytesPut, bytesPut, putBytes, putFront}
 use Rattle.t2.proofs.Laws.Front.{put-append}
 

@@ -1,8 +1,8 @@
 -- `t2::has_room` meets its contract.
-use mathlib.Core.Path.{_≡_, sym, _∙_}
-use Prim.Native.Nat.{ℕ, _+_, _-_, _≤_}
+use mathlib.Core.Path.{sym}
+use Prim.Native.Nat.{_+_, _-_}
 use native.Mathlib.Omega.{arith}
-use borrow.Author.Tests.{le-leb, lt-leb}
+use borrow.Author.Tests.{lt-leb}
 use Rattle.t2.proofs.Laws.Front.{room-behind}
 use Rattle.t2.proofs.has_room.Statement.{statement}
 use Rattle.t2.proofs.has_room.Tie as tie

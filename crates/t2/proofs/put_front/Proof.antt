@@ -1,12 +1,9 @@
 -- `t2::put_front` meets its contract.
-use mathlib.Core.Path.{_≡_, ap, _∙_}
-use mathlib.Core.Bool.{cond}
-use mathlib.Core.List.{[]}
-use Prim.Native.Nat.{ℕ, _≤_}
+use mathlib.Core.Path.{ap}
+use Prim.Native.Nat.{_≤_}
 use native.Mathlib.Omega.{arith}
 use lib.ListN.{length}
 use borrow.Author.Needs.{needs}
-use Rattle.t800.specs.MarkerSegments.{sopBytes}
 use Rattle.t2check.specs.Refusals.{contribution}
 use Rattle.t2check.proofs.Laws.NotRefused.{not-refused-for}
 use Rattle.t2.specs.Front.{BytesPut}

@@ -1,15 +1,12 @@
 -- `t2::put_sop` meets its contract.
-use mathlib.Core.Path.{_≡_, refl, sym, ap, _∙_}
-use mathlib.Core.Bool.{cond, not}
-use mathlib.Core.List.{List, [], _∷_}
-use Prim.Native.Nat.{ℕ, _/_, _%_}
+use mathlib.Core.Path.{refl, ap, _∙_}
+use mathlib.Core.List.{List}
+use Prim.Native.Nat.{ℕ, _/_}
 use native.Mathlib.Omega.{arith}
-use lib.Bits.{bitAnd, and-mask}
+use lib.Bits.{and-mask}
 use lib.ListN.{set}
-use lib.Seq.{sets}
 use borrow.Author.Needs.{needs}
 use Rattle.t800.specs.MarkerSegments.{sopBytes}
-use Rattle.t2.specs.Front.{bytesPut, putBytes}
 use Rattle.t2.proofs.Laws.Front.{not-used, used-bytes}
 use Rattle.t2.proofs.put_sop.Statement.{statement}
 use Rattle.t2.proofs.put_sop.Tie as tie

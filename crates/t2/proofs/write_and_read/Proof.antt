@@ -1,10 +1,8 @@
 -- `t2::write_and_read` meets its contract.
-use mathlib.Core.Path.{_≡_, sym, ap, _∙_}
-use Rattle.t800.specs.Start.{StartResult}
-use Rattle.t800.specs.Packet.{WriteResult}
+use mathlib.Core.Path.{_∙_}
 use Rattle.t2check.specs.Refusals.{contribution}
 use Rattle.t2.specs.Layer.{firstLayer, lent}
-use Rattle.t2.proofs.Layer.{layer-read-back, writer-refused, reader-refused, packet-refused}
+use Rattle.t2.proofs.Layer.{layer-read-back, writer-refused, reader-refused, packet-refused, ends-at-writer, ends-at-reader, ends-at-packet, ends-read}
 use borrow.Author.Needs.{needs}
 use Rattle.t2.proofs.write_and_read.Statement.{statement}
 use Rattle.t2.proofs.write_and_read.Tie as tie
@@ -21,7 +19,7 @@ same-length c = search needs
 returns : tie.Need-returns
 returns c =
     let a = c .before .before .before .before .before .before .before .before .before .before .before .before .before .before .before .before .before .args in
-    writer-refused (firstLayer (a .count) (a .bands) (a .style) (a .planes .now) (contribution (a .counts .now) (a .lengths .now) (a .marks .now)) (a .body .now) (a .markers) (a .number)) (lent (a .writer .now) (a .reader .now) (a .scratch .now) (a .output .now) (a .reports .now) (a .records .now)) _ _ _ _ (c .before .before .before .before .start-writer .ensures) (c .before .if1 .taken)
+    (ends-at-writer (firstLayer (a .count) (a .bands) (a .style) (a .planes .now) (contribution (a .counts .now) (a .lengths .now) (a .marks .now)) (a .body .now) (a .markers) (a .number)) (lent (a .writer .now) (a .reader .now) (a .scratch .now) (a .output .now) (a .reports .now) (a .records .now)) _ (c .before .before .before .before .start-writer .ensures) _ (c .refused .ensures) (c .before .if1 .taken), writer-refused (firstLayer (a .count) (a .bands) (a .style) (a .planes .now) (contribution (a .counts .now) (a .lengths .now) (a .marks .now)) (a .body .now) (a .markers) (a .number)) (lent (a .writer .now) (a .reader .now) (a .scratch .now) (a .output .now) (a .reports .now) (a .records .now)) _ _ _ _ (c .before .before .before .before .start-writer .ensures) (c .before .if1 .taken))
 
 sub-start-reader : tie.Need-sub-start-reader
 sub-start-reader c = search needs
@@ -47,7 +45,7 @@ same-length-3 c = search needs
 returns-2 : tie.Need-returns-2
 returns-2 c =
     let a = c .before .before .before .before .before .before .before .before .before .before .before .before .before .before .before .before .before .before .before .before .before .before .before .args in
-    reader-refused (firstLayer (a .count) (a .bands) (a .style) (a .planes .now) (contribution (a .counts .now) (a .lengths .now) (a .marks .now)) (a .body .now) (a .markers) (a .number)) (lent (a .writer .now) (a .reader .now) (a .scratch .now) (a .output .now) (a .reports .now) (a .records .now)) _ _ _ _ (c .before .before .before .before .start-reader .ensures) (c .before .if2 .taken)
+    (ends-at-reader (firstLayer (a .count) (a .bands) (a .style) (a .planes .now) (contribution (a .counts .now) (a .lengths .now) (a .marks .now)) (a .body .now) (a .markers) (a .number)) (lent (a .writer .now) (a .reader .now) (a .scratch .now) (a .output .now) (a .reports .now) (a .records .now)) _ (c .before .before .before .before .before .before .before .before .before .before .start-writer .ensures) (c .before .before .before .before .before .before .before .if1 .left) _ (c .before .before .before .before .start-reader .ensures) _ (c .refused2 .ensures) (c .before .if2 .taken), reader-refused (firstLayer (a .count) (a .bands) (a .style) (a .planes .now) (contribution (a .counts .now) (a .lengths .now) (a .marks .now)) (a .body .now) (a .markers) (a .number)) (lent (a .writer .now) (a .reader .now) (a .scratch .now) (a .output .now) (a .reports .now) (a .records .now)) _ _ _ _ (c .before .before .before .before .start-reader .ensures) (c .before .if2 .taken))
 
 write-requires : tie.Need-write-requires
 write-requires c κs = search needs
@@ -70,7 +68,7 @@ same-length-7 c = search needs
 returns-3 : tie.Need-returns-3
 returns-3 c =
     let a = c .before .before .before .before .before .before .before .before .before .before .before .before .before .before .before .before .before .before .before .before .before .before .before .before .before .before .before .before .before .before .before .before .before .before .before .args in
-    packet-refused (firstLayer (a .count) (a .bands) (a .style) (a .planes .now) (contribution (a .counts .now) (a .lengths .now) (a .marks .now)) (a .body .now) (a .markers) (a .number)) (lent (a .writer .now) (a .reader .now) (a .scratch .now) (a .output .now) (a .reports .now) (a .records .now)) _ _ _ _ _ (c .before .before .before .before .before .before .before .before .before .before .before .before .before .before .before .before .before .before .before .before .before .before .start-writer .ensures) (c .before .before .before .before .before .before .before .before .before .write .ensures) (c .before .if3 .taken)
+    (ends-at-packet (firstLayer (a .count) (a .bands) (a .style) (a .planes .now) (contribution (a .counts .now) (a .lengths .now) (a .marks .now)) (a .body .now) (a .markers) (a .number)) (lent (a .writer .now) (a .reader .now) (a .scratch .now) (a .output .now) (a .reports .now) (a .records .now)) _ (c .before .before .before .before .before .before .before .before .before .before .before .before .before .before .before .before .before .before .before .before .before .before .start-writer .ensures) (c .before .before .before .before .before .before .before .before .before .before .before .before .before .before .before .before .before .before .before .if1 .left) _ (c .before .before .before .before .before .before .before .before .before .before .before .before .before .before .before .before .start-reader .ensures) (c .before .before .before .before .before .before .before .before .before .before .before .before .before .if2 .left) _ (c .before .before .before .before .before .before .before .before .before .write .ensures) _ (c .refused3 .ensures) (c .before .if3 .taken), packet-refused (firstLayer (a .count) (a .bands) (a .style) (a .planes .now) (contribution (a .counts .now) (a .lengths .now) (a .marks .now)) (a .body .now) (a .markers) (a .number)) (lent (a .writer .now) (a .reader .now) (a .scratch .now) (a .output .now) (a .reports .now) (a .records .now)) _ _ _ _ _ (c .before .before .before .before .before .before .before .before .before .before .before .before .before .before .before .before .before .before .before .before .before .before .start-writer .ensures) (c .before .before .before .before .before .before .before .before .before .write .ensures) (c .before .if3 .taken))
 
 read-requires : tie.Need-read-requires
 read-requires c κs = search needs
@@ -97,7 +95,7 @@ same-length-13 c = search needs
 returns-4 : tie.Need-returns-4
 returns-4 c =
     let a = c .before .before .before .before .before .before .before .before .before .before .before .before .before .before .before .before .before .before .before .before .before .before .before .before .before .before .before .before .before .before .before .before .before .before .before .before .before .before .before .before .before .before .before .before .before .before .before .before .args in
-    layer-read-back (firstLayer (a .count) (a .bands) (a .style) (a .planes .now) (contribution (a .counts .now) (a .lengths .now) (a .marks .now)) (a .body .now) (a .markers) (a .number)) (lent (a .writer .now) (a .reader .now) (a .scratch .now) (a .output .now) (a .reports .now) (a .records .now)) _ _ _ _ (c .before .before .before .before .before .before .before .before .before .before .before .before .before .before .before .before .before .before .before .before .before .before .before .before .before .before .before .before .before .before .before .before .before .before .before .start-writer .ensures) (c .before .before .before .before .before .before .before .before .before .before .before .before .before .before .before .before .before .before .before .before .before .before .before .before .before .before .before .before .before .start-reader .ensures) (c .before .before .before .before .before .before .before .before .before .before .before .before .before .before .before .before .before .before .before .before .before .before .write .ensures) (c .before .before .before .before .before .before .before .before .read .ensures) (c .before .before .before .before .before .before .before .before .before .before .before .before .before .before .before .before .before .before .before .before .before .before .write .kept .1 .0) (c .before .before .before .before .before .before .before .before .before .before .before .before .before .before .before .before .before .before .before .before .before .before .before .before .before .before .before .before .before .start-reader .kept .1 .1 .1 .1 .0)
+    (ends-read (firstLayer (a .count) (a .bands) (a .style) (a .planes .now) (contribution (a .counts .now) (a .lengths .now) (a .marks .now)) (a .body .now) (a .markers) (a .number)) (lent (a .writer .now) (a .reader .now) (a .scratch .now) (a .output .now) (a .reports .now) (a .records .now)) _ (c .before .before .before .before .before .before .before .before .before .before .before .before .before .before .before .before .before .before .before .before .before .before .before .before .before .before .before .before .before .before .before .before .before .before .before .start-writer .ensures) (c .before .before .before .before .before .before .before .before .before .before .before .before .before .before .before .before .before .before .before .before .before .before .before .before .before .before .before .before .before .before .before .before .if1 .left) _ (c .before .before .before .before .before .before .before .before .before .before .before .before .before .before .before .before .before .before .before .before .before .before .before .before .before .before .before .before .before .start-reader .ensures) (c .before .before .before .before .before .before .before .before .before .before .before .before .before .before .before .before .before .before .before .before .before .before .before .before .before .before .if2 .left) _ (c .before .before .before .before .before .before .before .before .before .before .before .before .before .before .before .before .before .before .before .before .before .before .write .ensures) _ (c .before .before .before .before .before .before .before .before .read .ensures) (c .before .before .before .before .before .before .before .before .before .before .before .before .before .before .if3 .left), layer-read-back (firstLayer (a .count) (a .bands) (a .style) (a .planes .now) (contribution (a .counts .now) (a .lengths .now) (a .marks .now)) (a .body .now) (a .markers) (a .number)) (lent (a .writer .now) (a .reader .now) (a .scratch .now) (a .output .now) (a .reports .now) (a .records .now)) _ _ _ _ (c .before .before .before .before .before .before .before .before .before .before .before .before .before .before .before .before .before .before .before .before .before .before .before .before .before .before .before .before .before .before .before .before .before .before .before .start-writer .ensures) (c .before .before .before .before .before .before .before .before .before .before .before .before .before .before .before .before .before .before .before .before .before .before .before .before .before .before .before .before .before .start-reader .ensures) (c .before .before .before .before .before .before .before .before .before .before .before .before .before .before .before .before .before .before .before .before .before .before .write .ensures) (c .before .before .before .before .before .before .before .before .read .ensures) (c .before .before .before .before .before .before .before .before .before .before .before .before .before .before .before .before .before .before .before .before .before .before .write .kept .1 .0) (c .before .before .before .before .before .before .before .before .before .before .before .before .before .before .before .before .before .before .before .before .before .before .before .before .before .before .before .before .before .start-reader .kept .1 .1 .1 .1 .0))
 
 pub write-and-read-spec : {M : Type 1} → statement M
 write-and-read-spec =

@@ -1,15 +1,14 @@
 -- A header that nothing refuses: how long it is, and its parts together.
-use mathlib.Core.Path.{_≡_, refl, sym, ap, _∙_, subst}
-use mathlib.Core.List.{List, [], _∷_}
+use mathlib.Core.Path.{_≡_, ap, _∙_}
+use mathlib.Core.List.{List, _∷_}
 use Prim.Native.Nat.{ℕ, _+_, _*_, _≤_, _<_}
 use native.Mathlib.Omega.{arith}
 use lib.ListN.{length, set}
-use lib.Seq.{sets}
 use Rattle.t800.specs.declared.Band.{Band}
 use Rattle.t800.specs.Bits.{pack}
-use Rattle.t800.specs.State.{Block, writer, layer, bands, blocks, stateLength}
+use Rattle.t800.specs.State.{writer, layer, bands, blocks, stateLength}
 use Rattle.t800.specs.TagTree.{Coded}
-use Rattle.t800.specs.WriteHeader.{Contribution, setNewBlocks, codeBlocks, codeHeader}
+use Rattle.t800.specs.WriteHeader.{Contribution, setNewBlocks, codeHeader}
 use Rattle.t800.proofs.Laws.HeaderBits.{bits-blocks}
 use Rattle.t800.proofs.Laws.Layout.{layoutOf, blocks-placed}
 use Rattle.t800.proofs.Laws.Pack.{AreBits}
@@ -21,7 +20,7 @@ use Rattle.tcdstate.proofs.Laws.ValidStates.{valid-state, block-known, block-bo
 use Rattle.tgt.specs.Coding.{LeafCoded, putCoded}
 use Rattle.t2check.proofs.Laws.NotRefused.{NotRefused}
 use Rattle.t2check.proofs.Laws.RefusalParts.{blocks-of-valid}
-use Rattle.t2encheader.specs.Header.{HeaderCoded, headerCoded, putHeader}
+use Rattle.t2encheader.specs.Header.{headerCoded, putHeader}
 
 module _ (ws : List ℕ) (n : ℕ) (p : Contribution) (r : NotRefused ws n p) where
   abbrev all : Coded
