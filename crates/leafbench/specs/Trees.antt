@@ -12,8 +12,8 @@ use Rattle.t800.specs.State.{Block, notYetPlanes}
 use Rattle.t800.specs.ReadHeader.{readZeroPlanesFrom}
 use Rattle.bio.specs.Writing.{output, emptyAt, flush}
 use Rattle.tgt.specs.Path.{pathOver, PathIn}
-use Rattle.tgt.specs.Coding.{LeafCoded, leafCoded, putCoded}
-use Rattle.tgt.specs.Reading.{pathRead, leafOf}
+use Rattle.tgtenc.specs.Coding.{LeafCoded, leafCoded, putCoded}
+use Rattle.tgtdec.specs.Reading.{pathRead, leafOf}
 use Rattle.leafbench.specs.Steps.{steps}
 
 -- ---- leaves

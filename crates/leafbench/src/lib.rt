@@ -5,13 +5,13 @@ ghost use lib.ListN.{length};
 ghost use Rattle.t800.specs.Bits.{bitsOf, readBits};
 ghost use Rattle.t800.specs.TagTree.{levels, nodes};
 ghost use Rattle.bio.specs.Writing.{output, putBits, FreeBitsClear};
-ghost use Rattle.bio.specs.Reading.{decoded};
-ghost use Rattle.tgt.specs.Coding.{leafCoded};
-ghost use Rattle.tgt.specs.Reading.{pathRead};
+ghost use Rattle.biodec.specs.Reading.{decoded};
+ghost use Rattle.tgtenc.specs.Coding.{leafCoded};
+ghost use Rattle.tgtdec.specs.Reading.{pathRead};
 ghost use Rattle.leafbench.specs.Steps.{steps};
 ghost use Rattle.leafbench.specs.Numbers.{putNumber, written, writeAll, numbersRead, readNumber, allRead, readAll};
 ghost use Rattle.leafbench.specs.Trees.{setLeaf, codeLeaf, readLeaf, raiseLeaf, setOver, codeOver, readOver, raiseOver, RowIn, halved, TreeIn, isTree, set, setTree, coded, codeTree, read, readTree, raiseTree};
-use bio::Decoded;
+use biodec::Decoded;
 use t800::Bio;
 use t800::Level;
 
@@ -66,7 +66,7 @@ fn read_number(src: &[u8], b: Bio, width: u8) -> Decoded
     ensures { λ r. ⌜ decoded r ≡ readBits (now (src .entry)) (min width 32) b ⌝ }
 {
     let n = math::opj_uint_min(wide(width), 32);
-    bio::opj_bio_read(src, b, n)
+    biodec::opj_bio_read(src, b, n)
 }
 
 fn read_numbers(src: &[u8], b: Bio, values: &mut [u32], widths: &[u8], n: usize) -> Bio
@@ -88,10 +88,10 @@ fn read_numbers(src: &[u8], b: Bio, values: &mut [u32], widths: &[u8], n: usize)
 pub extern "C" fn leafbench_read(src: &[u8], values: &mut [u32], widths: &[u8]) -> usize
     ensures { λ r. ⌜ allRead (now (values .exit)) r ≡ readAll (now (src .entry)) (now (widths .entry)) (now (values .entry)) ⌝ }
 {
-    let b = bio::opj_bio_init_dec(0);
+    let b = biodec::opj_bio_init_dec(0);
     let n = smaller(values.len(), widths.len());
     let bio = read_numbers(src, b, values, widths, n);
-    let end = bio::opj_bio_inalign(src, bio);
+    let end = biodec::opj_bio_inalign(src, bio);
     end.bio.bp
 }
 
@@ -244,7 +244,7 @@ fn encode_row(
     let mut bio = b;
     let mut x: usize = 0;
     while x < w {
-        bio = tgt::opj_tgt_encode(words, out, bio, 0, row, depth, x, threshold);
+        bio = tgtenc::opj_tgt_encode(words, out, bio, 0, row, depth, x, threshold);
         x += 1;
     }
     bio
@@ -318,7 +318,7 @@ fn decode_row(
     let mut bio = b;
     let mut x: usize = 0;
     while x < w {
-        let r = tgt::opj_tgt_decode(words, src, bio, 0, row, depth, x, threshold);
+        let r = tgtdec::opj_tgt_decode(words, src, bio, 0, row, depth, x, threshold);
         bio = r.bio;
         x += 1;
     }
@@ -363,7 +363,7 @@ pub extern "C" fn leafbench_decode(
     }
     let levels = tree_levels(w, h);
     let depth = tree_depth(w, h);
-    let b = bio::opj_bio_init_dec(0);
+    let b = biodec::opj_bio_init_dec(0);
     let bio = decode_rows(
         words,
         src,
@@ -374,7 +374,7 @@ pub extern "C" fn leafbench_decode(
         h as usize,
         threshold,
     );
-    let end = bio::opj_bio_inalign(src, bio);
+    let end = biodec::opj_bio_inalign(src, bio);
     end.bio.bp
 }
 
@@ -385,7 +385,7 @@ fn raise_row(words: &mut [u32], src: &[u8], b: Bio, row: &[usize; 7], depth: usi
     let mut bio = b;
     let mut x: usize = 0;
     while x < w {
-        let r = tgt::opj_tgt_decode_value(words, src, bio, 0, row, depth, x);
+        let r = tgtdec::opj_tgt_decode_value(words, src, bio, 0, row, depth, x);
         bio = r.bio;
         x += 1;
     }
@@ -423,8 +423,8 @@ pub extern "C" fn leafbench_raise(words: &mut [u32], src: &[u8], w: u32, h: u32)
     }
     let levels = tree_levels(w, h);
     let depth = tree_depth(w, h);
-    let b = bio::opj_bio_init_dec(0);
+    let b = biodec::opj_bio_init_dec(0);
     let bio = raise_rows(words, src, b, levels, depth, w as usize, h as usize);
-    let end = bio::opj_bio_inalign(src, bio);
+    let end = biodec::opj_bio_inalign(src, bio);
     end.bio.bp
 }

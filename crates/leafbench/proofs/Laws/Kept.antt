@@ -5,11 +5,11 @@ use lib.ListN.{length}
 use Rattle.t800.specs.TagTree.{PathRead, pathToRoot, codePath}
 use Rattle.bio.specs.Writing.{FreeBitsClear}
 use Rattle.bio.proofs.Laws.FreeBits.{putBits-clear}
-use Rattle.bio.proofs.Laws.ReadChunks.{readBits-place}
+use Rattle.biodec.proofs.Laws.ReadChunks.{readBits-place}
 use Rattle.tgt.specs.Path.{pathOver}
-use Rattle.tgt.specs.Coding.{LeafCoded}
-use Rattle.tgt.specs.Reading.{leafOf}
-use Rattle.tgt.proofs.Laws.Reading.{readPath-ct, readPath-place, raising-ct, raising-place}
+use Rattle.tgtenc.specs.Coding.{LeafCoded}
+use Rattle.tgtdec.specs.Reading.{leafOf}
+use Rattle.tgtdec.proofs.Laws.Reading.{readPath-ct, readPath-place, raising-ct, raising-place}
 use Rattle.leafbench.specs.Steps.{steps}
 use Rattle.leafbench.specs.Numbers.{NumbersRead, widthAt, readNumber}
 use Rattle.leafbench.specs.Trees.{codeOver, readOver, raiseOver, readLeaf, raiseLeaf, blockAt}

@@ -11,7 +11,7 @@ use lib.ListN.{length, take}
 use Rattle.t800.specs.declared.Level.{Level}
 use Rattle.t800.specs.TagTree.{levelsFrom, levels, nodesIn, nodes}
 use Rattle.t800.proofs.Laws.Tests.{if-le, if-gt}
-use Rattle.tgt.proofs.Laws.Coding.{both}
+use Rattle.tgtenc.proofs.Laws.Coding.{both}
 use Rattle.leafbench.specs.Trees.{halved, TreeIn, isTree}
 
 pub sides-small : (a b : ℕ) → a ≤ 64 → b ≤ 64 → a * b ≤ 4096

@@ -8,7 +8,7 @@ use Rattle.t800.specs.declared.Level.{Level}
 use Rattle.t800.specs.TagTree.{PathRead, pathToRoot, setValue, codePath, readPath}
 use Rattle.t800.specs.ReadHeader.{readZeroPlanesFrom}
 use Rattle.tgt.specs.Path.{rowOver, pathOver, SmallLevels}
-use Rattle.tgt.specs.Coding.{LeafCoded, putCoded}
+use Rattle.tgtenc.specs.Coding.{LeafCoded, putCoded}
 use Rattle.tgt.proofs.Laws.Path.{TreeLevels, small-levels, climb, path-climbs, leaf-word, path-in}
 use Rattle.leafbench.specs.Steps.{steps}
 use Rattle.leafbench.specs.Trees.{setLeaf, codeLeaf, readLeaf, raiseLeaf, setOver, codeOver, readOver, raiseOver, RowIn, TreeIn}

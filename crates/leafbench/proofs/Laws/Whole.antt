@@ -9,11 +9,11 @@ use Rattle.t800.specs.declared.Bio.{Bio}
 use Rattle.t800.specs.Bits.{bioAt}
 use Rattle.t800.specs.TagTree.{PathRead}
 use Rattle.t800.proofs.Laws.Tests.{if-true}
-use Rattle.bio.specs.declared.Aligned.{Aligned}
+use Rattle.biodec.specs.declared.Aligned.{Aligned}
 use Rattle.bio.specs.Writing.{Output, emptyAt, flush}
-use Rattle.bio.specs.Reading.{alignedAt}
-use Rattle.tgt.specs.Coding.{LeafCoded, leafCoded}
-use Rattle.tgt.specs.Reading.{pathRead}
+use Rattle.biodec.specs.Reading.{alignedAt}
+use Rattle.tgtenc.specs.Coding.{LeafCoded, leafCoded}
+use Rattle.tgtdec.specs.Reading.{pathRead}
 use Rattle.leafbench.specs.Steps.{steps}
 use Rattle.leafbench.specs.Trees.{codeLeaf, isTree, coded, flushed, codeTree, read, taken}
 use Rattle.leafbench.proofs.Laws.Steps.{steps-keep}

@@ -7,8 +7,8 @@ use native.Mathlib.Omega.{arith}
 use lib.ListN.{length}
 use Rattle.t800.specs.TagTree.{PathRead}
 use Rattle.tgt.specs.Path.{pathOver, PathIn}
-use Rattle.tgt.specs.Reading.{LeafAfter, pathRead}
-use Rattle.tgt.proofs.Laws.Reading.{readPath-ct}
+use Rattle.tgtdec.specs.Reading.{LeafAfter, pathRead}
+use Rattle.tgtdec.proofs.Laws.Reading.{readPath-ct}
 use Rattle.leafbench.specs.Steps.{steps}
 use Rattle.leafbench.specs.Trees.{readOver}
 use Rattle.leafbench.proofs.Laws.Steps.{steps-all, steps-none, steps-turn}

@@ -9,7 +9,7 @@ use Rattle.t800.specs.TagTree.{codePath}
 use Rattle.bio.specs.Writing.{output, FreeBitsClear}
 use Rattle.bio.proofs.Laws.FreeBits.{putBits-clear}
 use Rattle.tgt.specs.Path.{pathOver, PathIn}
-use Rattle.tgt.specs.Coding.{LeafCoded, leafCoded}
+use Rattle.tgtenc.specs.Coding.{LeafCoded, leafCoded}
 use Rattle.leafbench.specs.Steps.{steps}
 use Rattle.leafbench.specs.Trees.{codeOver}
 use Rattle.leafbench.proofs.Laws.Steps.{steps-all, steps-none, steps-turn}

@@ -7,7 +7,7 @@ use native.Mathlib.Omega.{arith}
 use lib.ListN.{length}
 use Rattle.bio.specs.Writing.{FreeBitsClear}
 use Rattle.tgt.specs.Path.{rowOver}
-use Rattle.tgt.specs.Coding.{LeafCoded, leafCoded}
+use Rattle.tgtenc.specs.Coding.{LeafCoded, leafCoded}
 use Rattle.leafbench.specs.Steps.{steps}
 use Rattle.leafbench.specs.Trees.{codeOver, codeLeaf, RowIn}
 use Rattle.leafbench.proofs.Laws.Steps.{rows-all, rows-none, rows-turn}

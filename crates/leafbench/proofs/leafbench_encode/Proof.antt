@@ -7,7 +7,7 @@ use lib.ListN.{length}
 use Rattle.t800.proofs.Laws.Tests.{if-false}
 use Rattle.bio.specs.Writing.{output, FreeBitsClear}
 use Rattle.bio.proofs.Laws.FreeBits.{emptyAt-clear}
-use Rattle.tgt.specs.Coding.{leafCoded}
+use Rattle.tgtenc.specs.Coding.{leafCoded}
 use Rattle.leafbench.specs.Trees.{isTree, codeTree}
 use Rattle.leafbench.proofs.Laws.Levels.{tree-in, tree-sides}
 use Rattle.leafbench.proofs.Laws.Whole.{code-whole}

@@ -5,8 +5,8 @@ use Prim.Native.Nat.{ℕ, _+_, _≤_, min}
 use native.Mathlib.Omega.{arith}
 use lib.ListN.{length}
 use Rattle.t800.specs.declared.Bio.{Bio}
-use Rattle.bio.specs.declared.Aligned.{Aligned}
-use Rattle.bio.specs.Reading.{alignedAt}
+use Rattle.biodec.specs.declared.Aligned.{Aligned}
+use Rattle.biodec.specs.Reading.{alignedAt}
 use Rattle.leafbench.specs.Steps.{steps}
 use Rattle.leafbench.specs.Numbers.{NumbersRead, numbersRead, readNumber, allRead, readAll}
 use Rattle.leafbench.proofs.Laws.Kept.{numbers-place}

@@ -6,8 +6,8 @@ use native.Mathlib.Omega.{arith}
 use lib.ListN.{length}
 use Rattle.t800.specs.TagTree.{PathRead}
 use Rattle.tgt.specs.Path.{PathIn}
-use Rattle.tgt.specs.Reading.{ValueAfter, leafOf, pathRead}
-use Rattle.tgt.proofs.Laws.Reading.{raising-ct}
+use Rattle.tgtdec.specs.Reading.{ValueAfter, leafOf, pathRead}
+use Rattle.tgtdec.proofs.Laws.Reading.{raising-ct}
 use Rattle.leafbench.specs.Steps.{steps}
 use Rattle.leafbench.specs.Trees.{raiseOver}
 use Rattle.leafbench.proofs.Laws.Steps.{steps-all, steps-none, steps-turn}

@@ -5,8 +5,8 @@ use Prim.Native.Nat.{_-_, _≤_}
 use native.Mathlib.Omega.{arith}
 use lib.ListN.{length, set, length-set}
 use Rattle.t800.specs.Bits.{Decoded, readBits}
-use Rattle.bio.specs.Reading.{decoded}
-use Rattle.bio.proofs.Laws.ReadChunks.{readBits-ct}
+use Rattle.biodec.specs.Reading.{decoded}
+use Rattle.biodec.proofs.Laws.ReadChunks.{readBits-ct}
 use Rattle.leafbench.specs.Steps.{steps}
 use Rattle.leafbench.specs.Numbers.{numbersRead, widthAt, readNumber}
 use Rattle.leafbench.proofs.Laws.Steps.{steps-all, steps-none, steps-turn}
