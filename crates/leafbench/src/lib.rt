@@ -1,6 +1,6 @@
-// Loops over the leaves bio and tgt, exported for bench/, so that a benchmark times no call border.
+// Loops over the leaves of bio.rs and tgt.rs, exported for bench/, so that a benchmark times no call border.
 ghost use mathlib.Core.Path.{_≡_};
-ghost use Prim.Native.Nat.{_+_, _-_, _*_, _/_, _≤_, _<_, min};
+ghost use Prim.Native.Nat.{_+_, _*_, _/_, _≤_, _<_, min};
 ghost use lib.ListN.{length};
 ghost use Rattle.t800.specs.Bits.{bitsOf, readBits};
 ghost use Rattle.t800.specs.TagTree.{levels, nodes};

@@ -2,7 +2,7 @@
 ghost use mathlib.Core.Path.{_≡_};
 ghost use Prim.Native.Nat.{_≤_, _+_, _*_};
 ghost use lib.Dec.{eqb};
-ghost use lib.ListN.{set, getD, length};
+ghost use lib.ListN.{set, getD};
 ghost use Rattle.t2read.specs.Answers.{readResult};
 ghost use Rattle.t2segs.specs.Segments.{segmentAt, filled};
 ghost use Rattle.t2segs.specs.Reading.{wrongListNumber, readNumbers, toFill, structsRead, readStructs};

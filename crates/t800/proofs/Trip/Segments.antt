@@ -2,7 +2,7 @@
 -- are the book's records too, with their lengths.
 use mathlib.Core.Path.{_≡_, refl, sym, ap, ap₂, _∙_, subst}
 use mathlib.Core.Logic.{_≢_}
-use mathlib.Core.Bool.{or-true, or-false, true≢false, Bool·beq, Bool, true, false, cond, _||_, not}
+use mathlib.Core.Bool.{or-false, true≢false, Bool·beq, Bool, true, false, cond, _||_, not}
 use mathlib.Core.List.{List, [], _∷_, _++_, append-assoc, append-nil}
 use Prim.Native.Nat.{ℕ, zero, suc, _+_, _-_, _^_, _≤_, _<_, min}
 use native.Mathlib.Nat.{zero-add, add-zero}
@@ -21,6 +21,7 @@ use Rattle.t800.specs.ReadHeader.{HeaderRead, opensSegment, currentLimit
 use Rattle.t800.specs.Book.{opensAt, recordsFrom, recordsOf, terminatedAt}
 use lib.Ieee.Fits.{and-l, and-r}
 use Rattle.t800.proofs.Laws.Tests.{on-lt, if-lt, if-ge, if-gt, if-true, if-false}
+use Rattle.t800.proofs.Laws.Lists.{last-pass}
 use Rattle.t800.proofs.Trip.Bits.{Reads, reads-split}
 use Rattle.t800.proofs.Trip.Codes.{number-read, LengthsFit}
 use Rattle.t800.proofs.Trip.Limits.{opensIn, next-segment, limitIn, passesIn, limitAfter, passesAfter}
@@ -54,10 +55,6 @@ drop-min d ls =
     (λ h. drop-of-length-le ls h ∙ sym (drop-of-length-le ls {i = min d (length ls)} (omega arith)))
 
 module _ (s i : ℕ) where
-  last-pass : (n len l m : ℕ) → segmentsFrom n len (l ∷ []) (m ∷ []) ≡ segment (n + 1) (len + l) ∷ []
-  unfolding segmentsFrom
-  last-pass n len l m = rw (or-true (not (eqb m 0)))
-
   pass-ends : (n len l : ℕ) (ls : List ℕ) (m : ℕ) (ms : List ℕ) (x y : ℕ) → not (eqb m 0) ≡ true
       → segmentsFrom n len (l ∷ x ∷ ls) (m ∷ y ∷ ms) ≡ segment (n + 1) (len + l) ∷ segmentsFrom 0 0 (x ∷ ls) (y ∷ ms)
   unfolding segmentsFrom

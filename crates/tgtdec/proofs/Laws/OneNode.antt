@@ -6,7 +6,7 @@ use Prim.Native.Nat.{ℕ, zero, suc, _+_, _-_, _*_, _/_, _^_, _≤_, _<_, max, m
 use native.Mathlib.Nat.{suc-add}
 use native.Mathlib.Omega.{arith}
 use lib.Dec.{eqb, ltb}
-use lib.ListN.{length, getD, set, length-set}
+use lib.ListN.{length, getD, set}
 use lib.Seq.{lt-length-set, getD-set-same, getD-set-other, set-set, set-comm}
 use borrow.Author.Tests.{le-ltb, ltb-true, ltb-false}
 use Rattle.t800.specs.declared.Bio.{Bio}
