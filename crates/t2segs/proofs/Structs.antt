@@ -26,10 +26,10 @@ use Rattle.t2.specs.Calls.{WasRead}
 use Rattle.t2.specs.Numbers.{NoneHolds, readChecks, NumbersOfCalls}
 use Rattle.t2.proofs.Numbers.{numbers-of-calls}
 use Rattle.t2read.specs.Answers.{readResult}
-use Rattle.t2segs.specs.declared.Segment.{Segment}
-use Rattle.t2segs.specs.Segments.{wordsOf, segmentAt, filled}
+use Rattle.tcdsegs.specs.declared.Segment.{Segment}
+use Rattle.tcdsegs.specs.Segments.{wordsOf, segmentAt, filled}
 use Rattle.t2segs.specs.Reading.{StructsRead, wrongListNumber, wrongList, readNumbers, toFill, structsRead, readStructs}
-use Rattle.t2segs.proofs.Stored.{stored-none, words-length, filled-words}
+use Rattle.tcdsegs.proofs.Stored.{stored-none, words-length, filled-words}
 use Rattle.t2segs.proofs.Numbers.{numbers-refused, numbers-read}
 
 -- ---- what is stored, case by case

@@ -1,4 +1,4 @@
--- `t2segs::put_segment` meets its contract: a walk of its MIR, by hand. Where there is room, the slice's borrow is opened, one record is taken out of the row and stored to, and the borrow is closed at the new list; else the list is as it was.
+-- `tcdsegs::put_segment` meets its contract: a walk of its MIR, by hand. Where there is room, the slice's borrow is opened, one record is taken out of the row and stored to, and the borrow is closed at the new list; else the list is as it was.
 use mathlib.Core.Path.{_≡_, refl, sym, ap, subst}
 use Prim.Native.Nat.{ℕ, _<_, _≤_, _*_, _^_}
 use native.Mathlib.Nat.{mul-le-mul-right}
@@ -41,14 +41,14 @@ use denote.Triple.Spec.{Meets, tripleOf}
 use denote.Triple.Table.{entered}
 use denote.Triple.Walked.{says, Stays, stay-slice, stay-none, walkOf, AllGo, goes-slice, goes-none, Walks, ends-at, walked, walk-meets}
 use denote.Exit.{yes}
-use Rattle.t2segs.specs.declared.Segment.{Segment}
-use Rattle.t2segs.proofs.Segment as T
-use Rattle.t2segs.proofs.Segment.Laws as T′
-use Rattle.t2segs.proofs.put_segment.Key.{name as #me}
-use Rattle.t2segs.proofs.put_segment as f
-use Rattle.t2segs.proofs.put_segment.Statement as stated
-use Rattle.t2segs.proofs.put_segment.Code as code
-use Rattle.t2segs.proofs.put_segment.Code.Mir as steps
+use Rattle.tcdsegs.specs.declared.Segment.{Segment}
+use Rattle.tcdsegs.proofs.Segment as T
+use Rattle.tcdsegs.proofs.Segment.Laws as T′
+use Rattle.tcdsegs.proofs.put_segment.Key.{name as #me}
+use Rattle.tcdsegs.proofs.put_segment as f
+use Rattle.tcdsegs.proofs.put_segment.Statement as stated
+use Rattle.tcdsegs.proofs.put_segment.Code as code
+use Rattle.tcdsegs.proofs.put_segment.Code.Mir as steps
 
 abbrev R : RattleType
 R = T.the-row

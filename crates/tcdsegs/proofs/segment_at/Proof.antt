@@ -1,8 +1,8 @@
--- `t2segs::segment_at` meets its contract: each word is `word`'s.
-use Rattle.t2segs.specs.Segments.{segmentAt}
+-- `tcdsegs::segment_at` meets its contract: each word is `word`'s.
+use Rattle.tcdsegs.specs.Segments.{segmentAt}
 use borrow.Author.Needs.{needs}
-use Rattle.t2segs.proofs.segment_at.Statement.{statement}
-use Rattle.t2segs.proofs.segment_at.Tie as tie
+use Rattle.tcdsegs.proofs.segment_at.Statement.{statement}
+use Rattle.tcdsegs.proofs.segment_at.Tie as tie
 
 word-requires : tie.Need-word-requires
 word-requires c κs = search needs

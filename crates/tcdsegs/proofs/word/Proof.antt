@@ -1,10 +1,10 @@
--- `t2segs::word` meets its contract: `getD` past the end is 0.
+-- `tcdsegs::word` meets its contract: `getD` past the end is 0.
 use mathlib.Core.Path.{sym}
 use native.Mathlib.Omega.{arith}
 use lib.ListN.{List·getD-eq-default}
 use borrow.Author.Needs.{needs}
-use Rattle.t2segs.proofs.word.Statement.{statement}
-use Rattle.t2segs.proofs.word.Tie as tie
+use Rattle.tcdsegs.proofs.word.Statement.{statement}
+use Rattle.tcdsegs.proofs.word.Tie as tie
 
 mul-at : tie.Need-mul-at
 mul-at c = search needs

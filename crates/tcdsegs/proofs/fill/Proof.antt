@@ -1,4 +1,4 @@
--- `t2segs::fill` meets its contract: a walk of its MIR, by hand, with a loop. In each turn the covered `segment_at` reads a record off the numbers, and the records are lent again to `put_segment`, for a lifetime that the turn makes.
+-- `tcdsegs::fill` meets its contract: a walk of its MIR, by hand, with a loop. In each turn the covered `segment_at` reads a record off the numbers, and the records are lent again to `put_segment`, for a lifetime that the turn makes.
 -- The loop's variant is the number t of records that are left; what stands at a turn is `I t`.
 use mathlib.Core.Path.{_≡_, refl, sym, _∙_, ap, subst}
 use Prim.Native.Nat.{ℕ, zero, suc, _+_, _-_, _<_, _≤_, _^_}
@@ -44,25 +44,25 @@ use denote.Triple.Spec.{Meets, tripleOf}
 use denote.Triple.Table.{entered, cited}
 use denote.Triple.Walked.{says, Stays, stay-slice, stay-none, stay-none-slice, walkOf, AllGo, goes-slice, goes-none, goes-none-slice, Walks, ends-at, walked, walk-meets}
 use denote.Exit.{yes}
-use Rattle.t2segs.specs.Segments.{segmentAt, filled}
-use Rattle.t2segs.proofs.Stored.{stored-none, stored-turn, stored-length}
-use Rattle.t2segs.specs.declared.Segment.{Segment}
-use Rattle.t2segs.proofs.Lent.{LentAgain, lends-again, comes-back}
-use Rattle.t2segs.proofs.Segment as T
-use Rattle.t2segs.proofs.Segment.Laws as T′
-use Rattle.t2segs.proofs.segment_at as g
-use Rattle.t2segs.proofs.segment_at.Symbol as g-def
-use Rattle.t2segs.proofs.segment_at.Symbol.{name as #g}
-use Rattle.t2segs.proofs.segment_at.Met as g-thm
-use Rattle.t2segs.proofs.put_segment as p
-use Rattle.t2segs.proofs.put_segment.Symbol as p-def
-use Rattle.t2segs.proofs.put_segment.Symbol.{name as #p}
-use Rattle.t2segs.proofs.put_segment.Met as p-thm
-use Rattle.t2segs.proofs.fill.Key.{name as #me}
-use Rattle.t2segs.proofs.fill as f
-use Rattle.t2segs.proofs.fill.Statement as stated
-use Rattle.t2segs.proofs.fill.Code as code
-use Rattle.t2segs.proofs.fill.Code.Mir as steps
+use Rattle.tcdsegs.specs.Segments.{segmentAt, filled}
+use Rattle.tcdsegs.proofs.Stored.{stored-none, stored-turn, stored-length}
+use Rattle.tcdsegs.specs.declared.Segment.{Segment}
+use Rattle.tcdsegs.proofs.Lent.{LentAgain, lends-again, comes-back}
+use Rattle.tcdsegs.proofs.Segment as T
+use Rattle.tcdsegs.proofs.Segment.Laws as T′
+use Rattle.tcdsegs.proofs.segment_at as g
+use Rattle.tcdsegs.proofs.segment_at.Symbol as g-def
+use Rattle.tcdsegs.proofs.segment_at.Symbol.{name as #g}
+use Rattle.tcdsegs.proofs.segment_at.Met as g-thm
+use Rattle.tcdsegs.proofs.put_segment as p
+use Rattle.tcdsegs.proofs.put_segment.Symbol as p-def
+use Rattle.tcdsegs.proofs.put_segment.Symbol.{name as #p}
+use Rattle.tcdsegs.proofs.put_segment.Met as p-thm
+use Rattle.tcdsegs.proofs.fill.Key.{name as #me}
+use Rattle.tcdsegs.proofs.fill as f
+use Rattle.tcdsegs.proofs.fill.Statement as stated
+use Rattle.tcdsegs.proofs.fill.Code as code
+use Rattle.tcdsegs.proofs.fill.Code.Mir as steps
 
 abbrev R : RattleType
 R = T.the-row
@@ -273,5 +273,5 @@ fill-spec 𝓤 H 𝓜 𝓖 𝓡 =
     entered 𝓤 H (tripleOf 𝓤 H (𝓖 .A) f.signature (f.spec 𝓤 H (𝓖 .A) (𝓜 .mem) (𝓡 .run)))
     (tables 𝓤 H 𝓜 𝓡 code.env .C) (tables 𝓤 H 𝓜 𝓡 code.env .Λ) #me code.function (code.unfolded 𝓤 H 𝓜 𝓡)
     (f-meets 𝓤 H (𝓖 .A) (givenOf 𝓤 H 𝓜 𝓖) (𝓜 .mem) (𝓡 .run) (tablesOf 𝓤 H 𝓜 (tables 𝓤 H 𝓜 𝓡 code.env))
-    (cited 𝓤 H (Seg 𝓤 H (𝓖 .A) (𝓜 .mem) (𝓡 .run)) 𝓜 𝓡 code.env #g g-def.routine code.calls-t2segs·segment-at (g-thm.met 𝓤 H 𝓜 𝓖 𝓡))
-    (cited 𝓤 H (Put 𝓤 H (𝓖 .A) (𝓜 .mem) (𝓡 .run)) 𝓜 𝓡 code.env #p p-def.routine code.calls-t2segs·put-segment (p-thm.met 𝓤 H 𝓜 𝓖 𝓡)))
+    (cited 𝓤 H (Seg 𝓤 H (𝓖 .A) (𝓜 .mem) (𝓡 .run)) 𝓜 𝓡 code.env #g g-def.routine code.calls-tcdsegs·segment-at (g-thm.met 𝓤 H 𝓜 𝓖 𝓡))
+    (cited 𝓤 H (Put 𝓤 H (𝓖 .A) (𝓜 .mem) (𝓡 .run)) 𝓜 𝓡 code.env #p p-def.routine code.calls-tcdsegs·put-segment (p-thm.met 𝓤 H 𝓜 𝓖 𝓡)))

@@ -2,7 +2,7 @@
 use mathlib.Core.List.{List, [], _∷_}
 use Prim.Native.Nat.{ℕ, zero, suc, _+_, _*_}
 use lib.ListN.{getD, set}
-use Rattle.t2segs.specs.declared.Segment.{Segment}
+use Rattle.tcdsegs.specs.declared.Segment.{Segment}
 
 -- the order of t800's `recordWords`
 unfoldable pub wordsOf : List Segment → List ℕ
