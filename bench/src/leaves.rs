@@ -1,5 +1,6 @@
-// Times crate openjp2's bio.rs and tgt.rs, included as they stand, against the static libraries of crates bitbench and treebench, on the same inputs. Both
-// sides' bytes and tree words are compared before anything is timed. A row prints the crate's time and ours as a ratio: below 1 is faster.
+// Times crate openjp2's bio.rs and tgt.rs, included as they stand, against the static libraries of crates bitbench and treebench, on the
+// same inputs. Both sides' bytes and tree words are compared before anything is timed. A row prints the crate's time and ours as a ratio:
+// below 1 is faster.
 #![allow(warnings)]
 use std::time::Instant;
 
