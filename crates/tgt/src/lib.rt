@@ -161,7 +161,7 @@ fn tell(words: &mut [u32], out: &mut [u8], b: Bio, at: usize) -> Bio
     let known = words[at];
     words[at] = 1;
     if known == 0 {
-        return bio::opj_bio_putbit(out, b, 1);
+        return biolent::bit_out(out, b, 1);
     }
     b
 }
@@ -217,7 +217,7 @@ fn encode_one(words: &mut [u32], out: &mut [u8], b: Bio, at: usize, threshold: u
     let low = threshold - bit;
     words[at + 1] = low;
     words[at + 2] = bit;
-    let bio = bio::opj_bio_putbit(out, b, bit);
+    let bio = biolent::bit_out(out, b, bit);
     Behind { low, bio }
 }
 
@@ -321,7 +321,7 @@ fn seek_one(src: &[u8], b: Bio, value: u32, low: u32) -> NodeRead
     requires { ⌜ (b .ct ≤ 8) × (low < value) ⌝ }
     ensures { λ r. ⌜ nodeRead r ≡ readNode (now (src .entry)) 1 value low b ⌝ }
 {
-    let r = bio::opj_bio_getbit(src, b);
+    let r = biolent::bit_in(src, b);
     let bio = r.bio;
     if r.value == 0 {
         let raised = low + 1;
