@@ -10,7 +10,11 @@ use Rattle.t800.specs.declared.ReadAnswer.{ReadAnswer}
 use Rattle.t800.specs.State.{stateLength}
 use Rattle.t800.specs.Ranges.{badShape}
 use Rattle.t800.specs.WriteHeader.{Contribution}
-use Rattle.t800.specs.Packet.{MeasureResult, measure, WriteResult, write, ReadResult, read}
+use Rattle.t800.specs.Packet.{MeasureResult, measure, WriteResult, write, ReadResult, refusedAnswer}
+use Rattle.t2read.specs.Answers.{readResult}
+use Rattle.t2segs.specs.declared.Segment.{Segment}
+use Rattle.t2segs.specs.Segments.{wordsOf}
+use Rattle.t2segs.specs.Reading.{StructsRead, readNumbers, readStructs}
 
 -- across, down and planes of a band
 abbrev pub band : ℕ → ℕ → ℕ → Band
@@ -57,22 +61,45 @@ writeCall ws scratch p body m number output answer =
 
 -- ---- reading
 
+abbrev pub readAnswer : ReadAnswer → List ℕ
+readAnswer a = a .present ∷ a .taken ∷ a .segments ∷ a .sop ∷ a .eph ∷ []
+
+-- the records as their words, which determine them
 pub record ReadCall : Type 0 where
   pub refusal : ℕ
   pub state : List ℕ
   pub scratch : List ℕ
   pub reports : List ℕ
+  pub numbers : List ℕ
   pub records : List ℕ
   pub answer : List ℕ
 
-abbrev pub readAnswer : ReadAnswer → List ℕ
-readAnswer a = a .present ∷ a .taken ∷ a .segments ∷ a .sop ∷ a .eph ∷ []
+abbrev pub readOf : StructsRead → ReadCall
+readOf r = record {
+  refusal = r .result .answer .refusal;
+  state = r .result .state;
+  scratch = r .result .scratch;
+  reports = r .result .reports;
+  numbers = r .numbers;
+  records = r .result .records;
+  answer = readAnswer (r .result .answer);
+}
 
-abbrev pub readOf : ReadResult → ReadCall
-readOf r = record { refusal = r .answer .refusal; state = r .state; scratch = r .scratch; reports = r .reports; records = r .records; answer = readAnswer (r .answer) }
+-- state, scratch, marker settings, input, block reports, work list, segment records, the lent list of five words
+unfoldable pub readCall : List ℕ → List ℕ → Markers → List ℕ → List ℕ → List ℕ → List Segment → List ℕ → ReadCall
+readCall ws scratch m src reports numbers records answer =
+    cond (eqb (length answer) 5) (readOf (readStructs ws scratch m src reports numbers records))
+    (record { refusal = 3; state = ws; scratch = scratch; reports = reports; numbers = numbers; records = wordsOf records; answer = answer })
 
--- state, scratch, marker settings, input, block reports, segment records, the lent list of five words
-unfoldable pub readCall : List ℕ → List ℕ → Markers → List ℕ → List ℕ → List ℕ → List ℕ → ReadCall
-readCall ws scratch m src reports records answer =
-    cond (eqb (length answer) 5) (readOf (read ws scratch m src reports records))
-    (record { refusal = 3; state = ws; scratch = scratch; reports = reports; records = records; answer = answer })
+-- its first step, the read into numbers with room for so many records
+pub record NumbersCall : Type 0 where
+  pub result : ReadResult
+  pub answer : List ℕ
+
+abbrev pub numbersOf : ReadResult → NumbersCall
+numbersOf r = record { result = r; answer = readAnswer (r .answer) }
+
+unfoldable pub numbersCall : List ℕ → List ℕ → Markers → List ℕ → List ℕ → List ℕ → ℕ → List ℕ → NumbersCall
+numbersCall ws scratch m src reports numbers room answer =
+    cond (eqb (length answer) 5) (numbersOf (readNumbers ws scratch m src reports numbers room))
+    (record { result = readResult ws scratch reports numbers (refusedAnswer 3); answer = answer })
