@@ -23,7 +23,8 @@ use Rattle.t2segs.specs.declared.Segment.{Segment}
 use Rattle.t2segs.specs.Segments.{wordsOf, filled}
 use Rattle.t2segs.specs.Reading.{readNumbers, toFill}
 use Rattle.t2segs.proofs.Structs.{none-stored, filled-is-read}
-use Rattle.capi.specs.Calls.{stateLengthOf, measured, measureCall, written, writeCall, readAnswer, ReadCall, readOf, readCall, NumbersCall, numbersOf, numbersCall}
+use Rattle.capi.specs.Calls.{stateLengthOf, measured, measureCall, written, writeCall, readAnswer, ReadCall, readOf, readCall}
+use Rattle.capi.specs.Numbers.{NumbersCall, numbersOf, numbersCall}
 
 -- ---- all words of a list set
 

@@ -10,11 +10,10 @@ use Rattle.t800.specs.declared.ReadAnswer.{ReadAnswer}
 use Rattle.t800.specs.State.{stateLength}
 use Rattle.t800.specs.Ranges.{badShape}
 use Rattle.t800.specs.WriteHeader.{Contribution}
-use Rattle.t800.specs.Packet.{MeasureResult, measure, WriteResult, write, ReadResult, refusedAnswer}
-use Rattle.t2read.specs.Answers.{readResult}
+use Rattle.t800.specs.Packet.{MeasureResult, measure, WriteResult, write}
 use Rattle.t2segs.specs.declared.Segment.{Segment}
 use Rattle.t2segs.specs.Segments.{wordsOf}
-use Rattle.t2segs.specs.Reading.{StructsRead, readNumbers, readStructs}
+use Rattle.t2segs.specs.Reading.{StructsRead, readStructs}
 
 -- across, down and planes of a band
 abbrev pub band : ℕ → ℕ → ℕ → Band
@@ -90,16 +89,3 @@ unfoldable pub readCall : List ℕ → List ℕ → Markers → List ℕ → Lis
 readCall ws scratch m src reports numbers records answer =
     cond (eqb (length answer) 5) (readOf (readStructs ws scratch m src reports numbers records))
     (record { refusal = 3; state = ws; scratch = scratch; reports = reports; numbers = numbers; records = wordsOf records; answer = answer })
-
--- its first step, the read into numbers with room for so many records
-pub record NumbersCall : Type 0 where
-  pub result : ReadResult
-  pub answer : List ℕ
-
-abbrev pub numbersOf : ReadResult → NumbersCall
-numbersOf r = record { result = r; answer = readAnswer (r .answer) }
-
-unfoldable pub numbersCall : List ℕ → List ℕ → Markers → List ℕ → List ℕ → List ℕ → ℕ → List ℕ → NumbersCall
-numbersCall ws scratch m src reports numbers room answer =
-    cond (eqb (length answer) 5) (numbersOf (readNumbers ws scratch m src reports numbers room))
-    (record { result = readResult ws scratch reports numbers (refusedAnswer 3); answer = answer })

@@ -57,7 +57,8 @@ use Rattle.t2segs.proofs.fill as p
 use Rattle.t2segs.proofs.fill.Symbol as p-def
 use Rattle.t2segs.proofs.fill.Symbol.{name as #p}
 use Rattle.t2segs.proofs.fill.Met as p-thm
-use Rattle.capi.specs.Calls.{ReadCall, readCall, numbersCall}
+use Rattle.capi.specs.Calls.{ReadCall, readCall}
+use Rattle.capi.specs.Numbers.{numbersCall}
 use Rattle.capi.proofs.Laws.{filled-is-call}
 use Rattle.capi.proofs.read_words as g
 use Rattle.capi.proofs.read_words.Symbol as g-def
