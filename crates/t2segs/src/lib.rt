@@ -10,6 +10,7 @@ use t800::Markers;
 use t800::ReadAnswer;
 
 // Block number; 1 if the record opens a segment, else 0; passes; length.
+#[repr(C)]
 pub struct Segment {
     pub block: u32,
     pub opens: u32,
@@ -116,7 +117,7 @@ pub fn read_numbers(
 }
 
 // How many records a read stores: as many as it found, all where it wiped them, and none where it changed nothing.
-fn to_fill(a: ReadAnswer, room: usize) -> usize
+pub fn to_fill(a: ReadAnswer, room: usize) -> usize
     ensures { λ r. ⌜ r ≡ toFill a room ⌝ }
 {
     if a.refusal == 0 {
