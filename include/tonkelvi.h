@@ -47,7 +47,7 @@ enum tonkelvi_refusal {
     TONKELVI_HEADER_END = 12, /* the last bit read lies in a byte FF and the input ends with that byte */
     TONKELVI_RECORDS = 13     /* more segments than records lent */
 };
-/* In reading, 9, 12 and 13 wipe scratch, reports and records to 0. All other refusals but 11 change no list, `answer` apart. */
+/* In reading, 9, 12 and 13 wipe scratch, reports, numbers and records to 0. All other refusals but 11 change no list, `answer` apart. */
 
 /* The words of a state for these bands (blocks across and down, and bit-planes, of the first `count` of three), or 0 where a start
  * would give 1. */
@@ -105,10 +105,20 @@ uint32_t tonkelvi_write(
     uint8_t *output, size_t n_output,
     uint64_t *answer, size_t n_answer);
 
+/* A segment, or the part of one that a packet brings. */
+struct tonkelvi_segment {
+    uint32_t block;
+    uint32_t opens; /* 1 if its first pass is in this packet, or else 0 */
+    uint32_t passes;
+    uint32_t bytes;
+};
+
 /* Reads the next packet's markers and header from the front of `src`. State and scratch get the state after the packet.
  * reports, 4 words a block: 0 absent, 1 first time, 2 again; zero planes; block planes; passes. Planes are 0 unless the first is 1.
- * records, 4 words a segment, as many segments as a quarter of its length, rounded down: block number; 1 if it opens a segment, or else
- * 0; passes; length. Words behind the packet's segments are unchanged. 164 records a block are always enough.
+ * records: the packet's segments, in order, at the front of the list; the structs behind them are unchanged. 164 records a block are
+ * always enough.
+ * numbers: a work list of exactly 4 words for each struct of `records`, with any content. Where the call gives 0 the words at its front
+ * are those of the segments, field by field, and the others are unchanged.
  * answer, 5 words: 1 if the packet is present, or else 0; bytes taken with markers; segments; SOP mark; EPH mark. A mark is 0 in order
  * or not used, 1 too few bytes, 2 not found. Refusals: 5, 6, 3, then 9 before 13 at each segment, then 12. */
 uint32_t tonkelvi_read(
@@ -117,7 +127,8 @@ uint32_t tonkelvi_read(
     const uint8_t *src, size_t n_src,
     bool sop, bool eph,
     uint32_t *reports, size_t n_reports,
-    uint32_t *records, size_t n_records,
+    uint32_t *numbers, size_t n_numbers,
+    struct tonkelvi_segment *records, size_t n_records,
     uint64_t *answer, size_t n_answer);
 
 #ifdef __cplusplus

@@ -1,11 +1,12 @@
 -- The lent list of answer words, and the calls with one of the right length or another.
 use Prim.Native.Nat.{ℕ, _<_}
 use native.Mathlib.Omega.{arith}
-use mathlib.Core.Bool.{true, false}
-use mathlib.Core.Path.{_≡_, refl, ap}
+use mathlib.Core.Bool.{Bool, true, false}
+use mathlib.Core.Path.{_≡_, refl, sym, ap, _∙_}
 use mathlib.Core.Logic.{_≢_}
 use mathlib.Core.List.{List, [], _∷_}
 use lib.ListN.{length, length-set, set, take}
+use lib.Dec.{eqb}
 use borrow.Author.Tests.{eq-eqb, ne-eqb}
 use Rattle.t800.specs.declared.Band.{Band}
 use Rattle.t800.specs.declared.Markers.{Markers}
@@ -15,8 +16,15 @@ use Rattle.t800.specs.declared.ReadAnswer.{ReadAnswer}
 use Rattle.t800.specs.State.{stateLength}
 use Rattle.t800.specs.Ranges.{badShape}
 use Rattle.t800.specs.WriteHeader.{Contribution}
-use Rattle.t800.specs.Packet.{measure, write, read}
-use Rattle.capi.specs.Calls.{stateLengthOf, measured, measureCall, written, writeCall, readAnswer, readOf, readCall}
+use Rattle.t800.specs.Packet.{measure, write, ReadResult, refusedAnswer}
+use Rattle.t800.proofs.Laws.Tests.{if-true, if-false}
+use Rattle.t2read.specs.Answers.{readResult}
+use Rattle.tcdsegs.specs.declared.Segment.{Segment}
+use Rattle.tcdsegs.specs.Segments.{wordsOf, filled}
+use Rattle.t2segs.specs.Reading.{readNumbers, toFill}
+use Rattle.t2segs.proofs.Structs.{none-stored, filled-is-read}
+use Rattle.capi.specs.Calls.{stateLengthOf, measured, measureCall, written, writeCall, readAnswer, ReadCall, readOf, readCall}
+use Rattle.capi.specs.Numbers.{NumbersCall, numbersOf, numbersCall}
 
 -- ---- all words of a list set
 
@@ -70,12 +78,48 @@ module _ (ws scratch : List ℕ) (p : Contribution) (body : List ℕ) (m : Marke
   unfolding writeCall
   write-listed r vs s o l h e g = rw (eq-eqb (length answer) 1 h, g) (ap written e)
 
-module _ (ws scratch : List ℕ) (m : Markers) (src reports records answer : List ℕ) where
-  pub read-unlisted : length answer ≢ 5 → record { refusal = 3; state = ws; scratch = scratch; reports = reports; records = records; answer = answer } ≡ readCall ws scratch m src reports records answer
-  unfolding readCall
+module _ (ws scratch : List ℕ) (m : Markers) (src reports numbers : List ℕ) (room : ℕ) (answer : List ℕ) where
+  pub read-unlisted : length answer ≢ 5 → record { result = readResult ws scratch reports numbers (refusedAnswer 3); answer = answer } ≡ numbersCall ws scratch m src reports numbers room answer
+  unfolding numbersCall
   read-unlisted h = rw (ne-eqb (length answer) 5 h)
 
-  pub read-listed : (r : ReadAnswer) (vs s p q l : List ℕ) → length answer ≡ 5 → record { answer = r; state = vs; scratch = s; reports = p; records = q } ≡ read ws scratch m src reports records → l ≡ readAnswer r
-      → record { refusal = r .refusal; state = vs; scratch = s; reports = p; records = q; answer = l } ≡ readCall ws scratch m src reports records answer
-  unfolding readCall
-  read-listed r vs s p q l h e g = rw (eq-eqb (length answer) 5 h, g) (ap readOf e)
+  pub read-listed : (r : ReadAnswer) (vs s p q l : List ℕ) → length answer ≡ 5 → readResult vs s p q r ≡ readNumbers ws scratch m src reports numbers room → l ≡ readAnswer r
+      → record { result = readResult vs s p q r; answer = l } ≡ numbersCall ws scratch m src reports numbers room answer
+  unfolding numbersCall
+  read-listed r vs s p q l h e g = rw (eq-eqb (length answer) 5 h, g) (ap numbersOf e)
+
+-- what the three calls of `tonkelvi_read` give together
+module _ (ws scratch : List ℕ) (m : Markers) (src reports numbers : List ℕ) (records : List Segment) (answer : List ℕ) where
+  -- the call's result with the records that are stored from its numbers
+  abbrev restored : NumbersCall → ReadCall
+  restored z = record {
+    refusal = z .result .answer .refusal;
+    state = z .result .state;
+    scratch = z .result .scratch;
+    reports = z .result .reports;
+    numbers = z .result .records;
+    records = wordsOf (filled (z .result .records) (toFill (z .result .answer) (length records)) records);
+    answer = z .answer;
+  }
+
+  by-list : (t : Bool) → eqb (length answer) 5 ≡ t → (z : NumbersCall) → z ≡ numbersCall ws scratch m src reports numbers (length records) answer → length (z .result .records) ≡ length numbers
+      → restored z ≡ readCall ws scratch m src reports numbers records answer
+  unfolding numbersCall readCall toFill
+  by-list true t z e l =
+      let k = e ∙ if-true (eqb (length answer) 5) _ _ t in
+      let w = ap (λ (y : NumbersCall). y .result) k in
+      let r = z .result in
+      ap (λ (y : List ℕ). restored (record { result = r; answer = y })) (ap (λ (y : NumbersCall). y .answer) k ∙ ap (λ (y : ReadResult). readAnswer (y .answer)) (sym w))
+      ∙ ap readOf (filled-is-read ws scratch m src reports numbers records (r .state) (r .scratch) (r .reports) (r .records) (r .answer) _ _ w l refl refl)
+      ∙ sym (if-true (eqb (length answer) 5) _ _ t)
+  by-list false t z e l =
+      ap restored (e ∙ if-false (eqb (length answer) 5) _ _ t)
+      ∙ ap (λ (y : List ℕ). record { refusal = 3; state = ws; scratch = scratch; reports = reports; numbers = numbers; records = y; answer = answer }) (none-stored records numbers)
+      ∙ sym (if-false (eqb (length answer) 5) _ _ t)
+
+  pub filled-is-call : (z₀ z₁ z₃ z₄ z₆ : List ℕ) (a : ReadAnswer) (us : List Segment) (k : ℕ)
+      → record { result = readResult z₀ z₁ z₃ z₄ a; answer = z₆ } ≡ numbersCall ws scratch m src reports numbers (length records) answer → length z₄ ≡ length numbers → k ≡ toFill a (length records) → us ≡ filled z₄ k records
+      → record { refusal = a .refusal; state = z₀; scratch = z₁; reports = z₃; numbers = z₄; records = wordsOf us; answer = z₆ } ≡ readCall ws scratch m src reports numbers records answer
+  filled-is-call z₀ z₁ z₃ z₄ z₆ a us k e l f g =
+      ap (λ (y : List Segment). record { refusal = a .refusal; state = z₀; scratch = z₁; reports = z₃; numbers = z₄; records = wordsOf y; answer = z₆ }) (g ∙ ap (λ (j : ℕ). filled z₄ j records) f)
+      ∙ by-list (eqb (length answer) 5) refl (record { result = readResult z₀ z₁ z₃ z₄ a; answer = z₆ }) e l

@@ -1,4 +1,4 @@
--- What the exported calls answer: t800's calls, with the bands as nine numbers and the answer in a lent list of words.
+-- What the exported calls answer: t800's calls and t2segs's read, with the bands as nine numbers and the answer in a lent list of words.
 use Prim.Native.Nat.{ℕ}
 use mathlib.Core.Bool.{cond}
 use mathlib.Core.List.{List, [], _∷_}
@@ -10,7 +10,10 @@ use Rattle.t800.specs.declared.ReadAnswer.{ReadAnswer}
 use Rattle.t800.specs.State.{stateLength}
 use Rattle.t800.specs.Ranges.{badShape}
 use Rattle.t800.specs.WriteHeader.{Contribution}
-use Rattle.t800.specs.Packet.{MeasureResult, measure, WriteResult, write, ReadResult, read}
+use Rattle.t800.specs.Packet.{MeasureResult, measure, WriteResult, write}
+use Rattle.tcdsegs.specs.declared.Segment.{Segment}
+use Rattle.tcdsegs.specs.Segments.{wordsOf}
+use Rattle.t2segs.specs.Reading.{StructsRead, readStructs}
 
 -- across, down and planes of a band
 abbrev pub band : ℕ → ℕ → ℕ → Band
@@ -57,22 +60,32 @@ writeCall ws scratch p body m number output answer =
 
 -- ---- reading
 
+abbrev pub readAnswer : ReadAnswer → List ℕ
+readAnswer a = a .present ∷ a .taken ∷ a .segments ∷ a .sop ∷ a .eph ∷ []
+
+-- the records as their words, which determine them
 pub record ReadCall : Type 0 where
   pub refusal : ℕ
   pub state : List ℕ
   pub scratch : List ℕ
   pub reports : List ℕ
+  pub numbers : List ℕ
   pub records : List ℕ
   pub answer : List ℕ
 
-abbrev pub readAnswer : ReadAnswer → List ℕ
-readAnswer a = a .present ∷ a .taken ∷ a .segments ∷ a .sop ∷ a .eph ∷ []
+abbrev pub readOf : StructsRead → ReadCall
+readOf r = record {
+  refusal = r .result .answer .refusal;
+  state = r .result .state;
+  scratch = r .result .scratch;
+  reports = r .result .reports;
+  numbers = r .numbers;
+  records = r .result .records;
+  answer = readAnswer (r .result .answer);
+}
 
-abbrev pub readOf : ReadResult → ReadCall
-readOf r = record { refusal = r .answer .refusal; state = r .state; scratch = r .scratch; reports = r .reports; records = r .records; answer = readAnswer (r .answer) }
-
--- state, scratch, marker settings, input, block reports, segment records, the lent list of five words
-unfoldable pub readCall : List ℕ → List ℕ → Markers → List ℕ → List ℕ → List ℕ → List ℕ → ReadCall
-readCall ws scratch m src reports records answer =
-    cond (eqb (length answer) 5) (readOf (read ws scratch m src reports records))
-    (record { refusal = 3; state = ws; scratch = scratch; reports = reports; records = records; answer = answer })
+-- state, scratch, marker settings, input, block reports, work list, segment records, the lent list of five words
+unfoldable pub readCall : List ℕ → List ℕ → Markers → List ℕ → List ℕ → List ℕ → List Segment → List ℕ → ReadCall
+readCall ws scratch m src reports numbers records answer =
+    cond (eqb (length answer) 5) (readOf (readStructs ws scratch m src reports numbers records))
+    (record { refusal = 3; state = ws; scratch = scratch; reports = reports; numbers = numbers; records = wordsOf records; answer = answer })

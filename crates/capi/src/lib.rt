@@ -5,9 +5,14 @@ ghost use lib.ListN.{length};
 ghost use Rattle.t800.specs.State.{writer, reader};
 ghost use Rattle.t800.specs.Start.{start};
 ghost use Rattle.t2check.specs.Refusals.{contribution};
+ghost use Rattle.t2read.specs.Answers.{readResult};
+ghost use Rattle.tcdsegs.specs.Segments.{wordsOf};
 ghost use Rattle.capi.specs.Calls.{band, threeBands, stateLengthOf, measureCall, writeCall, readCall};
+ghost use Rattle.capi.specs.Numbers.{numbersCall};
 use t800::Band;
 use t800::Markers;
+use t800::ReadAnswer;
+use tcdsegs::Segment;
 
 // ---- starts
 
@@ -234,6 +239,43 @@ pub extern "C" fn tonkelvi_write(
     r.refusal
 }
 
+// The read into numbers, which must be four for each record that there is room for.
+fn read_words(
+    state: &mut [u32],
+    scratch: &mut [u32],
+    src: &[u8],
+    sop: bool,
+    eph: bool,
+    reports: &mut [u32],
+    numbers: &mut [u32],
+    room: usize,
+    answer: &mut [u64],
+) -> ReadAnswer
+    ensures { λ r. ⌜ record { result = readResult (now (state .exit)) (now (scratch .exit)) (now (reports .exit)) (now (numbers .exit)) r; answer = now (answer .exit) } ≡ numbersCall (now (state .entry)) (now (scratch .entry)) (record { sop = sop; eph = eph }) (now (src .entry)) (now (reports .entry)) (now (numbers .entry)) room (now (answer .entry)) ⌝ }
+{
+    if answer.len() != 5 {
+        return ReadAnswer {
+            refusal: 3,
+            present: 0,
+            taken: 0,
+            segments: 0,
+            sop: 0,
+            eph: 0,
+        };
+    }
+    let markers = Markers { sop, eph };
+    let r = t2segs::read_numbers(state, scratch, src, markers, reports, numbers, room);
+    put_five(
+        answer,
+        r.present as u64,
+        r.taken,
+        r.segments,
+        r.sop as u64,
+        r.eph as u64,
+    );
+    r
+}
+
 // Answers present, bytes taken, segments, SOP mark, EPH mark.
 #[no_mangle]
 pub extern "C" fn tonkelvi_read(
@@ -243,22 +285,25 @@ pub extern "C" fn tonkelvi_read(
     sop: bool,
     eph: bool,
     reports: &mut [u32],
-    records: &mut [u32],
+    numbers: &mut [u32],
+    records: &mut [Segment],
     answer: &mut [u64],
 ) -> u32
-    ensures { λ r. ⌜ record { refusal = r; state = now (state .exit); scratch = now (scratch .exit); reports = now (reports .exit); records = now (records .exit); answer = now (answer .exit) } ≡ readCall (now (state .entry)) (now (scratch .entry)) (record { sop = sop; eph = eph }) (now (src .entry)) (now (reports .entry)) (now (records .entry)) (now (answer .entry)) ⌝ }
+    ensures { λ r. ⌜ record { refusal = r; state = now (state .exit); scratch = now (scratch .exit); reports = now (reports .exit); numbers = now (numbers .exit); records = wordsOf (now (records .exit)); answer = now (answer .exit) } ≡ readCall (now (state .entry)) (now (scratch .entry)) (record { sop = sop; eph = eph }) (now (src .entry)) (now (reports .entry)) (now (numbers .entry)) (now (records .entry)) (now (answer .entry)) ⌝ }
 {
-    if answer.len() != 5 {
-        return 3;
-    }
-    let r = t2::read(state, scratch, src, Markers { sop, eph }, reports, records);
-    put_five(
+    let room = records.len();
+    let a = read_words(
+        state,
+        scratch,
+        src,
+        sop,
+        eph,
+        reports,
+        numbers,
+        room,
         answer,
-        r.present as u64,
-        r.taken,
-        r.segments,
-        r.sop as u64,
-        r.eph as u64,
     );
-    r.refusal
+    let m = t2segs::to_fill(a, room);
+    tcdsegs::fill(records, numbers, m);
+    a.refusal
 }

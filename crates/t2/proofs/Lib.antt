@@ -1,4 +1,3 @@
 pub mod Laws
 pub mod RoundTrip
 pub mod Numbers
-pub mod Layer

@@ -1,4 +1,3 @@
 pub mod Front
 pub mod Calls
 pub mod Numbers
-pub mod Layer

@@ -8,11 +8,10 @@ ghost use lib.ListN.{length};
 ghost use Rattle.t800.specs.State.{writer, reader};
 ghost use Rattle.t800.specs.Start.{start};
 ghost use Rattle.t800.specs.MarkerSegments.{sopBytes, ephBytes};
-ghost use Rattle.t800.specs.Packet.{measure, write, read, refusedAnswer};
+ghost use Rattle.t800.specs.Packet.{measure, write, read};
 ghost use Rattle.t2check.specs.Refusals.{contribution, measureRefusalFor};
 ghost use Rattle.t2encheader.specs.Header.{headerCoded};
 ghost use Rattle.t2.specs.Front.{bytesPut, putBytes, putFront};
-ghost use Rattle.t2.specs.Layer.{firstLayer, lent, layerResult, writeAndRead, GivesEntry};
 use t800::Band;
 use t800::Markers;
 use t800::MeasureAnswer;
@@ -198,65 +197,4 @@ pub fn read(
     ensures { λ r. ⌜ record { answer = r; state = now (state .exit); scratch = now (scratch .exit); reports = now (reports .exit); records = now (records .exit) } ≡ read (now (state .entry)) (now (scratch .entry)) markers (now (src .entry)) (now (reports .entry)) (now (records .entry)) ⌝ }
 {
     t2read::read(state, scratch, markers, src, reports, records)
-}
-
-// ---- the round trip of one layer
-
-fn refused(refusal: u32) -> ReadAnswer
-    ensures { λ r. ⌜ r ≡ refusedAnswer refusal ⌝ }
-{
-    ReadAnswer {
-        refusal,
-        present: 0,
-        taken: 0,
-        segments: 0,
-        sop: 0,
-        eph: 0,
-    }
-}
-
-// A precinct's first layer, written with the calls above and read back.
-pub fn write_and_read(
-    count: u32,
-    bands: [Band; 3],
-    style: u8,
-    planes: &[u32],
-    writer: &mut [u32],
-    reader: &mut [u32],
-    scratch: &mut [u32],
-    counts: &[u32],
-    lengths: &[u32],
-    marks: &[u8],
-    body: &[u8],
-    markers: Markers,
-    number: u32,
-    output: &mut [u8],
-    reports: &mut [u32],
-    records: &mut [u32],
-) -> ReadAnswer
-    ensures { λ r. ⌜ (layerResult r (now (writer .exit)) (now (reader .exit)) (now (scratch .exit)) (now (output .exit)) (now (reports .exit)) (now (records .exit)) ≡ writeAndRead (firstLayer count bands style (now (planes .entry)) (contribution (now (counts .entry)) (now (lengths .entry)) (now (marks .entry))) (now (body .entry)) markers number) (lent (now (writer .entry)) (now (reader .entry)) (now (scratch .entry)) (now (output .entry)) (now (reports .entry)) (now (records .entry)))) × GivesEntry (firstLayer count bands style (now (planes .entry)) (contribution (now (counts .entry)) (now (lengths .entry)) (now (marks .entry))) (now (body .entry)) markers number) (lent (now (writer .entry)) (now (reader .entry)) (now (scratch .entry)) (now (output .entry)) (now (reports .entry)) (now (records .entry))) r (now (reports .exit)) (now (records .exit)) ⌝ }
-{
-    let first = start_writer(count, bands, style, planes, writer);
-    if first != 0 {
-        return refused(first);
-    }
-    let second = start_reader(count, bands, style, &planes[0..0], reader);
-    if second != 0 {
-        return refused(second);
-    }
-    let written = write(
-        writer,
-        scratch,
-        counts,
-        lengths,
-        marks,
-        body,
-        markers,
-        number,
-        output,
-    );
-    if written.refusal != 0 {
-        return refused(written.refusal);
-    }
-    read(reader, scratch, output, markers, reports, records)
 }

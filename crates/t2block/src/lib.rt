@@ -124,7 +124,7 @@ fn code_inclusion(
         return tgtenc::opj_tgt_encode(words, out, b, p.incl, row, p.depth, p.x, layer + 1);
     }
     let bit = included(count);
-    bio::opj_bio_putbit(out, b, bit)
+    biolent::bit_out(out, b, bit)
 }
 
 // At first inclusion.

@@ -82,12 +82,12 @@ pub fn opj_t2_getnumpasses(src: &[u8], b: Bio) -> Decoded
     requires { ⌜ b .ct ≤ 8 ⌝ }
     ensures { λ r. ⌜ decoded r ≡ readPasses (now (src .entry)) b ⌝ }
 {
-    let first = biodec::opj_bio_getbit(src, b);
+    let first = biolent::bit_in(src, b);
     if first.value == 0 {
         let bio = first.bio;
         return Decoded { value: 1, bio };
     }
-    let second = biodec::opj_bio_getbit(src, first.bio);
+    let second = biolent::bit_in(src, first.bio);
     if second.value == 0 {
         let bio = second.bio;
         return Decoded { value: 2, bio };
@@ -130,7 +130,7 @@ pub fn opj_t2_getcommacode(src: &[u8], b: Bio) -> Decoded
     let mut value = 0;
     let mut left = ones_limit(src);
     while 0 < left {
-        let r = biodec::opj_bio_getbit(src, bio);
+        let r = biolent::bit_in(src, bio);
         bio = r.bio;
         if r.value == 0 {
             return Decoded { value, bio };

@@ -249,7 +249,7 @@ fn read_old(
     requires { ⌜ (r .bio .ct ≤ 8) × (at + 3 < length (now words)) × (block < 2 ^ 32) × (BlockFits (now words) at) ⌝ }
     ensures { λ o. ⌜ reading (now (words .exit)) (now (reports .exit)) (now (records .exit)) o ≡ nextOld (now (src .entry)) block (blockAt at) (reading (now (words .entry)) (now (reports .entry)) (now (records .entry)) r) ⌝ }
 {
-    let bit = biodec::opj_bio_getbit(src, r.bio);
+    let bit = biolent::bit_in(src, r.bio);
     let run = moved(r, bit.bio);
     if bit.value == 0 {
         tcd::put_report(reports, block, 0, 0, 0, 0);

@@ -35,7 +35,7 @@ use Rattle.t2segs.proofs.Numbers.{numbers-refused, numbers-read}
 -- ---- what is stored, case by case
 
 module _ (rs : List Segment) where
-  none-stored : (ws : List ℕ) → wordsOf (filled ws 0 rs) ≡ wordsOf rs
+  pub none-stored : (ws : List ℕ) → wordsOf (filled ws 0 rs) ≡ wordsOf rs
   none-stored ws = ap wordsOf (stored-none (segmentAt ws) rs)
 
   -- as many as were found

@@ -57,7 +57,7 @@ pub fn read_numbers(
 }
 
 // How many records a read stores: as many as it found, all where it wiped them, and none where it changed nothing.
-fn to_fill(a: ReadAnswer, room: usize) -> usize
+pub fn to_fill(a: ReadAnswer, room: usize) -> usize
     ensures { λ r. ⌜ r ≡ toFill a room ⌝ }
 {
     if a.refusal == 0 {

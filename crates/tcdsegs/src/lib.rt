@@ -5,6 +5,7 @@ ghost use lib.ListN.{set, getD};
 ghost use Rattle.tcdsegs.specs.Segments.{segmentAt, filled};
 
 // Block number; 1 if the record opens a segment, else 0; passes; length.
+#[repr(C)]
 pub struct Segment {
     pub block: u32,
     pub opens: u32,

@@ -45,7 +45,7 @@ fn tell(words: &mut [u32], out: &mut [u8], b: Bio, at: usize) -> Bio
     let known = words[at];
     words[at] = 1;
     if known == 0 {
-        return bio::opj_bio_putbit(out, b, 1);
+        return biolent::bit_out(out, b, 1);
     }
     b
 }
@@ -101,7 +101,7 @@ fn encode_one(words: &mut [u32], out: &mut [u8], b: Bio, at: usize, threshold: u
     let low = threshold - bit;
     words[at + 1] = low;
     words[at + 2] = bit;
-    let bio = bio::opj_bio_putbit(out, b, bit);
+    let bio = biolent::bit_out(out, b, bit);
     Behind { low, bio }
 }
 

@@ -569,7 +569,8 @@ pub fn read(
     sop: bool,
     eph: bool,
     reports: &mut [u32],
-    records: &mut [u32],
+    numbers: &mut [u32],
+    records: &mut [[u32; 4]],
     answer: &mut [u64],
 ) -> u32 {
     if answer.len() != 5 {
@@ -583,7 +584,7 @@ pub fn read(
         return 6;
     }
     let blocks = layout(&bands_of(state)).2;
-    if reports.len() != 4 * blocks {
+    if reports.len() != 4 * blocks || numbers.len() != 4 * records.len() {
         return 3;
     }
     let (sop_mark, skipped) = marker(sop, src, 0, 6, 0x91);
@@ -593,7 +594,7 @@ pub fn read(
     let mut told = Told { reports: vec![[0; 4]; blocks], records: Vec::new() };
     let mut refusal = 0;
     if present {
-        match read_blocks(&mut words, &mut bits, records.len() / 4) {
+        match read_blocks(&mut words, &mut bits, records.len()) {
             Ok(all) => told = all,
             Err(number) => refusal = number,
         }
@@ -609,7 +610,8 @@ pub fn read(
     if refusal != 0 {
         scratch.fill(0);
         reports.fill(0);
-        records.fill(0);
+        numbers.fill(0);
+        records.fill([0; 4]);
         return refusal;
     }
     let (eph_mark, behind) = marker(eph, src, end, 2, 0x92);
@@ -617,7 +619,8 @@ pub fn read(
     state.copy_from_slice(&words);
     scratch.copy_from_slice(&words);
     reports.copy_from_slice(told.reports.as_flattened());
-    records[..4 * told.records.len()].copy_from_slice(told.records.as_flattened());
+    numbers[..4 * told.records.len()].copy_from_slice(told.records.as_flattened());
+    records[..told.records.len()].copy_from_slice(&told.records);
     answer.copy_from_slice(&[u64::from(present), (end + behind) as u64, told.records.len() as u64, sop_mark, eph_mark]);
     0
 }

@@ -8,6 +8,7 @@ pub type Bands = [[u32; 3]; 3];
 
 /// What the lists held before a call is written over by it; these are the words that no call is to keep by chance.
 const USED: u32 = 0xdead_beef;
+const USED_RECORD: [u32; 4] = [0xfeed_0001, 0xfeed_0002, 0xfeed_0003, 0xfeed_0004];
 
 #[derive(Clone, Copy, PartialEq, Eq, Debug)]
 pub enum Call {
@@ -201,7 +202,7 @@ impl Pair {
         (number, buffers.1)
     }
 
-    /// A read on the state. Gives the number and the answer.
+    /// A read on the state, with a work list of so many words for so many records. Gives the number and the answer.
     #[allow(clippy::too_many_arguments)]
     pub fn read(
         &mut self,
@@ -210,14 +211,18 @@ impl Pair {
         src: &[u8],
         markers: Markers,
         reports: usize,
+        numbers: usize,
         records: usize,
         answer: usize,
     ) -> (u32, Vec<u64>) {
         let before = state.clone();
-        let mut buffers = (vec![USED; scratch], vec![USED; reports], vec![USED; records], vec![u64::MAX; answer]);
+        let mut buffers = (vec![USED; scratch], vec![USED; reports], vec![USED; numbers], vec![u64::MAX; answer]);
         let mut expected = buffers.clone();
         let mut expected_state = state.clone();
-        let number = words::read(state, &mut buffers.0, src, markers.sop, markers.eph, &mut buffers.1, &mut buffers.2, &mut buffers.3);
+        let mut lent = vec![segment(USED_RECORD); records];
+        let mut expected_records = vec![USED_RECORD; records];
+        let number =
+            words::read(state, &mut buffers.0, src, markers.sop, markers.eph, &mut buffers.1, &mut buffers.2, &mut lent, &mut buffers.3);
         let should = model::read(
             &mut expected_state,
             &mut expected.0,
@@ -226,18 +231,32 @@ impl Pair {
             markers.eph,
             &mut expected.1,
             &mut expected.2,
+            &mut expected_records,
             &mut expected.3,
         );
-        let text =
-            || format!("read {before:?} scratch {scratch} {src:02x?} {markers:?} reports {reports} records {records} answer {answer}");
+        let text = || {
+            format!(
+                "read {before:?} scratch {scratch} {src:02x?} {markers:?} reports {reports} numbers {numbers} records {records} answer {answer}"
+            )
+        };
+        let lent: Vec<[u32; 4]> = lent.iter().map(record).collect();
         same("numbers", &number, &should, &text);
         same("states", state, &expected_state, &text);
         same("buffers", &buffers, &expected, &text);
-        let told = (number, &state[..], &buffers.1[..], &buffers.2[..], &buffers.3[..]);
+        same("records", &lent, &expected_records, &text);
+        let told = (number, &state[..], &buffers.1[..], lent.as_flattened(), &buffers.3[..]);
         let with_crate = matches!(number, 0 | 9 | 12) && crate_reads(&before, src, markers, told, &text);
         self.count(Call::Read, number, with_crate);
         (number, buffers.3)
     }
+}
+
+fn segment([block, opens, passes, bytes]: [u32; 4]) -> words::Segment {
+    words::Segment { block, opens, passes, bytes }
+}
+
+fn record(segment: &words::Segment) -> [u32; 4] {
+    [segment.block, segment.opens, segment.passes, segment.bytes]
 }
 
 // ---- the crate

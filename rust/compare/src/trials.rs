@@ -33,7 +33,7 @@ impl Trials {
 
     fn read(&mut self, state: &mut Vec<u32>, src: &[u8], markers: Markers, records: usize) -> u32 {
         let (length, reports) = (state.len(), 4 * inputs::blocks_in(state));
-        self.pair.read(state, length, src, markers, reports, 4 * records, 5).0
+        self.pair.read(state, length, src, markers, reports, 4 * records, records, 5).0
     }
 
     // ---- starts
@@ -150,9 +150,13 @@ impl Trials {
             let src = inputs::noise(&mut self.random);
             self.read(&mut state.clone(), &src, markers, 164 * 27);
         }
-        let mut damaged = inputs::damaged_state(&mut self.random, &state);
-        let (length, src) = (damaged.len(), inputs::noise(&mut self.random));
-        self.pair.read(&mut damaged, length, &src, markers, 4 * shape.planes.len(), 400, 5);
+        let damaged = inputs::damaged_state(&mut self.random, &state);
+        for mut state in [damaged, state] {
+            let (length, src) = (state.len(), inputs::noise(&mut self.random));
+            let other = self.random.once_in(2);
+            let numbers = self.near(400, other);
+            self.pair.read(&mut state, length, &src, markers, 4 * shape.planes.len(), numbers, 100, 5);
+        }
     }
 
     // ---- lists of other lengths
@@ -220,8 +224,10 @@ impl Trials {
         let reports = self.near(4 * shape.planes.len(), list == 0);
         let scratch = self.near(state.len(), list == 3);
         let answer = self.near(5, list == 4);
-        let records = self.random.below(40) as usize;
-        self.pair.read(&mut state, scratch, &src, markers, reports, records, answer);
+        let records = self.random.below(10) as usize;
+        let other = list == 1 || self.random.once_in(4);
+        let numbers = self.near(4 * records, other);
+        self.pair.read(&mut state, scratch, &src, markers, reports, numbers, records, answer);
     }
 
     // ---- every short input, every count

@@ -70,7 +70,9 @@ pub struct Reader {
     state: Vec<u32>,
     scratch: Vec<u32>,
     reports: Vec<u32>,
-    records: Vec<u32>,
+    /// The engine's work list, four words for each record.
+    numbers: Vec<u32>,
+    records: Vec<words::Segment>,
 }
 
 /// A block has at most so many segments in one layer: one for each pass.
@@ -87,10 +89,11 @@ impl Reader {
 
     /// A reader that goes on from a state kept earlier. Whether the words are in range is looked at by each call.
     pub fn from_state(state: Vec<u32>) -> Reader {
+        let blocks = blocks_in(&state);
         let scratch = vec![0; state.len()];
-        let reports = vec![0; 4 * blocks_in(&state)];
-        let records = reports.clone();
-        Reader { state, scratch, reports, records }
+        let (reports, numbers) = (vec![0; 4 * blocks], vec![0; 4 * blocks]);
+        let records = vec![words::Segment::default(); blocks];
+        Reader { state, scratch, reports, numbers, records }
     }
 
     /// The state's words.
@@ -123,6 +126,7 @@ impl Reader {
             markers.sop,
             markers.eph,
             &mut self.reports,
+            &mut self.numbers,
             &mut self.records,
             &mut answer,
         ))?;
@@ -131,10 +135,11 @@ impl Reader {
 
     /// Lends twice the records, up to the most that a packet can have; false if there were so many already.
     fn lend_more(&mut self) -> bool {
-        let most = self.reports.len() * MOST_SEGMENTS;
+        let most = self.reports.len() / 4 * MOST_SEGMENTS;
         let more = self.records.len().saturating_mul(2).min(most);
         let grows = self.records.len() < more;
-        self.records.resize(more, 0);
+        self.records.resize(more, words::Segment::default());
+        self.numbers.resize(4 * more, 0);
         grows
     }
 
@@ -145,7 +150,7 @@ impl Reader {
             sop: mark(sop),
             eph: mark(eph),
             blocks: self.reports.chunks_exact(4).map(block).collect(),
-            segments: self.records.chunks_exact(4).take(segments as usize).map(segment).collect(),
+            segments: self.records.iter().take(segments as usize).map(segment).collect(),
         }
     }
 }
@@ -173,6 +178,6 @@ fn block(row: &[u32]) -> Block {
     }
 }
 
-fn segment(row: &[u32]) -> Segment {
-    Segment { block: row[0] as usize, opens: row[1] != 0, passes: row[2], bytes: row[3] }
+fn segment(record: &words::Segment) -> Segment {
+    Segment { block: record.block as usize, opens: record.opens != 0, passes: record.passes, bytes: record.bytes }
 }

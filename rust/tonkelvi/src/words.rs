@@ -1,7 +1,20 @@
-//! The engine's calls as they are exported, on lent slices of words. Each takes slices of any length with any content: its contract has
-//! no precondition, and it turns away what it cannot use under one of the thirteen numbers.
+//! The engine's calls as they are exported, on lent slices of words and of segment records. Each takes slices of any length with any
+//! content: its contract has no precondition, and it turns away what it cannot use under one of the thirteen numbers.
+
+/// A segment as the engine records it.
+#[repr(C)]
+#[derive(Clone, Copy, Default, PartialEq, Eq, Debug)]
+pub struct Segment {
+    pub block: u32,
+    /// 1 if its first pass is in this packet, or else 0.
+    pub opens: u32,
+    pub passes: u32,
+    pub bytes: u32,
+}
 
 mod exported {
+    use super::Segment;
+
     extern "C" {
         pub fn tonkelvi_state_length(
             count: u32,
@@ -97,7 +110,9 @@ mod exported {
             eph: bool,
             reports: *mut u32,
             n_reports: usize,
-            records: *mut u32,
+            numbers: *mut u32,
+            n_numbers: usize,
+            records: *mut Segment,
             n_records: usize,
             answer: *mut u64,
             n_answer: usize,
@@ -239,7 +254,8 @@ pub fn write(
     }
 }
 
-/// Reads a packet's header. `answer` has five words: present, bytes taken, segments, SOP mark, EPH mark.
+/// Reads a packet's header. `numbers` is a work list of four words for each record. `answer` has five words: present, bytes taken,
+/// segments, SOP mark, EPH mark.
 #[allow(clippy::too_many_arguments)]
 pub fn read(
     state: &mut [u32],
@@ -248,7 +264,8 @@ pub fn read(
     sop: bool,
     eph: bool,
     reports: &mut [u32],
-    records: &mut [u32],
+    numbers: &mut [u32],
+    records: &mut [Segment],
     answer: &mut [u64],
 ) -> u32 {
     // SAFETY: as in start_writer.
@@ -264,6 +281,8 @@ pub fn read(
             eph,
             reports.as_mut_ptr(),
             reports.len(),
+            numbers.as_mut_ptr(),
+            numbers.len(),
             records.as_mut_ptr(),
             records.len(),
             answer.as_mut_ptr(),

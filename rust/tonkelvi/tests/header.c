@@ -13,10 +13,15 @@ int main(void) {
     const uint32_t planes[1] = {5}, counts[1] = {1}, lengths[1] = {5};
     const uint8_t marks[1] = {0}, body[5] = {1, 2, 3, 4, 5};
     const uint8_t packet[14] = {0xff, 0x91, 0, 4, 0, 1, 0xe5, 0xff, 0x92, 1, 2, 3, 4, 5};
-    const uint32_t report[4] = {1, 0, 5, 1}, record[4] = {0, 1, 1, 5};
-    uint32_t reports[4], records[4];
+    const uint32_t report[4] = {1, 0, 5, 1};
+    const struct tonkelvi_segment record = {0, 1, 1, 5}, unused = {7, 7, 7, 7};
+    struct tonkelvi_segment records[2] = {{7, 7, 7, 7}, {7, 7, 7, 7}};
+    uint32_t reports[4], numbers[8];
     uint8_t output[14];
     uint64_t answer[5];
+
+    EXPECT(sizeof record == 16 && offsetof(struct tonkelvi_segment, block) == 0 && offsetof(struct tonkelvi_segment, opens) == 4);
+    EXPECT(offsetof(struct tonkelvi_segment, passes) == 8 && offsetof(struct tonkelvi_segment, bytes) == 12);
 
     size_t n = tonkelvi_state_length(1, 1, 1, 5, 0, 0, 0, 0, 0, 0);
     EXPECT(n == 13 + 6 + 4);
@@ -34,11 +39,14 @@ int main(void) {
     EXPECT(answer[0] == 14 && memcmp(output, packet, 14) == 0);
 
     EXPECT(tonkelvi_start_reader(1, 1, 1, 5, 0, 0, 0, 0, 0, 0, 0, NULL, 0, state, n) == 0);
-    EXPECT(tonkelvi_read(state, n, scratch, n, packet, 14, true, true, reports, 4, NULL, 0, answer, 5) == TONKELVI_RECORDS);
-    EXPECT(tonkelvi_read(state, n, scratch, n, packet, 14, true, true, reports, 4, records, 4, answer, 5) == 0);
+    EXPECT(tonkelvi_read(state, n, scratch, n, packet, 14, true, true, reports, 4, NULL, 0, NULL, 0, answer, 5) == TONKELVI_RECORDS);
+    EXPECT(tonkelvi_read(state, n, scratch, n, packet, 14, true, true, reports, 4, numbers, 7, records, 2, answer, 5) == TONKELVI_LIST);
+    EXPECT(memcmp(records, &unused, sizeof unused) == 0);
+    EXPECT(tonkelvi_read(state, n, scratch, n, packet, 14, true, true, reports, 4, numbers, 8, records, 2, answer, 5) == 0);
     EXPECT(answer[0] == 1 && answer[1] == 9 && answer[2] == 1 && answer[3] == 0 && answer[4] == 0);
-    EXPECT(memcmp(reports, report, sizeof report) == 0 && memcmp(records, record, sizeof record) == 0);
-    EXPECT(tonkelvi_read(state, n, scratch, n, NULL, 0, false, false, reports, 4, records, 4, answer, 5) == 0);
+    EXPECT(memcmp(reports, report, sizeof report) == 0);
+    EXPECT(memcmp(&records[0], &record, sizeof record) == 0 && memcmp(&records[1], &unused, sizeof unused) == 0);
+    EXPECT(tonkelvi_read(state, n, scratch, n, NULL, 0, false, false, reports, 4, numbers, 8, records, 2, answer, 5) == 0);
     EXPECT(answer[0] == 0 && answer[1] == 0 && state[3] == 2);
     free(state);
     free(scratch);

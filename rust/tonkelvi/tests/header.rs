@@ -21,3 +21,13 @@ fn header() {
     assert!(built.success());
     assert_eq!(Command::new(program).status().unwrap().code(), Some(0), "the line of header.c that failed");
 }
+
+/// As header.c has it of the struct in C.
+#[test]
+fn layout() {
+    use std::mem::{align_of, offset_of, size_of};
+    use tonkelvi::words::Segment;
+    assert_eq!((size_of::<Segment>(), align_of::<Segment>()), (16, 4));
+    let offsets = [offset_of!(Segment, block), offset_of!(Segment, opens), offset_of!(Segment, passes), offset_of!(Segment, bytes)];
+    assert_eq!(offsets, [0, 4, 8, 12]);
+}

@@ -1,4 +1,4 @@
--- `bio::held_bits` meets its contract.
+-- `biodec::held_bits` meets its contract.
 -- Assumes nothing.
 use mathlib.Core.Path.{_≡_, ap, _∙_}
 use Prim.Native.Nat.{_-_, _/_, _%_, _^_}

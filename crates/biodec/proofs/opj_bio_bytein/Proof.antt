@@ -1,4 +1,4 @@
--- `bio::opj_bio_bytein` meets its contract.
+-- `biodec::opj_bio_bytein` meets its contract.
 -- Assumes nothing.
 use mathlib.Core.Path.{ap, ap₂, _∙_}
 use mathlib.Core.Bool.{cond}

@@ -1,4 +1,4 @@
--- `bio::opj_bio_getbit` meets its contract.
+-- `biodec::opj_bio_getbit` meets its contract.
 -- Assumes nothing.
 use mathlib.Core.Path.{ap, _∙_}
 use native.Mathlib.Omega.{arith}

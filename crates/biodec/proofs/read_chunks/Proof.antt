@@ -1,4 +1,4 @@
--- `bio::read_chunks` meets its contract. The invariant: what is left to read, behind what is read, is the whole.
+-- `biodec::read_chunks` meets its contract. The invariant: what is left to read, behind what is read, is the whole.
 -- Assumes nothing.
 use mathlib.Core.Path.{_≡_, refl, sym, ap, _∙_, subst}
 use mathlib.Core.List.{List}

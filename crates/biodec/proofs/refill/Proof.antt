@@ -1,4 +1,4 @@
--- `bio::refill` meets its contract.
+-- `biodec::refill` meets its contract.
 -- Assumes nothing.
 use mathlib.Core.Path.{_∙_}
 use borrow.Author.Needs.{needs}

@@ -1,4 +1,4 @@
--- `biolent::opj_bio_getbit` meets its contract: a walk of its MIR, by hand. The borrow is opened, the record is copied out, `bio::opj_bio_getbit` is called, the record of its answer is stored, and the borrow is closed at it.
+-- `biolent::opj_bio_getbit` meets its contract: a walk of its MIR, by hand. The borrow is opened, the record is copied out, `biodec::opj_bio_getbit` is called, the record of its answer is stored, and the borrow is closed at it.
 use mathlib.Core.Path.{_≡_, refl, ap}
 use Prim.Native.Nat.{ℕ, _<_, _≤_, _^_}
 use mathlib.Core.List.{List, [], _∷_}

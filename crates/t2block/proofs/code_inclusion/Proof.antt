@@ -39,8 +39,8 @@ returns c =
 included-requires : tie.Need-included-requires
 included-requires c κs = search needs
 
-opj-bio-putbit-requires : tie.Need-opj-bio-putbit-requires
-opj-bio-putbit-requires c κs =
+bit-out-requires : tie.Need-bit-out-requires
+bit-out-requires c κs =
     let s = c .before .before .before .before .before .before in
     (s .pre .0, subst (λ (k : ℕ). k ≤ 1) (sym (c .before .included .ensures)) (either (λ (k : ℕ). k ≤ 1) (ltb 0 (s .args .count)) 1 0 (omega arith) (omega arith)))
 
@@ -52,7 +52,7 @@ unfolding putBits
 returns-2 c =
     let s = c .before .before .before .before .before .before .before .before .before in
     let o = output (s .args .out .now) (s .args .b) in
-    ap (coded (s .args .words .now)) (c .before .before .opj-bio-putbit .ensures ∙ ap (putBit o) (c .before .before .before .before .included .ensures))
+    ap (coded (s .args .words .now)) (c .before .before .bit-out .ensures ∙ ap (putBit o) (c .before .before .before .before .included .ensures))
     ∙ ap (putCoded o) (incl-old (s .args .words .now) (blockOver (s .args .p) (s .args .row .now)) (s .args .layer) (s .args .count) (c .before .before .before .before .before .if1 .left))
 
 pub code-inclusion-spec : {M : Type 1} → statement M
@@ -67,6 +67,6 @@ code-inclusion-spec =
     same-length-2
     returns
     included-requires
-    opj-bio-putbit-requires
+    bit-out-requires
     same-length-3
     returns-2)

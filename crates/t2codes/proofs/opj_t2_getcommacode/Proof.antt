@@ -29,13 +29,13 @@ loop-holds c =
     let e = c .ones-limit .ensures in
     (s .pre, omega arith, ap (λ (f : ℕ). readOnes (s .args .src .now) f 0 (s .args .b)) e)
 
-opj-bio-getbit-requires : tie.Need-opj-bio-getbit-requires Inv-loop μ-loop
-opj-bio-getbit-requires c κs = c .before .loop .inv .0
+bit-in-requires : tie.Need-bit-in-requires Inv-loop μ-loop
+bit-in-requires c κs = c .before .loop .inv .0
 
 returns : tie.Need-returns Inv-loop μ-loop
 returns c =
     let l = c .before .before .before .before .before .loop in
-    let e = c .before .before .before .opj-bio-getbit .ensures in
+    let e = c .before .before .before .bit-in .ensures in
     ap (λ (d : Decoded). record { value = l .value; bio = d .bio }) e
     ∙ sym (ones-end (c .before .before .before .before .before .before .before .before .args .src .now) (l .left) (l .value) (l .bio) (c .before .before .before .before .loop-test .taken) (sym (ap (λ (d : Decoded). d .value) e) ∙ c .if1 .taken))
     ∙ l .inv .2
@@ -53,7 +53,7 @@ loop-again : tie.Need-loop-again Inv-loop μ-loop
 loop-again c =
     let l = c .before .before .before .before .before .loop in
     let src = c .before .before .before .before .before .before .before .before .args .src .now in
-    let e = c .before .before .before .opj-bio-getbit .ensures in (
+    let e = c .before .before .before .bit-in .ensures in (
       subst (λ (d : Decoded). d .bio .ct ≤ 8) (sym e) (getBit-ct src (l .bio) (l .inv .0)),
       omega (arith, l .inv .1, c .before .before .before .before .loop-test .taken),
       ap (λ (d : Decoded). readOnes src (l .left - 1) (l .value + 1) (d .bio)) e
@@ -76,7 +76,7 @@ opj-t2-getcommacode-spec =
     μ-loop
     ones-limit-requires
     loop-holds
-    opj-bio-getbit-requires
+    bit-in-requires
     returns
     add-value
     sub-left

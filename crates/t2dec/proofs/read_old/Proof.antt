@@ -11,8 +11,8 @@ use borrow.Author.Needs.{needs}
 use Rattle.t2dec.proofs.read_old.Statement.{statement}
 use Rattle.t2dec.proofs.read_old.Tie as tie
 
-opj-bio-getbit-requires : tie.Need-opj-bio-getbit-requires
-opj-bio-getbit-requires c κs = search needs
+bit-in-requires : tie.Need-bit-in-requires
+bit-in-requires c κs = search needs
 
 moved-requires : tie.Need-moved-requires
 moved-requires c κs = search needs
@@ -26,12 +26,12 @@ same-length c = search needs
 returns : tie.Need-returns
 returns c =
     let s = c .before .before .before .before .before .before .before .before .before .before .before .before in
-    old-absent (s .args .src .now) (s .args .block) (s .args .at) (reading (s .args .words .now) (s .args .reports .now) (s .args .records .now) (s .args .r)) (decoded (c .before .before .before .before .before .before .before .opj-bio-getbit .result)) (c .before .before .before .before .before .before .moved .result) (c .before .before .before .before .before .before .before .opj-bio-getbit .ensures) (c .before .before .before .before .before .before .moved .ensures) _ (c .before .before .before .before .if1 .taken) (c .before .before .put-report .ensures)
+    old-absent (s .args .src .now) (s .args .block) (s .args .at) (reading (s .args .words .now) (s .args .reports .now) (s .args .records .now) (s .args .r)) (decoded (c .before .before .before .before .before .before .before .bit-in .result)) (c .before .before .before .before .before .before .moved .result) (c .before .before .before .before .before .before .before .bit-in .ensures) (c .before .before .before .before .before .before .moved .ensures) _ (c .before .before .before .before .if1 .taken) (c .before .before .put-report .ensures)
 
 read-again-requires : tie.Need-read-again-requires
 read-again-requires c κs =
     let s = c .before .before .before .before .before .before .before .before .before .before .before in
-    (omega (arith, ap (λ (r : Run). r .bio .ct) (c .before .before .before .before .before .moved .ensures), ap (λ (d : Decoded). d .bio .ct) (c .before .before .before .before .before .before .opj-bio-getbit .ensures), getBit-ct (s .args .src .now) (s .args .r .bio) (s .pre .0)), s .pre .1, s .pre .2, s .pre .3)
+    (omega (arith, ap (λ (r : Run). r .bio .ct) (c .before .before .before .before .before .moved .ensures), ap (λ (d : Decoded). d .bio .ct) (c .before .before .before .before .before .before .bit-in .ensures), getBit-ct (s .args .src .now) (s .args .r .bio) (s .pre .0)), s .pre .1, s .pre .2, s .pre .3)
 
 same-length-2 : tie.Need-same-length-2
 same-length-2 c = search needs
@@ -45,13 +45,13 @@ same-length-4 c = search needs
 returns-2 : tie.Need-returns-2
 returns-2 c =
     let s = c .before .before .before .before .before .before .before .before .before .before .before .before .before .before .before .before .before .before in
-    old-included (s .args .src .now) (s .args .block) (s .args .at) (reading (s .args .words .now) (s .args .reports .now) (s .args .records .now) (s .args .r)) (decoded (c .before .before .before .before .before .before .before .before .before .before .before .before .before .opj-bio-getbit .result)) (c .before .before .before .before .before .before .before .before .before .before .before .before .moved .result) (c .before .before .before .before .before .before .before .before .before .before .before .before .before .opj-bio-getbit .ensures) (c .before .before .before .before .before .before .before .before .before .before .before .before .moved .ensures) _ (c .before .before .before .before .before .before .before .before .before .before .if1 .left) (c .before .before .before .before .before .before .read-again .ensures)
+    old-included (s .args .src .now) (s .args .block) (s .args .at) (reading (s .args .words .now) (s .args .reports .now) (s .args .records .now) (s .args .r)) (decoded (c .before .before .before .before .before .before .before .before .before .before .before .before .before .bit-in .result)) (c .before .before .before .before .before .before .before .before .before .before .before .before .moved .result) (c .before .before .before .before .before .before .before .before .before .before .before .before .before .bit-in .ensures) (c .before .before .before .before .before .before .before .before .before .before .before .before .moved .ensures) _ (c .before .before .before .before .before .before .before .before .before .before .if1 .left) (c .before .before .before .before .before .before .read-again .ensures)
 
 pub read-old-spec : {M : Type 1} → statement M
 read-old-spec =
     tie.close
     (tie.spec
-    opj-bio-getbit-requires
+    bit-in-requires
     moved-requires
     put-report-requires
     same-length

@@ -1,4 +1,4 @@
--- `tgt::decode_below` meets its contract. The invariant: the nodes that are left, read into the present words, give the whole.
+-- `tgtdec::decode_below` meets its contract. The invariant: the nodes that are left, read into the present words, give the whole.
 -- Assumes nothing.
 use mathlib.Core.Path.{_≡_, refl, sym, ap, _∙_, subst}
 use mathlib.Core.List.{List, reverse}

@@ -1,4 +1,4 @@
--- `tgt::decode_node` meets its contract.
+-- `tgtdec::decode_node` meets its contract.
 -- Assumes nothing.
 use mathlib.Core.Path.{ap, _∙_, subst}
 use Prim.Native.Nat.{ℕ, _+_, _-_, _≤_}

@@ -1,4 +1,4 @@
--- `tgt::decode_path` meets its contract.
+-- `tgtdec::decode_path` meets its contract.
 -- Assumes nothing.
 use mathlib.Core.Path.{_≡_, sym, ap, _∙_, subst}
 use mathlib.Core.List.{List, reverse}

@@ -1,4 +1,4 @@
--- `tgt::held` meets its contract.
+-- `tgtdec::held` meets its contract.
 -- Assumes nothing.
 use mathlib.Core.Path.{_≡_, ap, _∙_}
 use Prim.Native.Nat.{ℕ, _-_, _*_, _%_, _^_, _≤_}

@@ -1,4 +1,4 @@
--- `tgt::leading_zeros` meets its contract.
+-- `tgtdec::leading_zeros` meets its contract.
 -- Assumes nothing.
 use mathlib.Core.Path.{sym, subst}
 use Prim.Native.Nat.{ℕ, _-_, _≤_}

@@ -1,4 +1,4 @@
--- `tgt::leaf_value` meets its contract.
+-- `tgtdec::leaf_value` meets its contract.
 -- Assumes nothing.
 use mathlib.Core.Path.{_≡_, ap}
 use Prim.Native.Nat.{ℕ, _+_, _*_, _<_}

@@ -1,4 +1,4 @@
--- `tgt::opj_tgt_decode` meets its contract.
+-- `tgtdec::opj_tgt_decode` meets its contract.
 -- Assumes nothing.
 use mathlib.Core.Path.{sym, ap, _∙_, subst}
 use Prim.Native.Nat.{ℕ}

@@ -1,4 +1,4 @@
--- `tgt::raise` meets its contract. The invariant: raising the threshold on from here gives the whole.
+-- `tgtdec::raise` meets its contract. The invariant: raising the threshold on from here gives the whole.
 -- Assumes nothing.
 use mathlib.Core.Path.{_≡_, refl, sym, _∙_, subst}
 use mathlib.Core.List.{reverse}

@@ -1,4 +1,4 @@
--- `tgt::read_planes` meets its contract.
+-- `tgtdec::read_planes` meets its contract.
 -- Assumes nothing.
 use mathlib.Core.Path.{_≡_, sym, _∙_, subst}
 use mathlib.Core.List.{reverse}

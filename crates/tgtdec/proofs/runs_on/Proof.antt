@@ -1,4 +1,4 @@
--- `tgt::runs_on` meets its contract.
+-- `tgtdec::runs_on` meets its contract.
 -- Assumes nothing.
 use mathlib.Core.Path.{ap, _∙_}
 use Prim.Native.Nat.{ℕ}

@@ -1,4 +1,4 @@
--- `tgt::seek` meets its contract.
+-- `tgtdec::seek` meets its contract.
 -- Assumes nothing.
 use mathlib.Core.Path.{sym, ap, _∙_}
 use Prim.Native.Nat.{ℕ}

@@ -1,4 +1,4 @@
--- `tgt::seek_chunks` meets its contract. The invariant: the bits that are left, read from the present place, give the whole.
+-- `tgtdec::seek_chunks` meets its contract. The invariant: the bits that are left, read from the present place, give the whole.
 -- Assumes nothing.
 use mathlib.Core.Path.{_≡_, refl, sym, ap, _∙_, subst}
 use Prim.Native.Nat.{_+_, _-_, _*_, _≤_}

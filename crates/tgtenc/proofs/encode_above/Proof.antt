@@ -1,4 +1,4 @@
--- `tgt::encode_above` meets its contract.
+-- `tgtenc::encode_above` meets its contract.
 -- Assumes nothing.
 use mathlib.Core.Path.{_≡_, sym, ap, _∙_}
 use Prim.Native.Nat.{ℕ, _-_}

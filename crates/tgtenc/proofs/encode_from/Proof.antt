@@ -1,4 +1,4 @@
--- `tgt::encode_from` meets its contract.
+-- `tgtenc::encode_from` meets its contract.
 -- Assumes nothing.
 use mathlib.Core.Path.{_≡_, sym, ap, _∙_, subst}
 use Prim.Native.Nat.{ℕ, _+_, _-_, max, min}

@@ -1,4 +1,4 @@
--- `tgt::encode_node` meets its contract.
+-- `tgtenc::encode_node` meets its contract.
 -- Assumes nothing.
 use mathlib.Core.Path.{sym, ap, _∙_}
 use Prim.Native.Nat.{ℕ}

@@ -1,4 +1,4 @@
--- `tgt::encode_one` meets its contract.
+-- `tgtenc::encode_one` meets its contract.
 -- Assumes nothing.
 use mathlib.Core.Path.{sym, ap, _∙_}
 use Prim.Native.Nat.{_+_, _-_}
@@ -44,8 +44,8 @@ mul-words-2 c = search needs
 slice-write-words-2 : tie.Need-slice-write-words-2
 slice-write-words-2 c = search needs
 
-opj-bio-putbit-requires : tie.Need-opj-bio-putbit-requires
-opj-bio-putbit-requires c κs =
+bit-out-requires : tie.Need-bit-out-requires
+bit-out-requires c κs =
     let s = c .before .before .before .before .before in
     (s .pre .0, omega (arith, c .before .reached .ensures, bit-le (ltb (value (s .args .words .now) (s .args .at)) (s .args .threshold))))
 
@@ -62,7 +62,7 @@ returns c =
     let at = s .args .at in
     let t = s .args .threshold in
     let bit = c .before .before .before .before .reached .result in
-    ap (λ (p : Output). record { words = set (set ws (at + 1) (t - bit)) (at + 2) bit; output = p; low = t - bit }) (c .before .before .opj-bio-putbit .ensures)
+    ap (λ (p : Output). record { words = set (set ws (at + 1) (t - bit)) (at + 2) bit; output = p; low = t - bit }) (c .before .before .bit-out .ensures)
     ∙ sym (code-one t at ws (output (s .args .out .now) (s .args .b)) (s .pre .2) (s .pre .3) bit (c .before .before .before .before .reached .ensures))
 
 pub encode-one-spec : {M : Type 1} → statement M
@@ -79,7 +79,7 @@ encode-one-spec =
     add-words-2
     mul-words-2
     slice-write-words-2
-    opj-bio-putbit-requires
+    bit-out-requires
     same-length
     same-length-2
     returns)

@@ -1,4 +1,4 @@
--- `tgt::nothing_to_tell` meets its contract.
+-- `tgtenc::nothing_to_tell` meets its contract.
 -- Assumes nothing.
 use borrow.Author.Tests.{le-leb, lt-leb}
 use Rattle.tgtenc.proofs.nothing_to_tell.Statement.{statement}

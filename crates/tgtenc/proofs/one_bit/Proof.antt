@@ -1,4 +1,4 @@
--- `tgt::one_bit` meets its contract.
+-- `tgtenc::one_bit` meets its contract.
 -- Assumes nothing.
 use borrow.Author.Tests.{eq-eqb, ne-eqb}
 use borrow.Author.Needs.{needs}

@@ -1,4 +1,4 @@
--- `tgt::opj_tgt_encode` meets its contract. The invariant: the nodes that are left, coded in the present words into the present output, give the whole.
+-- `tgtenc::opj_tgt_encode` meets its contract. The invariant: the nodes that are left, coded in the present words into the present output, give the whole.
 -- Assumes nothing.
 use mathlib.Core.Path.{_≡_, refl, sym, ap, _∙_, subst}
 use mathlib.Core.List.{List, reverse}

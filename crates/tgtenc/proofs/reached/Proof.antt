@@ -1,4 +1,4 @@
--- `tgt::reached` meets its contract.
+-- `tgtenc::reached` meets its contract.
 -- Assumes nothing.
 use borrow.Author.Tests.{lt-ltb, le-ltb}
 use Rattle.tgtenc.proofs.reached.Statement.{statement}

@@ -1,4 +1,4 @@
--- `tgt::tell` meets its contract.
+-- `tgtenc::tell` meets its contract.
 -- Assumes nothing.
 use mathlib.Core.Path.{_∙_}
 use lib.ListN.{set}
@@ -21,8 +21,8 @@ mul-words c = search needs
 slice-write-words : tie.Need-slice-write-words
 slice-write-words c = search needs
 
-opj-bio-putbit-requires : tie.Need-opj-bio-putbit-requires
-opj-bio-putbit-requires c κs = search needs
+bit-out-requires : tie.Need-bit-out-requires
+bit-out-requires c κs = search needs
 
 same-length : tie.Need-same-length
 same-length c = search needs
@@ -33,7 +33,7 @@ same-length-2 c = search needs
 returns : tie.Need-returns
 unfolding told putBits
 returns c = let s = c .before .before .before .before .before .before .before .before in
-    (λ i. record { words = set (s .args .words .now) (s .args .at) 1; output = c .before .before .opj-bio-putbit .ensures i }) ∙ simp (eq-eqb _ _ (c .before .before .before .before .if1 .taken))
+    (λ i. record { words = set (s .args .words .now) (s .args .at) 1; output = c .before .before .bit-out .ensures i }) ∙ simp (eq-eqb _ _ (c .before .before .before .before .if1 .taken))
 
 same-length-3 : tie.Need-same-length-3
 same-length-3 c = search needs
@@ -50,7 +50,7 @@ tell-spec =
     slice-read-known
     mul-words
     slice-write-words
-    opj-bio-putbit-requires
+    bit-out-requires
     same-length
     same-length-2
     returns

@@ -1,4 +1,4 @@
--- `tgt::zeros` meets its contract. The invariant: the zeros that are left, put into the present output, give the whole.
+-- `tgtenc::zeros` meets its contract. The invariant: the zeros that are left, put into the present output, give the whole.
 -- Assumes nothing.
 use mathlib.Core.Path.{_≡_, refl, sym, ap, _∙_, subst}
 use Prim.Native.Nat.{_-_, _*_}

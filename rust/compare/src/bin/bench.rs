@@ -29,7 +29,8 @@ mod timed {
         scratch: Vec<u32>,
         output: Vec<u8>,
         reports: Vec<u32>,
-        records: Vec<u32>,
+        numbers: Vec<u32>,
+        records: Vec<words::Segment>,
     }
 
     struct Row {
@@ -72,7 +73,8 @@ mod timed {
                 scratch: vec![1; length],
                 output: vec![1; row.room()],
                 reports: vec![1; 4 * blocks],
-                records: vec![1; 12 * blocks],
+                numbers: vec![1; 12 * blocks],
+                records: vec![words::Segment::default(); 3 * blocks],
             };
             row
         }
@@ -145,7 +147,7 @@ mod timed {
         // ---- reading
 
         fn engine_reads(&mut self, check: bool) -> Duration {
-            let Lent { states, scratch, reports, records, .. } = &mut self.lent;
+            let Lent { states, scratch, reports, numbers, records, .. } = &mut self.lent;
             let mut answer = [0; 5];
             let mut total = Duration::ZERO;
             let begin = Instant::now();
@@ -156,7 +158,7 @@ mod timed {
             for i in 0..LAYERS {
                 let begin = Instant::now();
                 for (job, state) in self.jobs.iter().zip(states.iter_mut()) {
-                    let number = words::read(state, scratch, &job.packets[i], false, false, reports, records, &mut answer);
+                    let number = words::read(state, scratch, &job.packets[i], false, false, reports, numbers, records, &mut answer);
                     if check {
                         assert_eq!((number, answer[1] as usize), (0, job.packets[i].len() - job.bodies[i].len()));
                     }
