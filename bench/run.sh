@@ -5,9 +5,10 @@ set -eu
 src=$(cd "$1" && pwd)
 pattern=${2:-}
 cd "$(dirname "$0")/.."
-rt staticlib leafbench
+rt staticlib bitbench
+rt staticlib treebench
 out=target/bench
 mkdir -p "$out"
 OPJ_SRC=$src rustc --edition 2021 --crate-name leaves --crate-type bin -C opt-level=3 -C codegen-units=1 -C debug-assertions=off -A warnings \
-    -L native=target/staticlib -l static=leafbench -o "$out/leaves" bench/src/leaves.rs
+    -L native=target/staticlib -l static=bitbench -l static=treebench -o "$out/leaves" bench/src/leaves.rs
 exec "$out/leaves" "$pattern"

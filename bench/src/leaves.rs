@@ -1,5 +1,6 @@
-// Times crate openjp2's bio.rs and tgt.rs, included as they stand, against crate leafbench's static library, on the same inputs. Both
-// sides' bytes and tree words are compared before anything is timed. A row prints the crate's time and ours as a ratio: below 1 is faster.
+// Times crate openjp2's bio.rs and tgt.rs, included as they stand, against the static libraries of crates bitbench and treebench, on the
+// same inputs. Both sides' bytes and tree words are compared before anything is timed. A row prints the crate's time and ours as a ratio:
+// below 1 is faster.
 #![allow(warnings)]
 use std::time::Instant;
 
@@ -43,12 +44,12 @@ use openjpeg::*;
 use tgt::*;
 
 extern "C" {
-    fn leafbench_write(out: *mut u8, n: usize, values: *const u32, nv: usize, widths: *const u8, nw: usize) -> usize;
-    fn leafbench_read(src: *const u8, n: usize, values: *mut u32, nv: usize, widths: *const u8, nw: usize) -> usize;
-    fn leafbench_set(words: *mut u32, n: usize, w: u32, h: u32, values: *const u32, nv: usize) -> usize;
-    fn leafbench_encode(words: *mut u32, n: usize, out: *mut u8, no: usize, w: u32, h: u32, threshold: u32) -> usize;
-    fn leafbench_decode(words: *mut u32, n: usize, src: *const u8, ns: usize, w: u32, h: u32, threshold: u32) -> usize;
-    fn leafbench_raise(words: *mut u32, n: usize, src: *const u8, ns: usize, w: u32, h: u32) -> usize;
+    fn bitbench_write(out: *mut u8, n: usize, values: *const u32, nv: usize, widths: *const u8, nw: usize) -> usize;
+    fn bitbench_read(src: *const u8, n: usize, values: *mut u32, nv: usize, widths: *const u8, nw: usize) -> usize;
+    fn treebench_set(words: *mut u32, n: usize, w: u32, h: u32, values: *const u32, nv: usize) -> usize;
+    fn treebench_encode(words: *mut u32, n: usize, out: *mut u8, no: usize, w: u32, h: u32, threshold: u32) -> usize;
+    fn treebench_decode(words: *mut u32, n: usize, src: *const u8, ns: usize, w: u32, h: u32, threshold: u32) -> usize;
+    fn treebench_raise(words: *mut u32, n: usize, src: *const u8, ns: usize, w: u32, h: u32) -> usize;
 }
 
 // ---- numbers: the crate's side
@@ -245,13 +246,13 @@ impl Trees for OurTrees {
     fn set(&mut self, values: &[u32]) {
         let leaves = (self.side * self.side) as usize;
         for (ws, vs) in self.words.chunks_mut(3 * self.nodes).zip(values.chunks(leaves)) {
-            unsafe { leafbench_set(ws.as_mut_ptr(), ws.len(), self.side, self.side, vs.as_ptr(), vs.len()) };
+            unsafe { treebench_set(ws.as_mut_ptr(), ws.len(), self.side, self.side, vs.as_ptr(), vs.len()) };
         }
     }
     fn code(&mut self, thresholds: &[u32], out: &mut [Bytes]) {
         for (top, o) in thresholds.iter().zip(out) {
             for (i, (ws, part)) in self.words.chunks_mut(3 * self.nodes).zip(o.bytes.chunks_mut(o.room)).enumerate() {
-                o.len[i] = unsafe { leafbench_encode(ws.as_mut_ptr(), ws.len(), part.as_mut_ptr(), part.len(), self.side, self.side, *top) };
+                o.len[i] = unsafe { treebench_encode(ws.as_mut_ptr(), ws.len(), part.as_mut_ptr(), part.len(), self.side, self.side, *top) };
             }
         }
     }
@@ -259,14 +260,14 @@ impl Trees for OurTrees {
         for (top, s) in thresholds.iter().zip(src) {
             for (i, ws) in self.words.chunks_mut(3 * self.nodes).enumerate() {
                 let part = s.of(i);
-                taken[i] = unsafe { leafbench_decode(ws.as_mut_ptr(), ws.len(), part.as_ptr(), part.len(), self.side, self.side, *top) };
+                taken[i] = unsafe { treebench_decode(ws.as_mut_ptr(), ws.len(), part.as_ptr(), part.len(), self.side, self.side, *top) };
             }
         }
     }
     fn raise(&mut self, src: &Bytes, taken: &mut [usize]) {
         for (i, ws) in self.words.chunks_mut(3 * self.nodes).enumerate() {
             let part = src.of(i);
-            taken[i] = unsafe { leafbench_raise(ws.as_mut_ptr(), ws.len(), part.as_ptr(), part.len(), self.side, self.side) };
+            taken[i] = unsafe { treebench_raise(ws.as_mut_ptr(), ws.len(), part.as_ptr(), part.len(), self.side, self.side) };
         }
     }
 }
@@ -323,7 +324,7 @@ impl Bench {
         let mut out = vec![vec![0u8; total / 7 + 64]; 2];
         let write = |ours: bool, out: &mut [u8]| match ours {
             false => crate_write(out, &values, &widths),
-            true => unsafe { leafbench_write(out.as_mut_ptr(), out.len(), values.as_ptr(), n, widths.as_ptr(), n) },
+            true => unsafe { bitbench_write(out.as_mut_ptr(), out.len(), values.as_ptr(), n, widths.as_ptr(), n) },
         };
         let size = write(false, &mut out[0]);
         assert_eq!(size, write(true, &mut out[1]), "bytes written");
@@ -332,7 +333,7 @@ impl Bench {
         let mut got = vec![vec![0u32; n]; 2];
         let read = |ours: bool, got: &mut [u32]| match ours {
             false => crate_read(&src, got, &widths),
-            true => unsafe { leafbench_read(src.as_ptr(), src.len(), got.as_mut_ptr(), n, widths.as_ptr(), n) },
+            true => unsafe { bitbench_read(src.as_ptr(), src.len(), got.as_mut_ptr(), n, widths.as_ptr(), n) },
         };
         assert_eq!(read(false, &mut got[0]), read(true, &mut got[1]), "bytes read");
         assert_eq!(got, [&values[..], &values[..]], "read");

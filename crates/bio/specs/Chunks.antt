@@ -1,19 +1,7 @@
--- Several bits of the held word in one step: `Laws.WriteChunks` and `Laws.ReadChunks` say that they are as many single bits.
-use mathlib.Core.Bool.{cond}
-use mathlib.Core.List.{List}
-use Prim.Native.Nat.{ℕ, _+_, _-_, _*_, _/_, _%_, _^_}
-use lib.Dec.{eqb}
+-- Several bits go into the held word in one step: `Laws.WriteChunks` says that they are as many single bits.
+use Prim.Native.Nat.{ℕ, _+_, _-_, _*_, _%_, _^_}
 use Rattle.t800.specs.declared.Bio.{Bio}
-use Rattle.t800.specs.Bits.{Decoded, byteIn}
 
 -- the low k bits of v take the top places of those that are free
 unfoldable pub holdBits : Bio → ℕ → ℕ → Bio
 holdBits b v k = record { bp = b .bp; buf = b .buf + v % 2 ^ k * 2 ^ (b .ct - k); ct = b .ct - k }
-
--- a byte comes in if no bit of the held one is left
-unfoldable pub refill : List ℕ → Bio → Bio
-refill src b = cond (eqb (b .ct) 0) (byteIn src b) b
-
--- the top k bits of those that are left
-unfoldable pub heldBits : Bio → ℕ → Decoded
-heldBits b k = record { value = b .buf / 2 ^ (b .ct - k) % 2 ^ k; bio = record { bp = b .bp; buf = b .buf; ct = b .ct - k } }

@@ -3,8 +3,8 @@ ghost use mathlib.Core.Path.{_≡_};
 ghost use Prim.Native.Nat.{_≤_};
 ghost use Rattle.t800.specs.Bits.{getBit};
 ghost use Rattle.bio.specs.Writing.{output, putBit, FreeBitsClear};
-ghost use Rattle.bio.specs.Reading.{decoded};
-use bio::Decoded;
+ghost use Rattle.biodec.specs.Reading.{decoded};
+use biodec::Decoded;
 use t800::Bio;
 
 pub fn opj_bio_putbit(out: &mut [u8], b: &mut Bio, bit: u32)
@@ -18,7 +18,7 @@ pub fn opj_bio_getbit(src: &[u8], b: &mut Bio) -> u32
     requires { ⌜ now b .ct ≤ 8 ⌝ }
     ensures { λ r. ⌜ record { value = r; bio = now (b .exit) } ≡ getBit (now (src .entry)) (now (b .entry)) ⌝ }
 {
-    let r = bio::opj_bio_getbit(src, *b);
+    let r = biodec::opj_bio_getbit(src, *b);
     *b = r.bio;
     r.value
 }

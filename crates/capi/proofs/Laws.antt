@@ -19,8 +19,8 @@ use Rattle.t800.specs.WriteHeader.{Contribution}
 use Rattle.t800.specs.Packet.{measure, write, ReadResult, refusedAnswer}
 use Rattle.t800.proofs.Laws.Tests.{if-true, if-false}
 use Rattle.t2read.specs.Answers.{readResult}
-use Rattle.t2segs.specs.declared.Segment.{Segment}
-use Rattle.t2segs.specs.Segments.{wordsOf, filled}
+use Rattle.tcdsegs.specs.declared.Segment.{Segment}
+use Rattle.tcdsegs.specs.Segments.{wordsOf, filled}
 use Rattle.t2segs.specs.Reading.{readNumbers, toFill}
 use Rattle.t2segs.proofs.Structs.{none-stored, filled-is-read}
 use Rattle.capi.specs.Calls.{stateLengthOf, measured, measureCall, written, writeCall, readAnswer, ReadCall, readOf, readCall}

@@ -6,13 +6,13 @@ ghost use Rattle.t800.specs.State.{writer, reader};
 ghost use Rattle.t800.specs.Start.{start};
 ghost use Rattle.t2check.specs.Refusals.{contribution};
 ghost use Rattle.t2read.specs.Answers.{readResult};
-ghost use Rattle.t2segs.specs.Segments.{wordsOf};
+ghost use Rattle.tcdsegs.specs.Segments.{wordsOf};
 ghost use Rattle.capi.specs.Calls.{band, threeBands, stateLengthOf, measureCall, writeCall, readCall};
 ghost use Rattle.capi.specs.Numbers.{numbersCall};
-use t2segs::Segment;
 use t800::Band;
 use t800::Markers;
 use t800::ReadAnswer;
+use tcdsegs::Segment;
 
 // ---- starts
 
@@ -304,6 +304,6 @@ pub extern "C" fn tonkelvi_read(
         answer,
     );
     let m = t2segs::to_fill(a, room);
-    t2segs::fill(records, numbers, m);
+    tcdsegs::fill(records, numbers, m);
     a.refusal
 }

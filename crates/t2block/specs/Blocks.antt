@@ -7,7 +7,7 @@ use lib.ListN.{length}
 use Rattle.t800.specs.Segments.{segmentsOf}
 use Rattle.t800.specs.State.{Block}
 use Rattle.bio.specs.Writing.{Output}
-use Rattle.tgt.specs.Coding.{LeafCoded}
+use Rattle.tgtenc.specs.Coding.{LeafCoded}
 use Rattle.tgt.specs.Path.{pathOver, PathIn}
 use Rattle.t2segment.specs.Segments.{bitsBefore, blockTooWide}
 use Rattle.t2block.specs.declared.Place.{Place}

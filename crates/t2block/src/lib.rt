@@ -10,7 +10,7 @@ ghost use Rattle.bio.specs.Writing.{output, putBits, FreeBitsClear};
 ghost use Rattle.t2codes.specs.PassTable.{isPassTable};
 ghost use Rattle.t2segment.specs.Segments.{anyTooWide, blockTooWide};
 ghost use Rattle.t2block.specs.Lengths.{BlockPasses, lengthsPut, putLengths};
-ghost use Rattle.tgt.specs.Coding.{leafCoded, putCoded};
+ghost use Rattle.tgtenc.specs.Coding.{leafCoded, putCoded};
 ghost use Rattle.t2block.specs.Blocks.{blockAt, blockOver, PassesFit, BlockIn};
 ghost use Rattle.t2block.specs.Runs.{running, codeNext, codeAll, placeAt, rowBlocks, NextFits, AllFit, RowIn, setNext, setAll};
 use t800::Bio;
@@ -121,7 +121,7 @@ fn code_inclusion(
 {
     let at = p.at;
     if words[at] == 0 {
-        return tgt::opj_tgt_encode(words, out, b, p.incl, row, p.depth, p.x, layer + 1);
+        return tgtenc::opj_tgt_encode(words, out, b, p.incl, row, p.depth, p.x, layer + 1);
     }
     let bit = included(count);
     biolent::bit_out(out, b, bit)
@@ -134,7 +134,7 @@ fn code_zero_planes(words: &mut [u32], out: &mut [u8], b: Bio, p: Place, row: &[
 {
     let at = p.at;
     if words[at] == 0 {
-        return tgt::opj_tgt_encode(
+        return tgtenc::opj_tgt_encode(
             words,
             out,
             b,

@@ -5,14 +5,14 @@ ghost use lib.Dec.{T};
 ghost use Rattle.t800.specs.PassCount.{passBits, readPasses};
 ghost use Rattle.t800.specs.Segments.{commaBits};
 ghost use Rattle.bio.specs.Writing.{output, putBits, FreeBitsClear};
-ghost use Rattle.bio.specs.Reading.{decoded};
+ghost use Rattle.biodec.specs.Reading.{decoded};
 ghost use Rattle.t2codes.specs.PassTable.{isPassTable, IsCodewordOf};
 ghost use Rattle.t2codes.specs.PassCount.{counted, readFrom3};
 ghost use Rattle.t2codes.specs.CommaCode.{onesLimit, readCommaLimited};
 
 pub mod pass_codes;
 
-use bio::Decoded;
+use biodec::Decoded;
 use pass_codes::PASS_CODES;
 use t800::Bio;
 
@@ -67,15 +67,15 @@ fn passes_from_3(src: &[u8], b: Bio) -> Decoded
     requires { ⌜ b .ct ≤ 8 ⌝ }
     ensures { λ r. ⌜ decoded r ≡ readFrom3 (now (src .entry)) b ⌝ }
 {
-    let two = bio::opj_bio_read(src, b, 2);
+    let two = biodec::opj_bio_read(src, b, 2);
     if two.value <= 2 {
         return plus(3, two);
     }
-    let five = bio::opj_bio_read(src, two.bio, 5);
+    let five = biodec::opj_bio_read(src, two.bio, 5);
     if five.value <= 30 {
         return plus(6, five);
     }
-    plus(37, bio::opj_bio_read(src, five.bio, 7))
+    plus(37, biodec::opj_bio_read(src, five.bio, 7))
 }
 
 pub fn opj_t2_getnumpasses(src: &[u8], b: Bio) -> Decoded

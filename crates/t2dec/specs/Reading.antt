@@ -18,7 +18,7 @@ use Rattle.t800.specs.WriteHeader.{isNew}
 use Rattle.t800.specs.ReadHeader.{HeaderRead, opensSegment, currentLimit, currentPasses, passesTaken, readZeroPlanesFrom}
 use Rattle.tcd.specs.Rows.{putRow}
 use Rattle.tgt.specs.Path.{pathOver}
-use Rattle.tgt.specs.Reading.{ValueAfter}
+use Rattle.tgtdec.specs.Reading.{ValueAfter}
 use Rattle.t2codes.specs.CommaCode.{readCommaLimited}
 use Rattle.t2block.specs.declared.Place.{Place}
 use Rattle.t2block.specs.Runs.{placeAt}

@@ -2,12 +2,12 @@
 ghost use mathlib.Core.Path.{_≡_};
 ghost use Prim.Native.Nat.{_+_, _-_, _/_, _^_, _<_, _≤_};
 ghost use lib.ListN.{length};
-ghost use Rattle.tgt.specs.Reading.{valueAfter};
+ghost use Rattle.tgtdec.specs.Reading.{valueAfter};
 ghost use Rattle.t2block.specs.Blocks.{blockAt, BlockIn};
 ghost use Rattle.t2block.specs.Runs.{RowIn};
 ghost use Rattle.t2dec.specs.Segments.{limitBehind, currentSegment};
 ghost use Rattle.t2dec.specs.Reading.{reading, WithAnyReports, nextSegment, nextSegments, passesRead, nextFirst, nextAgain, nextNew, nextOld, nextBlock, nextBlocks, blockIn, blocksOfRow, SegmentFits, BlockFits, BlocksFit, BitsIn};
-use bio::Decoded;
+use biodec::Decoded;
 use t2block::Place;
 use t800::Bio;
 use tcd::Style;
@@ -101,7 +101,7 @@ fn read_segment(
     if room <= count {
         return refuse(r, TOO_FEW_RECORDS);
     }
-    let len = bio::opj_bio_read(src, r.bio, width as u32);
+    let len = biodec::opj_bio_read(src, r.bio, width as u32);
     words[at + 2] = s.limit;
     words[at + 3] = s.used + n;
     tcd::put_record(records, count, block as u32, s.opens, n, len.value);
@@ -185,7 +185,7 @@ fn read_first(
     requires { ⌜ (r .bio .ct ≤ 8) × (BlockIn (length (now words)) p (now row)) × (block < 2 ^ 32) × (SegmentFits (now words) (p .at)) ⌝ }
     ensures { λ o. ⌜ reading (now (words .exit)) (now (reports .exit)) (now (records .exit)) o ≡ nextFirst (now (src .entry)) block (blockIn p (now (row .entry)) planes) (reading (now (words .entry)) (now (reports .entry)) (now (records .entry)) r) ⌝ }
 {
-    let z = tgt::opj_tgt_decode_value(words, src, r.bio, p.zero, row, p.depth, p.x);
+    let z = tgtdec::opj_tgt_decode_value(words, src, r.bio, p.zero, row, p.depth, p.x);
     let n = read_passes(words, src, z.bio, p.at, 0, 3);
     let left = tcd::block_planes(planes, z.value);
     tcd::put_report(reports, block, 1, z.value, left, n.value);
@@ -227,7 +227,7 @@ fn read_new(
     requires { ⌜ (r .bio .ct ≤ 8) × (BlockIn (length (now words)) p (now row)) × (layer < 999) × (block < 2 ^ 32) × (SegmentFits (now words) (p .at)) ⌝ }
     ensures { λ o. ⌜ reading (now (words .exit)) (now (reports .exit)) (now (records .exit)) o ≡ nextNew (now (src .entry)) layer block (blockIn p (now (row .entry)) planes) (reading (now (words .entry)) (now (reports .entry)) (now (records .entry)) r) ⌝ }
 {
-    let w = tgt::opj_tgt_decode(words, src, r.bio, p.incl, row, p.depth, p.x, layer + 1);
+    let w = tgtdec::opj_tgt_decode(words, src, r.bio, p.incl, row, p.depth, p.x, layer + 1);
     let run = moved(r, w.bio);
     if w.below {
         return read_first(words, reports, records, src, run, p, row, planes, block);

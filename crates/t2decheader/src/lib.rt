@@ -131,7 +131,7 @@ pub fn opj_t2_read_packet_header(
     if run.refusal != 0 {
         return run;
     }
-    let end = bio::opj_bio_inalign(src, run.bio);
+    let end = biodec::opj_bio_inalign(src, run.bio);
     if end.ok {
         return run;
     }

@@ -7,7 +7,7 @@ ghost use Rattle.t800.specs.TagTree.{levels};
 ghost use Rattle.t800.specs.State.{blocksIn, blocks, stateLength};
 ghost use Rattle.t800.specs.WriteHeader.{setNewBlocks, codeBlocks};
 ghost use Rattle.bio.specs.Writing.{output, FreeBitsClear};
-ghost use Rattle.tgt.specs.Coding.{leafCoded, putCoded};
+ghost use Rattle.tgtenc.specs.Coding.{leafCoded, putCoded};
 ghost use Rattle.tcd.specs.Geometry.{SidesUpTo64, AllUpTo64, padded};
 ghost use Rattle.t2codes.specs.PassTable.{isPassTable};
 ghost use Rattle.t2block.specs.Runs.{running, codeAll, AllFit, setAll};

@@ -103,7 +103,7 @@ fn done(src: &[u8], m: Markers, s: MarkerFound, b: Bio, present: u32, segments: 
     requires { ⌜ b .bp ≤ length (now src) + 1 ⌝ }
     ensures { λ r. ⌜ r ≡ doneAnswer m (now (src .entry)) (markerRead s) b present segments ⌝ }
 {
-    let end = bio::opj_bio_inalign(src, b);
+    let end = biodec::opj_bio_inalign(src, b);
     let behind = end.bio;
     let at = behind.bp;
     let e = read_marker(m.eph, Marker::EPH, src, at);
@@ -196,7 +196,7 @@ pub fn read(
         return refused(why);
     }
     let s = read_marker(m.sop, Marker::SOP, src, 0);
-    let start = bio::opj_bio_init_dec(s.skip);
+    let start = biodec::opj_bio_init_dec(s.skip);
     let first = biolent::bit_in(src, start);
     if first.value == 0 {
         return read_absent(state, scratch, reports, src, m, s, first.bio);

@@ -1,5 +1,3 @@
-pub mod Lent
-pub mod Stored
 pub mod Numbers
 pub mod Structs
 pub mod RoundTrip

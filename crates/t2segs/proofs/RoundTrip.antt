@@ -14,11 +14,11 @@ use Rattle.t800.proofs.Laws.Tests.{if-true, if-false, on-eq}
 use Rattle.t2.specs.Calls.{WasRead, owedOf, RoundTripOfCalls}
 use Rattle.t2.specs.Calls as numbers
 use Rattle.t2.proofs.RoundTrip.{round-trip-of-calls}
-use Rattle.t2segs.specs.declared.Segment.{Segment}
-use Rattle.t2segs.specs.Segments.{wordsOf}
+use Rattle.tcdsegs.specs.declared.Segment.{Segment}
+use Rattle.tcdsegs.specs.Segments.{wordsOf}
 use Rattle.t2segs.specs.Reading.{StructsRead, wrongListNumber, readStructs}
 use Rattle.t2segs.specs.Calls.{Left, ReadMade, callOf, resultOf, StructsAreNumbers, structsOf, GivesStructs, ReaderMade, refusedMade, packetMade, ReadAsOwed, RoundTripOfStructs}
-use Rattle.t2segs.proofs.Stored.{words-determine}
+use Rattle.tcdsegs.proofs.Stored.{words-determine}
 
 -- ---- a read into structs is one into numbers
 

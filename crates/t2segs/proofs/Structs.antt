@@ -2,10 +2,11 @@
 use mathlib.Core.Path.{_≡_, refl, sym, ap, _∙_}
 use mathlib.Core.Logic.{_≢_}
 use mathlib.Core.Bool.{Bool, true, false, cond, not, _&&_, _||_}
-use mathlib.Core.List.{List, [], _∷_, _++_}
+use mathlib.Core.List.{List, _++_, append-nil}
 use Prim.Native.Nat.{ℕ, _+_, _*_, _/_, _≤_}
 use native.Mathlib.Omega.{arith}
 use lib.ListN.{length, take, drop, replicate, length-append, length-replicate, drop-of-length-le}
+use lib.Seq.{take-append-seam, take-length}
 use lib.Dec.{eqb}
 use borrow.Author.Tests.{eq-eqb, eqb-true, eqb-false}
 use Rattle.t800.specs.declared.Markers.{Markers}
@@ -19,35 +20,17 @@ use Rattle.t800.specs.MarkerSegments.{readSop}
 use Rattle.t800.specs.ReadHeader.{HeaderRead, readHeader}
 use Rattle.t800.specs.Packet.{ReadResult, refusedAnswer, readRefusal, readAbsent, readPresent, read}
 use Rattle.t800.proofs.Laws.Tests.{if-true, if-false, either, not-refused}
+use Rattle.t800.proofs.Laws.Lists.{record-words-length}
 use Rattle.t800.specs.RoundTrip.{ReadCall, readOf}
 use Rattle.t2.specs.Calls.{WasRead}
 use Rattle.t2.specs.Numbers.{NoneHolds, readChecks, NumbersOfCalls}
 use Rattle.t2.proofs.Numbers.{numbers-of-calls}
 use Rattle.t2read.specs.Answers.{readResult}
-use Rattle.t2segs.specs.declared.Segment.{Segment}
-use Rattle.t2segs.specs.Segments.{wordsOf, segmentAt, filled}
+use Rattle.tcdsegs.specs.declared.Segment.{Segment}
+use Rattle.tcdsegs.specs.Segments.{wordsOf, segmentAt, filled}
 use Rattle.t2segs.specs.Reading.{StructsRead, wrongListNumber, wrongList, readNumbers, toFill, structsRead, readStructs}
-use Rattle.t2segs.proofs.Stored.{stored-none, words-length, filled-words}
+use Rattle.tcdsegs.proofs.Stored.{stored-none, words-length, filled-words}
 use Rattle.t2segs.proofs.Numbers.{numbers-refused, numbers-read}
-
--- ---- lists
-
-take-front : (xs ys : List ℕ) → take (length xs) (xs ++ ys) ≡ xs
-take-front [] ys = refl
-take-front (x ∷ xs) ys = ap (λ (l : List ℕ). x ∷ l) (take-front xs ys)
-
-take-all : (xs : List ℕ) → take (length xs) xs ≡ xs
-take-all [] = refl
-take-all (x ∷ xs) = ap (λ (l : List ℕ). x ∷ l) (take-all xs)
-
-append-none : (xs : List ℕ) → xs ++ [] ≡ xs
-append-none [] = refl
-append-none (x ∷ xs) = ap (λ (l : List ℕ). x ∷ l) (append-none xs)
-
-record-words-length : (rs : List SegmentRecord) → length (recordWords rs) ≡ 4 * length rs
-unfolding recordWords
-record-words-length [] = refl
-record-words-length (r ∷ rs) = let e = record-words-length rs in omega arith
 
 -- ---- what is stored, case by case
 
@@ -67,7 +50,7 @@ module _ (rs : List Segment) where
       let both : length (front ++ behind) ≡ length front + length behind = length-append front behind in
       filled-words (front ++ behind) n rs (omega arith) (omega arith)
       ∙ ap (λ (j : ℕ). take j (front ++ behind) ++ drop j (wordsOf rs)) (sym k)
-      ∙ ap (λ (z : List ℕ). z ++ drop (length front) (wordsOf rs)) (take-front front behind)
+      ∙ ap (λ (z : List ℕ). z ++ drop (length front) (wordsOf rs)) (take-append-seam front behind)
 
   -- all, from zeros
   all-stored : (xs : List ℕ) → length xs ≡ 4 * length rs → wordsOf (filled (wiped xs) (length rs) rs) ≡ wiped (wordsOf rs)
@@ -80,8 +63,8 @@ module _ (rs : List Segment) where
       let same : length xs ≡ length (wordsOf rs) = omega arith in
       filled-words zs (length rs) rs (omega arith) (omega arith)
       ∙ ap (λ (j : ℕ). take j zs ++ drop j (wordsOf rs)) at
-      ∙ (λ i. take-all zs i ++ drop-of-length-le (wordsOf rs) past i)
-      ∙ append-none zs
+      ∙ (λ i. take-length zs i ++ drop-of-length-le (wordsOf rs) past i)
+      ∙ append-nil zs
       ∙ ap (λ (j : ℕ). replicate j 0) same
 
 -- ---- the numbers of a read

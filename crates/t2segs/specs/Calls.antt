@@ -16,8 +16,8 @@ use Rattle.t800.specs.Book.{newBook}
 use Rattle.t800.specs.RoundTrip.{ReadCall, readOf, withMore, Owed, ReadsPacket, GivesEntry}
 use Rattle.t2.specs.Calls.{Started, WriterMade, Follows, owedOf, allTerminated}
 use Rattle.t2read.specs.Answers.{readResult}
-use Rattle.t2segs.specs.declared.Segment.{Segment}
-use Rattle.t2segs.specs.Segments.{wordsOf}
+use Rattle.tcdsegs.specs.declared.Segment.{Segment}
+use Rattle.tcdsegs.specs.Segments.{wordsOf}
 use Rattle.t2segs.specs.Reading.{wrongListNumber, structsRead, readStructs}
 
 -- ---- a read into structs that was made

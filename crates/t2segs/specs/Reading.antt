@@ -11,8 +11,8 @@ use Rattle.t800.specs.State.{notYetIncluded, reader, layer}
 use Rattle.t800.specs.Ranges.{validState}
 use Rattle.t800.specs.Packet.{ReadResult, refusedAnswer, read}
 use Rattle.t2read.specs.Answers.{readResult}
-use Rattle.t2segs.specs.declared.Segment.{Segment}
-use Rattle.t2segs.specs.Segments.{wordsOf}
+use Rattle.tcdsegs.specs.declared.Segment.{Segment}
+use Rattle.tcdsegs.specs.Segments.{wordsOf}
 
 -- ---- the read
 

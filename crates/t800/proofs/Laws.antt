@@ -3,6 +3,7 @@ pub mod Pack
 pub mod Levels
 pub mod PassCodes
 pub mod Tests
+pub mod Lists
 pub mod HeaderBits
 pub mod Paths
 pub mod Layout

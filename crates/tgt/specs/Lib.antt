@@ -1,3 +1,1 @@
 pub mod Path
-pub mod Coding
-pub mod Reading

@@ -42,13 +42,13 @@ use denote.Triple.Walked.{says, needs, Stays, stay-none, stay-none-slice, walkOf
 use denote.Exit.{yes}
 use borrow.Table.OneValue.{part-in, part-out}
 use Rattle.t800.specs.Bits.{getBit}
-use Rattle.bio.specs.Reading.{decoded}
+use Rattle.biodec.specs.Reading.{decoded}
 use Rattle.t800.specs.declared.Bio.{Bio}
-use Rattle.bio.specs.declared.Decoded.{Decoded}
+use Rattle.biodec.specs.declared.Decoded.{Decoded}
 use Rattle.t800.proofs.Bio as T
 use Rattle.t800.proofs.Bio.Laws as T′
-use Rattle.bio.proofs.Decoded as S
-use Rattle.bio.proofs.Decoded.Laws as S′
+use Rattle.biodec.proofs.Decoded as S
+use Rattle.biodec.proofs.Decoded.Laws as S′
 use Rattle.biolent.proofs.opj_bio_getbit as g
 use Rattle.biolent.proofs.opj_bio_getbit.Symbol as g-def
 use Rattle.biolent.proofs.opj_bio_getbit.Symbol.{name as #g}

@@ -44,19 +44,19 @@ use Rattle.t800.specs.declared.ReadAnswer.{ReadAnswer}
 use Rattle.t800.proofs.ReadAnswer as Q
 use Rattle.t800.proofs.ReadAnswer.Laws as Q′
 use Rattle.t2read.specs.Answers.{readResult}
-use Rattle.t2segs.specs.declared.Segment.{Segment}
-use Rattle.t2segs.specs.Segments.{wordsOf, filled}
+use Rattle.tcdsegs.specs.declared.Segment.{Segment}
+use Rattle.tcdsegs.specs.Segments.{wordsOf, filled}
 use Rattle.t2segs.specs.Reading.{toFill}
-use Rattle.t2segs.proofs.Lent.{LentAgain, Shared, lends-again, comes-back, shares-again, unshares}
-use Rattle.t2segs.proofs.Segment as T
+use Rattle.tcdsegs.proofs.Lent.{LentAgain, Shared, lends-again, comes-back, shares-again, unshares}
+use Rattle.tcdsegs.proofs.Segment as T
 use Rattle.t2segs.proofs.to_fill as c
 use Rattle.t2segs.proofs.to_fill.Symbol as c-def
 use Rattle.t2segs.proofs.to_fill.Symbol.{name as #c}
 use Rattle.t2segs.proofs.to_fill.Met as c-thm
-use Rattle.t2segs.proofs.fill as p
-use Rattle.t2segs.proofs.fill.Symbol as p-def
-use Rattle.t2segs.proofs.fill.Symbol.{name as #p}
-use Rattle.t2segs.proofs.fill.Met as p-thm
+use Rattle.tcdsegs.proofs.fill as p
+use Rattle.tcdsegs.proofs.fill.Symbol as p-def
+use Rattle.tcdsegs.proofs.fill.Symbol.{name as #p}
+use Rattle.tcdsegs.proofs.fill.Met as p-thm
 use Rattle.capi.specs.Calls.{ReadCall, readCall}
 use Rattle.capi.specs.Numbers.{numbersCall}
 use Rattle.capi.proofs.Laws.{filled-is-call}
@@ -346,4 +346,4 @@ tonkelvi-read-spec 𝓤 H 𝓜 𝓖 𝓡 =
     (f-meets 𝓤 H (𝓖 .A) (givenOf 𝓤 H 𝓜 𝓖) (𝓜 .mem) (𝓡 .run) (tablesOf 𝓤 H 𝓜 (tables 𝓤 H 𝓜 𝓡 code.env))
     (cited 𝓤 H (Core 𝓤 H (𝓖 .A) (𝓜 .mem) (𝓡 .run)) 𝓜 𝓡 code.env #g g-def.routine code.calls-capi·read-words (g-thm.met 𝓤 H 𝓜 𝓖 𝓡))
     (cited 𝓤 H (Count 𝓤 H (𝓖 .A) (𝓜 .mem) (𝓡 .run)) 𝓜 𝓡 code.env #c c-def.routine code.calls-t2segs·to-fill (c-thm.met 𝓤 H 𝓜 𝓖 𝓡))
-    (cited 𝓤 H (Fill 𝓤 H (𝓖 .A) (𝓜 .mem) (𝓡 .run)) 𝓜 𝓡 code.env #p p-def.routine code.calls-t2segs·fill (p-thm.met 𝓤 H 𝓜 𝓖 𝓡)))
+    (cited 𝓤 H (Fill 𝓤 H (𝓖 .A) (𝓜 .mem) (𝓡 .run)) 𝓜 𝓡 code.env #p p-def.routine code.calls-tcdsegs·fill (p-thm.met 𝓤 H 𝓜 𝓖 𝓡)))

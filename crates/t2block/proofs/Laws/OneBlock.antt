@@ -19,7 +19,7 @@ use Rattle.t800.proofs.Laws.Tests.{either, if-eq, if-ne}
 use Rattle.bio.specs.Writing.{Output, putBits, FreeBitsClear}
 use Rattle.bio.proofs.Laws.FreeBits.{putBits-append, putBits-clear}
 use Rattle.tgt.specs.Path.{nodesOver, pathOver, PathIn}
-use Rattle.tgt.specs.Coding.{LeafCoded, putCoded}
+use Rattle.tgtenc.specs.Coding.{LeafCoded, putCoded}
 use Rattle.t2block.specs.Blocks.{coded, PassesFit}
 
 -- ---- branches

@@ -9,7 +9,7 @@ use Rattle.t800.specs.State.{Block}
 use Rattle.t800.specs.WriteHeader.{isNew, lengthBitsBefore, codePasses}
 use Rattle.bio.specs.Writing.{Output, putBits}
 use Rattle.bio.proofs.Laws.FreeBits.{putBits-append}
-use Rattle.tgt.specs.Coding.{putCoded}
+use Rattle.tgtenc.specs.Coding.{putCoded}
 use Rattle.t2block.specs.Lengths.{Lengths, putLengths}
 use Rattle.t2block.specs.Blocks.{blockAt, coded}
 

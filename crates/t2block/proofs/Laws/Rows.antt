@@ -9,7 +9,7 @@ use Rattle.t800.specs.State.{Block}
 use Rattle.t800.specs.WriteHeader.{codeBlock}
 use Rattle.bio.specs.Writing.{FreeBitsClear}
 use Rattle.bio.proofs.Laws.FreeBits.{putBits-clear}
-use Rattle.tgt.specs.Coding.{LeafCoded, putCoded}
+use Rattle.tgtenc.specs.Coding.{LeafCoded, putCoded}
 use Rattle.t2block.specs.declared.Place.{Place}
 use Rattle.t2block.specs.Blocks.{blockOver, BlockIn}
 use Rattle.t2block.specs.Runs.{Running, codeNext, codeAll, placeAt, rowBlocks, NextFits, AllFit, RowIn, setNext, setAll}

@@ -5,7 +5,7 @@ use native.Mathlib.Omega.{arith}
 use lib.ListN.{drop}
 use Rattle.t800.specs.Segments.{segmentsOf}
 use Rattle.bio.specs.Writing.{output}
-use Rattle.tgt.specs.Coding.{LeafCoded, putCoded}
+use Rattle.tgtenc.specs.Coding.{LeafCoded, putCoded}
 use Rattle.t2block.specs.Blocks.{blockOver, BlockIn}
 use Rattle.t2block.proofs.Laws.Passes.{same-passes}
 use Rattle.t2block.proofs.Laws.OneBlock.{path-before, incl-keeps, planes-keep, still-fit, coded-clear, block-absent, block-is}

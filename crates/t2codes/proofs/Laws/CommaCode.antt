@@ -13,7 +13,7 @@ use Rattle.t800.specs.Base.{every}
 use Rattle.t800.specs.Bits.{Decoded, bitsOf, getBit}
 use Rattle.t800.specs.Segments.{commaBits, readOnes, readComma}
 use Rattle.t800.proofs.Laws.Computed.{every-below}
-use Rattle.bio.proofs.Laws.ReadChunks.{getBit-ct, getBit-place}
+use Rattle.biodec.proofs.Laws.ReadChunks.{getBit-ct, getBit-place}
 use Rattle.t2codes.specs.PassTable.{sameBits}
 use Rattle.t2codes.specs.CommaCode.{mostOnes, onesLimit, readCommaLimited}
 use Rattle.t2codes.proofs.Laws.PassTable.{same-bits}

@@ -10,7 +10,7 @@ use borrow.Author.Tests.{eq-eqb, ne-eqb, le-leb, lt-leb}
 use Rattle.t800.specs.declared.Bio.{Bio}
 use Rattle.t800.specs.Bits.{Decoded, getBit, readBits}
 use Rattle.t800.specs.PassCount.{readPasses}
-use Rattle.bio.proofs.Laws.ReadChunks.{getBit-ct, readBits-ct, getBit-place, readBits-place, readBits-below}
+use Rattle.biodec.proofs.Laws.ReadChunks.{getBit-ct, readBits-ct, getBit-place, readBits-place, readBits-below}
 use Rattle.t2codes.specs.PassCount.{counted, readFrom3}
 
 abbrev pub passes : ℕ → Bio → Decoded

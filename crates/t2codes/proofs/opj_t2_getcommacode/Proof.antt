@@ -6,7 +6,7 @@ use native.Mathlib.Omega.{arith}
 use borrow.Author.Needs.{needs}
 use Rattle.t800.specs.Bits.{Decoded}
 use Rattle.t800.specs.Segments.{readOnes}
-use Rattle.bio.proofs.Laws.ReadChunks.{getBit-ct}
+use Rattle.biodec.proofs.Laws.ReadChunks.{getBit-ct}
 use Rattle.t2codes.specs.CommaCode.{mostOnes, onesLimit, readCommaLimited}
 use Rattle.t2codes.proofs.Laws.CommaCode.{ones-end, ones-on}
 use Rattle.t2codes.proofs.opj_t2_getcommacode.Statement.{statement}

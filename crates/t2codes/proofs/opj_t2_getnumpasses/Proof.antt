@@ -2,8 +2,8 @@
 -- Assumes nothing.
 use mathlib.Core.Path.{_∙_}
 use borrow.Author.Needs.{needs}
-use Rattle.bio.specs.Reading.{decoded}
-use Rattle.bio.proofs.Laws.ReadChunks.{getBit-ct}
+use Rattle.biodec.specs.Reading.{decoded}
+use Rattle.biodec.proofs.Laws.ReadChunks.{getBit-ct}
 use Rattle.t2codes.proofs.Laws.PassCount.{ct-kept, passes-1, passes-2, passes-more}
 use Rattle.t2codes.proofs.opj_t2_getnumpasses.Statement.{statement}
 use Rattle.t2codes.proofs.opj_t2_getnumpasses.Tie as tie

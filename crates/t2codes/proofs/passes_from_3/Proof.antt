@@ -4,8 +4,8 @@ use mathlib.Core.Path.{ap, _∙_}
 use native.Mathlib.Omega.{arith}
 use borrow.Author.Needs.{needs}
 use Rattle.t800.specs.Bits.{Decoded}
-use Rattle.bio.specs.Reading.{decoded}
-use Rattle.bio.proofs.Laws.ReadChunks.{readBits-ct, readBits-below}
+use Rattle.biodec.specs.Reading.{decoded}
+use Rattle.biodec.proofs.Laws.ReadChunks.{readBits-ct, readBits-below}
 use Rattle.t2codes.proofs.Laws.PassCount.{ct-kept, from-3, from-6, from-37}
 use Rattle.t2codes.proofs.passes_from_3.Statement.{statement}
 use Rattle.t2codes.proofs.passes_from_3.Tie as tie

@@ -15,7 +15,7 @@ use Rattle.t800.specs.ReadHeader.{opensSegment, currentLimit, currentPasses, pa
 use Rattle.t800.proofs.Laws.Tests.{if-true, if-false, if-eq, if-ne}
 use Rattle.tcd.specs.Rows.{putRow}
 use Rattle.tgt.specs.Path.{pathOver, leafWord}
-use Rattle.tgt.specs.Reading.{LeafAfter, belowIn, ValueAfter, valueIn, leafOf}
+use Rattle.tgtdec.specs.Reading.{LeafAfter, belowIn, ValueAfter, valueIn, leafOf}
 use Rattle.t2block.specs.declared.Place.{Place}
 use Rattle.t2dec.specs.declared.Run.{Run}
 use Rattle.t2block.specs.Blocks.{blockAt}

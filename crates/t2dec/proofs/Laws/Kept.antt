@@ -16,9 +16,9 @@ use Rattle.t800.specs.State.{Block, notYetPlanes, lengthBits}
 use Rattle.t800.specs.WriteHeader.{isNew}
 use Rattle.t800.specs.ReadHeader.{passesTaken, readZeroPlanesFrom}
 use Rattle.t800.proofs.Laws.Tests.{either}
-use Rattle.bio.proofs.Laws.ReadChunks.{getBit-ct, getBit-place, readBits-ct, readBits-place}
-use Rattle.tgt.specs.Reading.{ValueAfter}
-use Rattle.tgt.proofs.Laws.Reading.{readPath-ct, readPath-place, raising-ct, raising-place}
+use Rattle.biodec.proofs.Laws.ReadChunks.{getBit-ct, getBit-place, readBits-ct, readBits-place}
+use Rattle.tgtdec.specs.Reading.{ValueAfter}
+use Rattle.tgtdec.proofs.Laws.Reading.{readPath-ct, readPath-place, raising-ct, raising-place}
 use Rattle.t2codes.specs.CommaCode.{onesLimit, readCommaLimited}
 use Rattle.t2codes.proofs.Laws.PassCount.{passes-ct, passes-place, passes-between}
 use Rattle.t2codes.proofs.Laws.CommaCode.{ones-ct, ones-place}

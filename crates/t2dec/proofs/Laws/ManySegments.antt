@@ -12,7 +12,7 @@ use Rattle.t800.specs.Segments.{termAll, bypass, firstLimit, nextLimit, width}
 use Rattle.t800.specs.State.{Block}
 use Rattle.t800.specs.ReadHeader.{currentLimit, currentPasses, passesTaken}
 use Rattle.t800.proofs.Laws.Tests.{either, if-lt, if-ge, if-eq, if-ne, on-eq}
-use Rattle.bio.proofs.Laws.ReadChunks.{readBits-ct}
+use Rattle.biodec.proofs.Laws.ReadChunks.{readBits-ct}
 use Rattle.t2block.proofs.Laws.OneBlock.{same-word}
 use Rattle.t2dec.specs.declared.Segment.{Segment}
 use Rattle.t2dec.specs.Segments.{limitBehind, currentSegment}

@@ -12,7 +12,7 @@ use Rattle.t800.specs.Segments.{width}
 use Rattle.t800.specs.ReadHeader.{opensSegment, currentLimit, currentPasses}
 use Rattle.t800.proofs.Laws.Tests.{if-lt, if-ge, if-le, if-gt}
 use Rattle.tcd.specs.Rows.{putRow}
-use Rattle.tgt.specs.Reading.{ValueAfter}
+use Rattle.tgtdec.specs.Reading.{ValueAfter}
 use Rattle.t2codes.specs.CommaCode.{readCommaLimited}
 use Rattle.t2dec.specs.declared.Segment.{Segment}
 use Rattle.t2dec.specs.Segments.{limitBehind, currentSegment}

@@ -3,7 +3,7 @@ use mathlib.Core.Path.{ap}
 use native.Mathlib.Omega.{arith}
 use Prim.Native.Nat.{_+_}
 use lib.ListN.{getD}
-use Rattle.tgt.specs.Reading.{valueAfter}
+use Rattle.tgtdec.specs.Reading.{valueAfter}
 use Rattle.t2dec.specs.declared.Run.{Run}
 use Rattle.t2dec.specs.Reading.{reading}
 use Rattle.t2dec.proofs.Laws.ManySegments.{fits-same}

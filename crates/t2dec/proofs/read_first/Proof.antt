@@ -4,8 +4,8 @@ use Prim.Native.Nat.{_+_}
 use native.Mathlib.Omega.{arith}
 use lib.ListN.{length, drop}
 use Rattle.t800.specs.State.{notYetPlanes}
-use Rattle.tgt.specs.Reading.{ValueAfter, valueAfter, leafOf}
-use Rattle.tgt.proofs.Laws.Reading.{raising-ct}
+use Rattle.tgtdec.specs.Reading.{ValueAfter, valueAfter, leafOf}
+use Rattle.tgtdec.proofs.Laws.Reading.{raising-ct}
 use Rattle.t2block.proofs.Laws.OneBlock.{path-wider, path-before}
 use Rattle.t2dec.specs.declared.Run.{Run}
 use Rattle.t2dec.specs.Reading.{reading}

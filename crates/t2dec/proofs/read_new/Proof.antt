@@ -5,8 +5,8 @@ use native.Mathlib.Omega.{arith}
 use mathlib.Core.List.{reverse}
 use lib.ListN.{length, drop}
 use Rattle.tgt.specs.Path.{pathOver}
-use Rattle.tgt.specs.Reading.{LeafAfter, leafAfter}
-use Rattle.tgt.proofs.Laws.Reading.{readPath-ct}
+use Rattle.tgtdec.specs.Reading.{LeafAfter, leafAfter}
+use Rattle.tgtdec.proofs.Laws.Reading.{readPath-ct}
 use Rattle.t2block.specs.Blocks.{BlockIn}
 use Rattle.t2block.proofs.Laws.OneBlock.{path-wider, path-before}
 use Rattle.t2dec.specs.declared.Run.{Run}

@@ -2,8 +2,8 @@
 use mathlib.Core.Path.{ap}
 use native.Mathlib.Omega.{arith}
 use Rattle.t800.specs.Bits.{Decoded}
-use Rattle.bio.specs.Reading.{decoded}
-use Rattle.bio.proofs.Laws.ReadChunks.{getBit-ct}
+use Rattle.biodec.specs.Reading.{decoded}
+use Rattle.biodec.proofs.Laws.ReadChunks.{getBit-ct}
 use Rattle.t2dec.specs.declared.Run.{Run}
 use Rattle.t2dec.specs.Reading.{reading}
 use Rattle.t2dec.proofs.Laws.BlockParts.{old-absent, old-included}

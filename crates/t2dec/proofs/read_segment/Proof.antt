@@ -1,6 +1,6 @@
 -- `t2dec::read_segment` meets its contract.
 use mathlib.Core.Path.{ap, _∙_}
-use Rattle.bio.specs.Reading.{decoded}
+use Rattle.biodec.specs.Reading.{decoded}
 use Rattle.t2dec.specs.declared.Run.{Run}
 use Rattle.t2dec.specs.Reading.{reading}
 use Rattle.t2dec.proofs.Laws.OneSegment.{segment-wide, segment-past-records, segment-read}

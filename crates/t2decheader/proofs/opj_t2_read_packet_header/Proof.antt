@@ -10,8 +10,8 @@ use Rattle.t800.specs.declared.Band.{Band}
 use Rattle.t800.specs.Bits.{endsInFF}
 use Rattle.t800.specs.State.{reader, layer, blocks, endOf}
 use Rattle.tcd.specs.Geometry.{AllUpTo64}
-use Rattle.bio.specs.declared.Aligned.{Aligned}
-use Rattle.bio.specs.Reading.{alignedAt}
+use Rattle.biodec.specs.declared.Aligned.{Aligned}
+use Rattle.biodec.specs.Reading.{alignedAt}
 use Rattle.tcdstate.proofs.Laws.RangeParts.{first-bands}
 use Rattle.tcdstate.proofs.Laws.ValidStates.{valid-state}
 use Rattle.t2dec.specs.declared.Run.{Run}

@@ -19,7 +19,7 @@ use Rattle.t800.proofs.Laws.SetLeaf.{length-setValue}
 use Rattle.t800.proofs.Laws.Tests.{either}
 use Rattle.bio.specs.Writing.{output, FreeBitsClear}
 use Rattle.tcd.proofs.Laws.Bands.{length-from}
-use Rattle.tgt.specs.Coding.{putCoded}
+use Rattle.tgtenc.specs.Coding.{putCoded}
 use Rattle.t2block.specs.Blocks.{coded}
 use Rattle.t2block.specs.Runs.{Running, codeNext, codeAll, AllFit, setNext, setAll}
 use Rattle.t2block.proofs.Laws.OneBlock.{Before, reversed-before, BlockBefore}

@@ -11,7 +11,7 @@ use Rattle.t800.specs.TagTree.{Coded}
 use Rattle.t800.specs.WriteHeader.{setNewBlocks, codeBlock, codeBlocks}
 use Rattle.bio.specs.Writing.{Output, putBits}
 use Rattle.bio.proofs.Laws.FreeBits.{putBits-append}
-use Rattle.tgt.specs.Coding.{putCoded}
+use Rattle.tgtenc.specs.Coding.{putCoded}
 use Rattle.t2segment.proofs.Laws.Segments.{next-entry}
 use Rattle.t2block.specs.Blocks.{coded}
 use Rattle.t2block.specs.Runs.{Running, codeNext, codeAll, setNext, setAll}

@@ -17,7 +17,7 @@ use Rattle.t800.proofs.Trip.WriterState.{headerBlocks}
 use Rattle.bio.specs.Writing.{Output, output, emptyAt, lastPlace, putBit, putBits, flush}
 use Rattle.bio.proofs.Laws.Packed.{flushed-is-packed, packed-place}
 use Rattle.tcdstate.proofs.Laws.ValidStates.{valid-state, block-known, block-bounds}
-use Rattle.tgt.specs.Coding.{LeafCoded, putCoded}
+use Rattle.tgtenc.specs.Coding.{LeafCoded, putCoded}
 use Rattle.t2check.proofs.Laws.NotRefused.{NotRefused}
 use Rattle.t2check.proofs.Laws.RefusalParts.{blocks-of-valid}
 use Rattle.t2encheader.specs.Header.{headerCoded, putHeader}

@@ -2,8 +2,8 @@
 use mathlib.Core.Path.{ap}
 use native.Mathlib.Omega.{arith}
 use Rattle.t800.specs.MarkerSegments.{MarkerRead}
-use Rattle.bio.specs.declared.Aligned.{Aligned}
-use Rattle.bio.specs.Reading.{alignedAt}
+use Rattle.biodec.specs.declared.Aligned.{Aligned}
+use Rattle.biodec.specs.Reading.{alignedAt}
 use Rattle.t2read.specs.Answers.{markerRead}
 use Rattle.t2read.proofs.Laws.Markers.{skip-inside, taken-up-to}
 use Rattle.t2read.proofs.Laws.Results.{done-is}

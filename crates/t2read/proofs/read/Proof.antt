@@ -4,8 +4,8 @@ use native.Mathlib.Omega.{arith}
 use Rattle.t800.specs.declared.Bio.{Bio}
 use Rattle.t800.specs.Bits.{Decoded, bioAt, getBit}
 use Rattle.t800.specs.MarkerSegments.{MarkerRead}
-use Rattle.bio.specs.Reading.{decoded}
-use Rattle.bio.proofs.Laws.ReadChunks.{getBit-ct, getBit-place}
+use Rattle.biodec.specs.Reading.{decoded}
+use Rattle.biodec.proofs.Laws.ReadChunks.{getBit-ct, getBit-place}
 use Rattle.t2read.specs.Answers.{markerRead}
 use Rattle.t2read.proofs.Laws.Markers.{skip-inside}
 use Rattle.t2read.proofs.Laws.Results.{accepted, unchanged-is, read-absent-is, read-present-is}

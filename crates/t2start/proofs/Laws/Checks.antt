@@ -13,12 +13,12 @@ use Rattle.t800.specs.State.{writer, reader, blocks, stateLength}
 use Rattle.t800.specs.Ranges.{badShape, badStyle, bandTooDeep, blockTooDeep}
 use Rattle.t800.specs.Start.{StartResult, freshState, setZeroPlanes, startRefusal, start}
 use Rattle.t800.proofs.Laws.Tests.{if-true, if-false, on-eq}
+use Rattle.t800.proofs.Laws.Lists.{no-planes}
 use Rattle.t800.proofs.Laws.FreshState.{fresh-length}
 use Rattle.t800.proofs.Laws.Accepted.{StartAccepted, start-accepted}
 use Rattle.tcd.specs.Geometry.{AllUpTo64}
 use Rattle.tcd.proofs.Laws.Bands.{shape-not-refused}
 use Rattle.t2start.specs.Parts.{answered, begun, planesWanted}
-use Rattle.t2start.proofs.Laws.ZeroPlanes.{set-none}
 
 abbrev pub wrongList : ℕ → List Band → List ℕ → List ℕ → Bool
 wrongList r bs planes lent = not (eqb (length lent) (stateLength bs)) || not (eqb (length planes) (planesWanted r bs))
@@ -138,5 +138,5 @@ reader-begun n given s planes lent =
     (λ h. refused-too reader n given s planes lent h)
   where
     none : (ps : List ℕ) → length ps ≡ 0 → freshState reader s (take n given) ≡ setZeroPlanes (blocks (take n given)) ps (freshState reader s (take n given))
-    none [] l = sym (set-none (blocks (take n given)) (freshState reader s (take n given)))
+    none [] l = sym (no-planes (blocks (take n given)) (freshState reader s (take n given)))
     none (p ∷ ps) l = absurd (omega arith)

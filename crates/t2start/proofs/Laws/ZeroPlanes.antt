@@ -15,7 +15,7 @@ use Rattle.t800.specs.TagTree.{setValue}
 use Rattle.t800.specs.State.{Block, blockOf, blocksIn, bandNodes, bandLength, blocksFrom, blocksAt}
 use Rattle.t800.specs.Start.{setZeroPlanes}
 use Rattle.t800.proofs.Laws.Tests.{or-left, or-right}
-use Rattle.tcd.proofs.Laws.Bands.{length-from}
+use Rattle.t800.proofs.Laws.Lists.{length-from, no-planes}
 use Rattle.tcdstate.proofs.Laws.BlockPlanes.{deepFrom}
 use Rattle.tgt.specs.Path.{rowOver, pathOver}
 use Rattle.tgt.proofs.Laws.Path.{TreeLevels}
@@ -58,15 +58,10 @@ shallow-turn l b bs ps from to e q h =
 
 -- ---- some blocks, and others behind them
 
-pub set-none : (ks : List Block) (ws : List ℕ) → setZeroPlanes ks [] ws ≡ ws
-unfolding setZeroPlanes
-set-none [] ws = refl
-set-none (k ∷ ks) ws = refl
-
 set-append : (ks js : List Block) (ps ws : List ℕ) → setZeroPlanes (ks ++ js) ps ws ≡ setZeroPlanes js (drop (length ks) ps) (setZeroPlanes ks ps ws)
 unfolding setZeroPlanes
 set-append [] js ps ws = refl
-set-append (k ∷ ks) js [] ws = sym (set-none js ws)
+set-append (k ∷ ks) js [] ws = sym (no-planes js ws)
 set-append (k ∷ ks) js (p ∷ ps) ws = set-append ks js ps (setValue (k .zeroTree) (k .path) (k .planes - p) ws)
 
 -- as many planes count as there are blocks

@@ -1,39 +1,20 @@
--- The codewords of 1 to 164 passes are prefix-free (T.800, Table B.4): none begins another.
-use mathlib.Core.Path.{_≡_, subst}
-use mathlib.Core.Bool.{Bool, true, false, _&&_, _||_, not}
-use mathlib.Core.List.{List, [], _∷_, _++_, IsPrefix}
-use Prim.Native.Nat.{ℕ, _+_, _-_, _≤_}
+-- The codewords of 1 to 164 passes are prefix-free (T.800, Table B.4): none begins another, since a reader of the longer one reads the shorter.
+use mathlib.Core.Path.{_≡_, sym, ap, _∙_, subst}
+use mathlib.Core.List.{List, [], _∷_, append-nil, IsPrefix}
+use Prim.Native.Nat.{ℕ, _≤_}
 use native.Mathlib.Omega.{arith}
-use lib.Dec.{T, eqb, eqb→eq, eqb-refl}
-use mir.Facts.{yes-and, or-yes, T-not}
-use mathlib.Core.Logic.{_⊎_, inl, inr}
-use Rattle.t800.specs.Base.{every}
-use Rattle.t800.specs.Bits.{bitsOf}
+use Rattle.t800.specs.Bits.{Decoded, bioAt, pack}
 use Rattle.t800.specs.PassCount.{passBits}
-use Rattle.t800.proofs.Laws.Computed.{every-below}
+use Rattle.t800.proofs.Laws.HeaderBits.{bits-passes}
+use Rattle.t800.proofs.Trip.Bits.{bioAfter, Reads, reads-split, packed-bits-read}
+use Rattle.t800.proofs.Trip.Codes.{passes-read}
 
-abbrev begins : List ℕ → List ℕ → Bool
-begins [] ys = true
-begins (x ∷ xs) [] = false
-begins (x ∷ xs) (y ∷ ys) = eqb x y && begins xs ys
-
-begins-append : (xs t : List ℕ) → T (begins xs (xs ++ t))
-begins-append [] t = tt
-begins-append (x ∷ xs) t = yes-and (eqb x x) (begins xs (xs ++ t)) (eqb-refl x) (begins-append xs t)
-
-computed : T (every 164 (λ m. every 164 (λ n. eqb m n || not (begins (passBits (m + 1)) (passBits (n + 1))))))
-unfolding every passBits bitsOf
-computed = tt
-
+-- The codeword of n is read behind a bit 0.
 pub pass-codewords-prefix-free : (m n : ℕ) → 1 ≤ m → m ≤ 164 → 1 ≤ n → n ≤ 164 → IsPrefix (passBits m) (passBits n) → m ≡ n
 pass-codewords-prefix-free m n m1 m164 n1 n164 p =
-    let row = every-below 164 (λ m. every 164 (λ n. eqb m n || not (begins (passBits (m + 1)) (passBits (n + 1))))) computed (m - 1) (omega arith) in
-    let pair = every-below 164 (λ n. eqb (m - 1) n || not (begins (passBits (m - 1 + 1)) (passBits (n + 1)))) row (n - 1) (omega arith) in
-    let em : m - 1 + 1 ≡ m = omega arith in
-    let en : n - 1 + 1 ≡ n = omega arith in
-    let b : T (begins (passBits (m - 1 + 1)) (passBits (n - 1 + 1))) = rw (em, en) (subst (λ (l : List ℕ). T (begins (passBits m) l)) (p .1) (begins-append (passBits m) (p .0))) in
-    go (or-yes (eqb (m - 1) (n - 1)) (not (begins (passBits (m - 1 + 1)) (passBits (n - 1 + 1)))) pair) b
-  where
-    go : T (eqb (m - 1) (n - 1)) ⊎ T (not (begins (passBits (m - 1 + 1)) (passBits (n - 1 + 1)))) → T (begins (passBits (m - 1 + 1)) (passBits (n - 1 + 1))) → m ≡ n
-    go (inl e) b = omega (arith, eqb→eq (m - 1) (n - 1) e)
-    go (inr f) b = absurd (T-not (begins (passBits (m - 1 + 1)) (passBits (n - 1 + 1))) b f)
+    let src : List ℕ = pack (0 ∷ passBits n) in
+    let all = packed-bits-read src [] 0 (passBits n) 0 (omega arith) (bits-passes n) (sym (append-nil src)) in
+    let b = bioAfter src (bioAt 0) in
+    let longer : Reads src b (passBits n) (all .end) = all .reads .2 in
+    let parts = reads-split src b (all .end) (passBits m) (p .0) (subst (λ (l : List ℕ). Reads src b l (all .end)) (sym (p .1)) longer) in
+    ap (λ (d : Decoded). d .value) (sym (passes-read src b (parts .0) m m1 m164 (parts .1)) ∙ passes-read src b (all .end) n n1 n164 longer)

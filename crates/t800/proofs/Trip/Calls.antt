@@ -1,7 +1,7 @@
 -- What accepted, refused and measuring calls do to a state, and the first packet that a list of calls owes.
 use mathlib.Core.Path.{_≡_, refl, sym, ap, ap₂, _∙_, subst}
 use mathlib.Core.Logic.{_≢_, _⊎_, inl, inr}
-use mathlib.Core.Bool.{Bool, true, false, cond, _&&_, _||_, not, true≢false}
+use mathlib.Core.Bool.{Bool, true, false, cond, _&&_, not, true≢false}
 use mathlib.Core.List.{List, [], _∷_, _++_, append-assoc}
 use Prim.Native.Nat.{ℕ, _-_, _/_, _<_}
 use native.Mathlib.Omega.{arith}
@@ -21,22 +21,11 @@ use Rattle.t800.specs.MarkerSegments.{readSop}
 use Rattle.t800.specs.Packet.{wrongLists, measureRefusal, front, packet, writeRefusal, WriteResult, write, readRefusal, readAbsent, readPresent, ReadResult, read}
 use Rattle.t800.specs.Book.{BlockEntry, addCounts, terminatedAsStyle}
 use Rattle.t800.specs.RoundTrip.{WriteCall, WriterCall, measuring, writing, writeOf, accepted, owedFor, owed, allTerminatedAsStyle, ReadCall, readOf}
-use Rattle.t800.proofs.Laws.Tests.{or-left, or-right, not-refused, either, if-true, if-false}
+use Rattle.t800.proofs.Laws.Tests.{not-refused, either, if-true, if-false}
+use Rattle.t800.proofs.Laws.Lists.{lists-right}
 use Rattle.t800.proofs.Trip.WriterState.{Acceptable}
 
 -- ---- writing
-
-lists-right : (p : Contribution) (n : ℕ) → wrongLists p n ≡ false → (length (p .counts) ≡ n) × (length (p .lengths) ≡ sum (p .counts)) × (length (p .marks) ≡ sum (p .counts))
-unfolding wrongLists
-lists-right p n h =
-    let a : Bool = not (eqb (length (p .counts)) n) in
-    let b : Bool = not (eqb (length (p .lengths)) (sum (p .counts))) in
-    let c : Bool = not (eqb (length (p .marks)) (sum (p .counts))) in
-    let ab : (a || b) ≡ false = or-left (a || b) c h in (
-      eqb-true (length (p .counts)) n (not-false (eqb (length (p .counts)) n) (or-left a b ab)),
-      eqb-true (length (p .lengths)) (sum (p .counts)) (not-false (eqb (length (p .lengths)) (sum (p .counts))) (or-right a b ab)),
-      eqb-true (length (p .marks)) (sum (p .counts)) (not-false (eqb (length (p .marks)) (sum (p .counts))) (or-right (a || b) c h)),
-    )
 
 measured : (ws scratch : List ℕ) (p : Contribution) → measureRefusal ws scratch p ≡ 0 → (layer ws ≢ notYetIncluded) × Acceptable ws (blocks (bands ws)) p
 unfolding measureRefusal

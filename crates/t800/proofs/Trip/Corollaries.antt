@@ -14,12 +14,12 @@ use borrow.Author.Tests.{le-ltb, eq-eqb}
 use Rattle.t800.specs.declared.Band.{Band}
 use Rattle.t800.specs.Base.{sum, overwrite}
 use Rattle.t800.specs.Reports.{BlockReport, SegmentRecord, reportWords, recordWords}
-use Rattle.t800.specs.State.{Block, blocks, writer, reader}
-use Rattle.t800.specs.Ranges.{blockTooDeep}
+use Rattle.t800.specs.State.{blocks, writer, reader}
 use Rattle.t800.specs.Start.{startRefusal, start}
 use Rattle.t800.specs.Book.{BlockEntry, Entry, reportOf, entryFrom, entry, newBook, addCounts, terminatedAsStyle}
 use Rattle.t800.specs.RoundTrip.{WriteCall, WriterCall, measuring, writing, writeOf, accepted, stateAfter, Owed, owedFor, owed, allTerminatedAsStyle, ReadCall, ReaderCall, refusedRead, packetRead, readOf, ReadsPacket, GivesEntry}
 use Rattle.t800.proofs.Laws.Tests.{either, if-eq, if-ne, if-true, if-false, on-eq}
+use Rattle.t800.proofs.Laws.Lists.{record-words-length, none-too-deep}
 use Rattle.t800.proofs.Trip.Booked.{entries-length}
 use Rattle.t800.proofs.Trip.Calls.{refused-keeps, terminated-accepted, terminated-refused, FirstOwed, first-owed, refused-read-keeps}
 use Rattle.t800.proofs.Laws.Accepted.{start-accepted}
@@ -127,11 +127,6 @@ module _ (bs : List Band) (s : ℕ) where
           )
 
 -- a reader can be started wherever a writer can
-none-too-deep : (ks : List Block) → blockTooDeep ks [] ≡ false
-unfolding blockTooDeep
-none-too-deep [] = refl
-none-too-deep (k ∷ ks) = refl
-
 reader-starts : (n : ℕ) (given : List Band) (s : ℕ) (planes lent : List ℕ) → start writer n given s planes lent .answer ≡ 0 → start reader n given s [] lent .answer ≡ 0
 unfolding start startRefusal writer reader
 reader-starts n given s planes lent e =
@@ -177,11 +172,6 @@ records-told (x ∷ xs) (y ∷ ys) e =
     let r : recordWords xs ≡ recordWords ys = cc in
     let h : x ≡ y = λ i. record { block = a i; opens = b i; passes = c i; bytes = d i } in
     ap₂ (λ (z : SegmentRecord) (zs : List SegmentRecord). z ∷ zs) h (records-told xs ys r)
-
-record-words-length : (xs : List SegmentRecord) → length (recordWords xs) ≡ 4 * length xs
-unfolding recordWords
-record-words-length [] = refl
-record-words-length (x ∷ xs) = let i = record-words-length xs in omega arith
 
 over-same : (lent xs ys : List ℕ) → length xs ≡ length ys → overwrite lent xs ≡ overwrite lent ys → xs ≡ ys
 unfolding overwrite

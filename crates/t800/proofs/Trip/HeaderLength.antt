@@ -1,6 +1,6 @@
 -- How long a header can be: a block that nothing refuses takes at most 20,000 bits, and bits take at most as many bytes and two.
 use mathlib.Core.Path.{_≡_, refl, sym, ap, _∙_}
-use mathlib.Core.Bool.{Bool, false, cond, _&&_, _||_, not}
+use mathlib.Core.Bool.{false, cond, _&&_, _||_, not}
 use mathlib.Core.List.{List, [], _∷_, _++_, reverse}
 use Prim.Native.Nat.{ℕ, zero, suc, _+_, _-_, _*_, _/_, _^_, _≤_, _<_, _%_, max}
 use native.Mathlib.Nat.{mul-le-mul, le-trans}
@@ -9,7 +9,6 @@ use lib.ListN.{length, getD, set, replicate, take, drop, length-append, length-r
 use lib.Dec.{ltb, leb, eqb}
 use Rattle.t800.specs.declared.Band.{Band}
 use Rattle.t800.specs.declared.Level.{Level}
-use Rattle.t800.specs.Base.{any, sum}
 use Rattle.t800.specs.Bits.{bitsOf, bitsAfter, lastBytes, packFrom, pack}
 use Rattle.t800.specs.TagTree.{Coded, levels, pathFrom, pathToRoot, setValue, lowAfter, nodeBits, knownAfter, codePath}
 use Rattle.t800.specs.PassCount.{passBits}
@@ -17,7 +16,7 @@ use Rattle.t800.specs.Segments.{Segment, segmentsFrom, segmentsOf, width
 use Rattle.t800.specs.State.{Block, notYetPlanes, blocksIn, bandLength, blocksFrom, blocksAt, blocks, passesSoFar}
 use Rattle.t800.specs.WriteHeader.{Contribution, isNew, lengthBitsBefore, setNewBlocks, codeInclusion, codeZeroPlanes, codePasses, codeBlock, codeBlocks}
 use Rattle.t800.proofs.Laws.Levels.{at-most-seven-levels}
-use Rattle.t800.proofs.Laws.Layout.{Layout, inclusion, Placed, SeparateFromAll, AllPlaced}
+use Rattle.t800.proofs.Laws.Layout.{Layout, inclusion, Placed, AllPlaced}
 use Rattle.t800.proofs.Laws.Tests.{either, on-eq, if-eq, if-ne}
 use Rattle.t800.proofs.Trip.Segments.{tooWide, field-fits}
 use Rattle.t800.proofs.Trip.Changes.{ValuesOnly, no-values, values-then, leaf-set, nodes-only, block-stays, block-coded, paths-keep}

@@ -18,7 +18,7 @@ use Rattle.t800.specs.Bits.{bioAt, pack}
 use Rattle.t800.specs.TagTree.{Coded}
 use Rattle.t800.specs.State.{Block, notYetIncluded, blocks, bands, layer, writer, reader}
 use Rattle.t800.specs.Ranges.{validState}
-use Rattle.t800.specs.Start.{freshState, setZeroPlanes, start}
+use Rattle.t800.specs.Start.{freshState, start}
 use Rattle.t800.specs.WriteHeader.{Contribution}
 use Rattle.t800.specs.MarkerSegments.{withMarkers}
 use Rattle.t800.specs.MarkerSegments.{MarkerRead, readSop}
@@ -26,6 +26,7 @@ use Rattle.t800.specs.ReadHeader.{readHeader}
 use Rattle.t800.specs.Packet.{front, ReadResult, readRefusal, readAbsent, readPresent, read}
 use Rattle.t800.specs.Book.{BlockEntry, entryFrom, entry, newBook, addCounts, terminatedAsStyle}
 use Rattle.t800.specs.RoundTrip.{WriteCall, writeOf, accepted, Owed, owedFor, ReadCall, readOf, ReadsPacket, GivesEntry, withMore}
+use Rattle.t800.proofs.Laws.Lists.{no-planes}
 use Rattle.t800.proofs.Laws.Layout.{Layout, layoutOf, blocks-placed, end-after}
 use Rattle.t800.proofs.Laws.FirstWords.{FirstWords, next-layer}
 use Rattle.t800.proofs.Laws.FreshState.{fresh-first-words}
@@ -53,11 +54,6 @@ pub reader-in-range : (bs : List Band) (s t : ℕ) (ws rs : List ℕ) (es : List
 reader-in-range bs s t ws rs es n y e = let w = y .writer-side in reader-valid bs s t ws rs n (y .reader-first) (w .startable) (w .layers) (w .state) (y .in-step) e
 
 -- ---- after a start
-
-no-planes : (ks : List Block) (ws : List ℕ) → setZeroPlanes ks [] ws ≡ ws
-unfolding setZeroPlanes
-no-planes [] ws = refl
-no-planes (k ∷ ks) ws = refl
 
 pub after-start : (n : ℕ) (given : List Band) (s : ℕ) (planes lent lent′ : List ℕ) → start writer n given s planes lent .answer ≡ 0 → start reader n given s [] lent′ .answer ≡ 0
     → Invariant (take n given) s 0 (start writer n given s planes lent .state) (start reader n given s [] lent′ .state) (newBook (take n given) planes)

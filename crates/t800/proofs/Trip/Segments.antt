@@ -2,7 +2,7 @@
 -- are the book's records too, with their lengths.
 use mathlib.Core.Path.{_≡_, refl, sym, ap, ap₂, _∙_, subst}
 use mathlib.Core.Logic.{_≢_}
-use mathlib.Core.Bool.{or-true, or-false, true≢false, Bool·beq, Bool, true, false, cond, _||_, not}
+use mathlib.Core.Bool.{or-false, true≢false, Bool·beq, Bool, true, false, cond, _||_, not}
 use mathlib.Core.List.{List, [], _∷_, _++_, append-assoc, append-nil}
 use Prim.Native.Nat.{ℕ, zero, suc, _+_, _-_, _^_, _≤_, _<_, min}
 use native.Mathlib.Nat.{zero-add, add-zero}
@@ -21,6 +21,7 @@ use Rattle.t800.specs.ReadHeader.{HeaderRead, opensSegment, currentLimit
 use Rattle.t800.specs.Book.{opensAt, recordsFrom, recordsOf, terminatedAt}
 use lib.Ieee.Fits.{and-l, and-r}
 use Rattle.t800.proofs.Laws.Tests.{on-lt, if-lt, if-ge, if-gt, if-true, if-false}
+use Rattle.t800.proofs.Laws.Lists.{last-pass}
 use Rattle.t800.proofs.Trip.Bits.{Reads, reads-split}
 use Rattle.t800.proofs.Trip.Codes.{number-read, LengthsFit}
 use Rattle.t800.proofs.Trip.Limits.{opensIn, next-segment, limitIn, passesIn, limitAfter, passesAfter}
@@ -54,10 +55,6 @@ drop-min d ls =
     (λ h. drop-of-length-le ls h ∙ sym (drop-of-length-le ls {i = min d (length ls)} (omega arith)))
 
 module _ (s i : ℕ) where
-  last-pass : (n len l m : ℕ) → segmentsFrom n len (l ∷ []) (m ∷ []) ≡ segment (n + 1) (len + l) ∷ []
-  unfolding segmentsFrom
-  last-pass n len l m = rw (or-true (not (eqb m 0)))
-
   pass-ends : (n len l : ℕ) (ls : List ℕ) (m : ℕ) (ms : List ℕ) (x y : ℕ) → not (eqb m 0) ≡ true
       → segmentsFrom n len (l ∷ x ∷ ls) (m ∷ y ∷ ms) ≡ segment (n + 1) (len + l) ∷ segmentsFrom 0 0 (x ∷ ls) (y ∷ ms)
   unfolding segmentsFrom
@@ -249,36 +246,62 @@ module _ (src : List ℕ) (room i : ℕ) (k : Block) (s lb : ℕ) (e : Bio) (rep
   unfolding readSegments
   one-turn f n ls rs b recs us c recs₂ q h = rw (q, h)
 
+  -- the segment that the next passes go into: how many of them, the first record that they make, and the words behind them
+  record NextPasses (ls : List ℕ) (p : ℕ) (rs : List ℕ) : Type 0 where
+    passes : ℕ
+    bytes : ℕ
+    some : 1 ≤ passes
+    within : passes ≤ length ls
+    first : recordsOf s i p ls ≡ recordWith i (cond (opensAt s p) 1 0) passes bytes ∷ recordsOf s i (p + passes) (drop passes ls)
+    taken : passesTaken rs k (length ls) ≡ passes
+    limit : currentLimit rs k ≡ limitAfter s (p + passes)
+    used : currentPasses rs k + passes ≡ passesAfter s (p + passes)
+
+  next-is : (ls : List ℕ) (p : ℕ) (rs : List ℕ) (b : Bio) (recs : List SegmentRecord) → BeforeSegment ls p rs b recs → NextPasses ls p rs
+  next-is ls p rs b recs y =
+      let t = next-segment s p in
+      let d : ℕ = t .limit - t .has in
+      let n : ℕ = min d (length ls) in
+      let h : 1 ≤ d = omega (arith, t .room) in
+      let one : 1 ≤ n = omega (arith, y .some) in
+      let all : t .has + n ≤ t .limit = omega (arith, t .room) in
+      let c = first-record s i p d ls (y .some) h (λ j lo hi. opens-is (p + j) ∙ t .stays-open j lo (omega (arith, t .room))) (opens-is (p + d) ∙ t .opens-next) in
+      record {
+        passes = n;
+        bytes = c .0;
+        some = one;
+        within = omega arith;
+        first = c .1;
+        taken = now-takes s k rs p (y .style-is) (y .limit) (y .used) (length ls);
+        limit = now-limit s k rs p (y .style-is) (y .limit) (y .used) ∙ sym (limit-is (p + n) ∙ t .limit-after n one all);
+        used = ap (λ (z : ℕ). z + n) (now-used s k rs p (y .style-is) (y .limit) (y .used)) ∙ sym (used-is (p + n) ∙ t .passes-after n one all);
+      }
+
   pub segments-read : (f : ℕ) (ls : List ℕ) (p : ℕ) (rs : List ℕ) (b : Bio) (recs : List SegmentRecord) → length ls ≤ f → BeforeSegment ls p rs b recs → SegmentsRead f ls p rs b recs
   unfolding lengthFields
   segments-read zero ls p rs b recs h y = absurd (omega (arith, y .some))
   segments-read (suc f) ls p rs b recs h y =
-      let t = next-segment s p in
-      let d : ℕ = t .limit - t .has in
-      let n : ℕ = min d (length ls) in
-      let c = first-record s i p d ls (y .some) (omega (arith, t .room)) (λ j lo hi. opens-is (p + j) ∙ t .stays-open j lo (omega (arith, t .room))) (opens-is (p + d) ∙ t .opens-next) in
-      let v : ℕ = c .0 in
+      let x = next-is ls p rs b recs y in
+      let n : ℕ = x .passes in
+      let v : ℕ = x .bytes in
       let rest : List SegmentRecord = recordsOf s i (p + n) (drop n ls) in
-      let fit₂ : (v < 2 ^ width lb n) × LengthsFit lb (segmentsIn rest) = rw (c .1) at (y .fits) in
-      let nw = field-fits lb (segment n v) (segmentsIn rest) (rw (c .1) at (y .widths)) in
-      let en : length recs + suc (length rest) ≤ room = rw (c .1) at (y .room-enough) in
-      let ah : Reads src b (bitsOf (width lb n) v ++ lengthFields lb (segmentsIn rest)) e = subst (λ (z : List SegmentRecord). Reads src b (lengthFields lb (segmentsIn z)) e) (c .1) (y .ahead) in
+      let fit₂ : (v < 2 ^ width lb n) × LengthsFit lb (segmentsIn rest) = rw (x .first) at (y .fits) in
+      let nw = field-fits lb (segment n v) (segmentsIn rest) (rw (x .first) at (y .widths)) in
+      let en : length recs + suc (length rest) ≤ room = rw (x .first) at (y .room-enough) in
+      let ah : Reads src b (bitsOf (width lb n) v ++ lengthFields lb (segmentsIn rest)) e = subst (λ (z : List SegmentRecord). Reads src b (lengthFields lb (segmentsIn z)) e) (x .first) (y .ahead) in
       let sp = reads-split src b e (bitsOf (width lb n) v) (lengthFields lb (segmentsIn rest)) ah in
-      let sh : passesTaken rs k (length ls) ≡ n = now-takes s k rs p (y .style-is) (y .limit) (y .used) (length ls) in
-      let lim : currentLimit rs k ≡ limitAfter s (p + n) = now-limit s k rs p (y .style-is) (y .limit) (y .used) ∙ sym (limit-is (p + n) ∙ t .limit-after n (omega (arith, t .room, y .some)) (omega (arith, t .room))) in
-      let use₂ : currentPasses rs k + n ≡ passesAfter s (p + n) = ap (λ (z : ℕ). z + n) (now-used s k rs p (y .style-is) (y .limit) (y .used)) ∙ sym (used-is (p + n) ∙ t .passes-after n (omega (arith, t .room, y .some)) (omega (arith, t .room))) in
       let us : List ℕ = set (set rs (k .at + 2) (currentLimit rs k)) (k .at + 3) (currentPasses rs k + n) in
       let one : readSegment src room i k n (readSoFar rs b reps recs) ≡ readSoFar us (sp .0) reps (recs ++ recordWith i (cond (opensSegment rs k) 1 0) n v ∷ [])
       = segment-read src room i k n rs b (sp .0) reps recs lb v (y .bits) (nw .0) (fit₂ .0) (omega arith) (sp .1) in
       let recs₂ : List SegmentRecord = recs ++ recordWith i (cond (opensAt s p) 1 0) n v ∷ [] in
       let one₂ : readSegment src room i k n (readSoFar rs b reps recs) ≡ readSoFar us (sp .0) reps recs₂
       = one ∙ ap (λ (z : Bool). readSoFar us (sp .0) reps (recs ++ recordWith i (cond z 1 0) n v ∷ [])) (now-opens s k rs p (y .style-is) (y .limit) (y .used)) in
-      let all : recs₂ ++ rest ≡ recs ++ recordsOf s i p ls = append-assoc recs (recordWith i (cond (opensAt s p) 1 0) n v ∷ []) rest ∙ ap (λ (z : List SegmentRecord). recs ++ z) (sym (c .1)) in
-      let tu = one-turn f n ls rs b recs us (sp .0) recs₂ sh one₂ in
-      let sg : SegmentNow rs us s (k .at) (p + n) = segment-now rs (currentLimit rs k) (currentPasses rs k + n) (p + n) (y .inside) lim use₂ in
+      let all : recs₂ ++ rest ≡ recs ++ recordsOf s i p ls = append-assoc recs (recordWith i (cond (opensAt s p) 1 0) n v ∷ []) rest ∙ ap (λ (z : List SegmentRecord). recs ++ z) (sym (x .first)) in
+      let tu = one-turn f n ls rs b recs us (sp .0) recs₂ (x .taken) one₂ in
+      let sg : SegmentNow rs us s (k .at) (p + n) = segment-now rs (currentLimit rs k) (currentPasses rs k + n) (p + n) (y .inside) (x .limit) (x .used) in
       let ld : length (drop n ls) ≡ length ls - n = length-drop n ls in
       on-lt 0 (length ls - n)
-      (λ z. let ih = segments-read f (drop n ls) (p + n) us (sp .0) recs₂ (omega (arith, t .room, y .some)) (record {
+      (λ z. let ih = segments-read f (drop n ls) (p + n) us (sp .0) recs₂ (omega (arith, x .some)) (record {
         some = omega arith;
         inside = rw (sg .long) (y .inside);
         style-is = sg .others 2 (omega arith) (omega arith) ∙ y .style-is;
@@ -298,7 +321,7 @@ module _ (src : List ℕ) (room i : ℕ) (k : Block) (s lb : ℕ) (e : Bio) (rep
       })
       (λ z. let nil-rest : rest ≡ [] = no-records s i (p + n) (drop n ls) (omega arith) in
       let ee : Reads src (sp .0) [] e = subst (λ (z : List SegmentRecord). Reads src (sp .0) (lengthFields lb (segmentsIn z)) e) nil-rest (sp .2) in
-      let pe : p + n ≡ p + length ls = omega arith in
+      let pe : p + n ≡ p + length ls = omega (arith, x .within) in
       record {
         words = us;
         reads = tu ∙ if-ge 0 (length ls - n) _ _ z ∙ ap₂ (λ (x : Bio) (q : List SegmentRecord). readSoFar us x reps q) (ee .1) (sym (append-nil recs₂) ∙ ap (λ (q : List SegmentRecord). recs₂ ++ q) (sym nil-rest) ∙ all);

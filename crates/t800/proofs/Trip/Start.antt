@@ -15,6 +15,7 @@ use Rattle.t800.specs.Ranges.{badShape, bandTooDeep, blockTooDeep}
 use Rattle.t800.specs.Start.{freshState, setZeroPlanes}
 use Rattle.t800.specs.Book.{BlockEntry, newEntries, newBook}
 use Rattle.t800.proofs.Laws.Tests.{or-left, or-right}
+use Rattle.t800.proofs.Laws.Lists.{length-from}
 use Rattle.t800.proofs.Laws.Layout.{Tree, inclusion, zeroPlanes, notYet, leafOf, Layout, AllPlaced, leaf-node, layoutOf, blocks-placed}
 use Rattle.t800.proofs.Laws.FirstWords.{FirstWords, same-first-words}
 use Rattle.t800.proofs.Laws.FreshState.{fresh-length, fresh-node, fresh-block, fresh-first-words}
@@ -43,11 +44,6 @@ unfolding newEntries blocksFrom
 entries-from at b zero i rest ps h = refl
 entries-from at b (suc n) i rest [] h = absurd (omega arith)
 entries-from at b (suc n) i rest (p ∷ ps) h = ap (λ (z : List BlockEntry). record { bandPlanes = b .planes; planes = p; passes = 0 } ∷ z) (entries-from at b n (i + 1) rest ps (omega arith))
-
-length-from : (at : ℕ) (b : Band) (n i : ℕ) → length (blocksFrom at b n i) ≡ n
-unfolding blocksFrom
-length-from at b zero i = refl
-length-from at b (suc n) i = ap suc (length-from at b n (i + 1))
 
 new-book-is : (at : ℕ) (bs : List Band) (ps : List ℕ) → length ps ≡ length (blocksAt at bs) → newBook bs ps ≡ entriesFor (blocksAt at bs) ps
 unfolding newBook blocksAt
