@@ -67,14 +67,14 @@ pub fn band_too_deep(bands: [Band; 3], n: usize) -> bool
     false
 }
 
-fn over(x: u32, most: u32) -> u32
+pub fn over(x: u32, most: u32) -> u32
     ensures { λ r. ⌜ r ≡ fault (leb x most) ⌝ }
 {
     if most < x { 1 } else { 0 }
 }
 
 // Looks at all of them, so that the loop vectorises.
-fn any_over(planes: &[u32], most: u32) -> bool
+pub fn any_over(planes: &[u32], most: u32) -> bool
     ensures { λ r. ⌜ r ≡ any (λ p. ltb most p) (now (planes .entry)) ⌝ }
 {
     let mut faults: u32 = 0;
