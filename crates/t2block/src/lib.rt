@@ -58,7 +58,7 @@ fn code_lengths(out: &mut [u8], b: Bio, lengths: &[u32], marks: &[u8], lenbits: 
 
 // Pass count, increment of the length bits, lengths.
 fn put_lengths(
-    codes: &[u32; 328],
+    codes: &[u16; 328],
     out: &mut [u8],
     b: Bio,
     before: u32,
@@ -80,7 +80,7 @@ fn put_lengths(
 // ---- one block
 
 fn code_passes(
-    codes: &[u32; 328],
+    codes: &[u16; 328],
     words: &mut [u32],
     out: &mut [u8],
     b: Bio,
@@ -149,7 +149,7 @@ fn code_zero_planes(words: &mut [u32], out: &mut [u8], b: Bio, p: Place, row: &[
 }
 
 fn code_block(
-    codes: &[u32; 328],
+    codes: &[u16; 328],
     words: &mut [u32],
     out: &mut [u8],
     b: Bio,
@@ -187,7 +187,7 @@ pub fn place_at(p: Place, i: usize) -> Place
 }
 
 fn code_next(
-    codes: &[u32; 328],
+    codes: &[u16; 328],
     words: &mut [u32],
     out: &mut [u8],
     r: Run,
@@ -227,7 +227,7 @@ fn code_next(
 
 // n blocks.
 pub fn code_row(
-    codes: &[u32; 328],
+    codes: &[u16; 328],
     words: &mut [u32],
     out: &mut [u8],
     r: Run,

@@ -1,5 +1,3 @@
-pub mod Lists
-pub mod BlocksLeft
 pub mod ScratchLength
 pub mod RefusalParts
 pub mod NotRefused

@@ -22,20 +22,25 @@ struct Codeword {
     len: u32,
 }
 
-fn codeword_of(codes: &[u32; 328], n: u32) -> Codeword
+fn wide(n: u16) -> u32
+    ensures { λ r. ⌜ r ≡ n ⌝ }
+{
+    n as u32
+}
+
+fn codeword_of(codes: &[u16; 328], n: u32) -> Codeword
     requires { ⌜ (T (isPassTable (now codes))) × (1 ≤ n) × (n ≤ 164) ⌝ }
     ensures { λ r. ⌜ IsCodewordOf n r ⌝ }
 {
     let i = (n - 1) as usize;
     let j = i + 164;
-    Codeword {
-        value: codes[i],
-        len: codes[j],
-    }
+    let value = wide(codes[i]);
+    let len = wide(codes[j]);
+    Codeword { value, len }
 }
 
 // With the table lent: a caller that puts many makes it once, since a constant array is made anew wherever it is named.
-pub fn put_pass_codeword(codes: &[u32; 328], out: &mut [u8], b: Bio, n: u32) -> Bio
+pub fn put_pass_codeword(codes: &[u16; 328], out: &mut [u8], b: Bio, n: u32) -> Bio
     requires { ⌜ (T (isPassTable (now codes))) × (FreeBitsClear b) × (1 ≤ n) × (n ≤ 164) ⌝ }
     ensures { λ r. ⌜ output (now (out .exit)) r ≡ putBits (output (now (out .entry)) b) (passBits n) ⌝ }
 {

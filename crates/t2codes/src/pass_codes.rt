@@ -1,5 +1,5 @@
 // The codewords of 1 to 164 passes (T.800, Table B.4): the 164 values, then their 164 lengths in bits.
-pub const PASS_CODES: [u32; 328] = [
+pub const PASS_CODES: [u16; 328] = [
     0,
     2,
     12,

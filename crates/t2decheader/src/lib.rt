@@ -7,11 +7,12 @@ ghost use Rattle.t800.specs.TagTree.{levels};
 ghost use Rattle.t800.specs.State.{reader, layer, bands, blocks, endOf};
 ghost use Rattle.t800.specs.Ranges.{validState};
 ghost use Rattle.tcd.specs.Geometry.{AllUpTo64, padded};
-ghost use Rattle.t2enc.specs.Bands.{bandBlocks, BandIn};
+ghost use Rattle.t2enc.specs.Bands.{gridOf, bandBlocks, BandIn};
 ghost use Rattle.t2dec.specs.Reading.{reading, nextBlocks, BitsIn};
 ghost use Rattle.t2decheader.specs.Bands.{BandFits, BandsFit};
 ghost use Rattle.t2decheader.specs.Header.{ReadsHeader};
 use t2dec::Run;
+use t2enc::Grid;
 use t800::Band;
 use t800::Bio;
 use t800::Level;
@@ -28,18 +29,18 @@ fn read_band(
     r: Run,
     band: Band,
     tree: [Level; 7],
-    start: usize,
+    g: Grid,
     layer: u32,
     block: usize,
 ) -> Run
-    requires { ⌜ (BitsIn (now src) (r .bio)) × (r .refusal ≡ 0) × (BandIn (length (now words)) start band) × (tree ≡ padded (levels (band .across) (band .down))) × (layer < 999) × (block ≤ 12288) × (BandFits (now words) start band) ⌝ }
-    ensures { λ o. ⌜ reading (now (words .exit)) (now (reports .exit)) (now (records .exit)) o ≡ nextBlocks (now (src .entry)) layer block (bandBlocks start band) (reading (now (words .entry)) (now (reports .entry)) (now (records .entry)) r) ⌝ }
+    requires { ⌜ (BitsIn (now src) (r .bio)) × (r .refusal ≡ 0) × (BandIn (length (now words)) (g .start) band) × (g ≡ gridOf (g .start) band) × (tree ≡ padded (levels (band .across) (band .down))) × (layer < 999) × (block ≤ 12288) × (BandFits (now words) (g .start) band) ⌝ }
+    ensures { λ o. ⌜ reading (now (words .exit)) (now (reports .exit)) (now (records .exit)) o ≡ nextBlocks (now (src .entry)) layer block (bandBlocks (g .start) band) (reading (now (words .entry)) (now (reports .entry)) (now (records .entry)) r) ⌝ }
 {
-    let g = t2enc::grid_of(band, start);
     let mut run = r;
     let mut y: usize = 0;
     while y < t2enc::rows(band) {
-        let row = tgt::opj_tgt_row(tree, g.depth, y);
+        let mut row = [0usize; 7];
+        tgt::opj_tgt_row(tree, g.depth, y, &mut row);
         let place = t2enc::row_place(g, y);
         let before = y * g.w;
         let first = block + before;
@@ -86,6 +87,7 @@ fn read_bands(
     while i < n {
         let band = bands[i];
         let tree = trees[i];
+        let g = t2enc::grid_of(band, start);
         run = read_band(
             words,
             reports,
@@ -94,14 +96,14 @@ fn read_bands(
             run,
             band,
             tree,
-            start,
+            g,
             layer,
             block,
         );
         if run.refusal != 0 {
             return run;
         }
-        start += tcd::band_length(band);
+        start = t2enc::grid_end(band, g);
         block += tcd::band_blocks(band);
         i += 1;
     }

@@ -4,7 +4,7 @@ ghost use Prim.Native.Nat.{_+_, _*_, _^_, _<_, _≤_};
 ghost use lib.Dec.{T};
 ghost use lib.ListN.{length, take};
 ghost use Rattle.t800.specs.TagTree.{levels};
-ghost use Rattle.t800.specs.State.{blocksIn, blocks, stateLength};
+ghost use Rattle.t800.specs.State.{blocksIn, bandLength, blocks, stateLength};
 ghost use Rattle.t800.specs.WriteHeader.{setNewBlocks, codeBlocks};
 ghost use Rattle.bio.specs.Writing.{output, FreeBitsClear};
 ghost use Rattle.tgtenc.specs.Coding.{leafCoded, putCoded};
@@ -63,23 +63,32 @@ pub fn row_place(g: Grid, y: usize) -> Place
     }
 }
 
+// Where the band's words end.
+pub fn grid_end(band: Band, g: Grid) -> usize
+    requires { ⌜ SidesUpTo64 band × (g ≡ gridOf (g .start) band) × (g .start < 2 ^ 63) ⌝ }
+    ensures { λ r. ⌜ r ≡ g .start + bandLength band ⌝ }
+{
+    let blocks = tcd::band_blocks(band);
+    g.start + 6 * g.nodes + 4 * blocks
+}
+
 // The band's first block has count number `block`.
-fn set_new_blocks(
+fn set_rows(
     words: &mut [u32],
     band: Band,
     tree: [Level; 7],
-    start: usize,
+    g: Grid,
     layer: u32,
     counts: &[u32],
     block: usize,
 )
-    requires { ⌜ (BandIn (length (now words)) start band) × (tree ≡ padded (levels (band .across) (band .down))) × (block + blocksIn band ≤ length (now counts)) ⌝ }
-    ensures { λ _. ⌜ now (words .exit) ≡ setAll layer (now (counts .entry)) (bandBlocks start band) block (now (words .entry)) ⌝ }
+    requires { ⌜ (BandIn (length (now words)) (g .start) band) × (g ≡ gridOf (g .start) band) × (tree ≡ padded (levels (band .across) (band .down))) × (block + blocksIn band ≤ length (now counts)) ⌝ }
+    ensures { λ _. ⌜ now (words .exit) ≡ setAll layer (now (counts .entry)) (bandBlocks (g .start) band) block (now (words .entry)) ⌝ }
 {
-    let g = grid_of(band, start);
     let mut y: usize = 0;
     while y < rows(band) {
-        let row = tgt::opj_tgt_row(tree, g.depth, y);
+        let mut row = [0usize; 7];
+        tgt::opj_tgt_row(tree, g.depth, y, &mut row);
         let place = row_place(g, y);
         let first = block + y * g.w;
         t2block::set_row(words, place, g.w, &row, layer, counts, first);
@@ -87,27 +96,47 @@ fn set_new_blocks(
     }
 }
 
+// A band without passes has no new block.
+fn set_new_blocks(
+    words: &mut [u32],
+    band: Band,
+    tree: [Level; 7],
+    g: Grid,
+    layer: u32,
+    counts: &[u32],
+    block: usize,
+)
+    requires { ⌜ (BandIn (length (now words)) (g .start) band) × (g ≡ gridOf (g .start) band) × (tree ≡ padded (levels (band .across) (band .down))) × (block + blocksIn band ≤ length (now counts)) ⌝ }
+    ensures { λ _. ⌜ now (words .exit) ≡ setAll layer (now (counts .entry)) (bandBlocks (g .start) band) block (now (words .entry)) ⌝ }
+{
+    let end = block + tcd::band_blocks(band);
+    if !tcdstate::any_over(&counts[block..end], 0) {
+        return;
+    }
+    set_rows(words, band, tree, g, layer, counts, block);
+}
+
 fn code_blocks(
-    codes: &[u32; 328],
+    codes: &[u16; 328],
     words: &mut [u32],
     out: &mut [u8],
     r: Run,
     band: Band,
     tree: [Level; 7],
-    start: usize,
+    g: Grid,
     layer: u32,
     counts: &[u32],
     lengths: &[u32],
     marks: &[u8],
 ) -> Run
-    requires { ⌜ (T (isPassTable (now codes))) × (FreeBitsClear (r .bio)) × (BandIn (length (now words)) start band) × (tree ≡ padded (levels (band .across) (band .down))) × (layer < 999) × (AllFit (now counts) (now lengths) (now marks) (now words) (bandBlocks start band) (r .block) (r .pass)) ⌝ }
-    ensures { λ s. ⌜ running (now (words .exit)) (now (out .exit)) s ≡ codeAll layer (now (counts .entry)) (now (lengths .entry)) (now (marks .entry)) (bandBlocks start band) (running (now (words .entry)) (now (out .entry)) r) ⌝ }
+    requires { ⌜ (T (isPassTable (now codes))) × (FreeBitsClear (r .bio)) × (BandIn (length (now words)) (g .start) band) × (g ≡ gridOf (g .start) band) × (tree ≡ padded (levels (band .across) (band .down))) × (layer < 999) × (AllFit (now counts) (now lengths) (now marks) (now words) (bandBlocks (g .start) band) (r .block) (r .pass)) ⌝ }
+    ensures { λ s. ⌜ running (now (words .exit)) (now (out .exit)) s ≡ codeAll layer (now (counts .entry)) (now (lengths .entry)) (now (marks .entry)) (bandBlocks (g .start) band) (running (now (words .entry)) (now (out .entry)) r) ⌝ }
 {
-    let g = grid_of(band, start);
     let mut run = r;
     let mut y: usize = 0;
     while y < rows(band) {
-        let row = tgt::opj_tgt_row(tree, g.depth, y);
+        let mut row = [0usize; 7];
+        tgt::opj_tgt_row(tree, g.depth, y, &mut row);
         let place = row_place(g, y);
         run = t2block::code_row(
             codes,
@@ -129,22 +158,22 @@ fn code_blocks(
 
 // The band's new blocks are set before its first is coded.
 fn code_band(
-    codes: &[u32; 328],
+    codes: &[u16; 328],
     words: &mut [u32],
     out: &mut [u8],
     r: Run,
     band: Band,
     tree: [Level; 7],
-    start: usize,
+    g: Grid,
     layer: u32,
     counts: &[u32],
     lengths: &[u32],
     marks: &[u8],
 ) -> Run
-    requires { ⌜ (T (isPassTable (now codes))) × (FreeBitsClear (r .bio)) × (BandIn (length (now words)) start band) × (tree ≡ padded (levels (band .across) (band .down))) × (layer < 999) × (r .block + blocksIn band ≤ length (now counts)) × (AllFit (now counts) (now lengths) (now marks) (now words) (bandBlocks start band) (r .block) (r .pass)) ⌝ }
-    ensures { λ s. ⌜ running (now (words .exit)) (now (out .exit)) s ≡ codeBand layer (now (counts .entry)) (now (lengths .entry)) (now (marks .entry)) start band (running (now (words .entry)) (now (out .entry)) r) ⌝ }
+    requires { ⌜ (T (isPassTable (now codes))) × (FreeBitsClear (r .bio)) × (BandIn (length (now words)) (g .start) band) × (g ≡ gridOf (g .start) band) × (tree ≡ padded (levels (band .across) (band .down))) × (layer < 999) × (r .block + blocksIn band ≤ length (now counts)) × (AllFit (now counts) (now lengths) (now marks) (now words) (bandBlocks (g .start) band) (r .block) (r .pass)) ⌝ }
+    ensures { λ s. ⌜ running (now (words .exit)) (now (out .exit)) s ≡ codeBand layer (now (counts .entry)) (now (lengths .entry)) (now (marks .entry)) (g .start) band (running (now (words .entry)) (now (out .entry)) r) ⌝ }
 {
-    set_new_blocks(words, band, tree, start, layer, counts, r.block);
+    set_new_blocks(words, band, tree, g, layer, counts, r.block);
     code_blocks(
         codes,
         words,
@@ -152,7 +181,7 @@ fn code_band(
         r,
         band,
         tree,
-        start,
+        g,
         layer,
         counts,
         lengths,
@@ -162,7 +191,7 @@ fn code_band(
 
 // The blocks of the first n bands.
 pub fn code_bands(
-    codes: &[u32; 328],
+    codes: &[u16; 328],
     words: &mut [u32],
     out: &mut [u8],
     b: Bio,
@@ -186,6 +215,7 @@ pub fn code_bands(
     let mut i: usize = 0;
     while i < n {
         let band = bands[i];
+        let g = grid_of(band, start);
         run = code_band(
             codes,
             words,
@@ -193,13 +223,13 @@ pub fn code_bands(
             run,
             band,
             trees[i],
-            start,
+            g,
             layer,
             counts,
             lengths,
             marks,
         );
-        start += tcd::band_length(band);
+        start = grid_end(band, g);
         i += 1;
     }
     run.bio

@@ -218,7 +218,8 @@ fn set_rows(
     let mut from: usize = 0;
     let mut y: usize = 0;
     while y < down {
-        let row = tgt::opj_tgt_row(tree, depth, y);
+        let mut row = [0usize; 7];
+        tgt::opj_tgt_row(tree, depth, y, &mut row);
         let to = from + across;
         set_row(state, base, &row, depth, band.planes, &planes[from..to]);
         from = to;

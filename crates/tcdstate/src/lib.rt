@@ -5,9 +5,9 @@ ghost use Prim.Native.Nat.{_+_, _*_, _≤_, _<_, min};
 ghost use lib.ListN.{length, getD, take};
 ghost use lib.Dec.{ltb, leb, eqb};
 ghost use Rattle.t800.specs.Base.{every, any};
-ghost use Rattle.t800.specs.State.{writer, bandLength, stateLength, blocks, bandAt};
+ghost use Rattle.t800.specs.State.{writer, bandNodes, bandLength, stateLength, blocks, bandAt};
 ghost use Rattle.t800.specs.Ranges.{badShape, bandTooDeep, blockTooDeep, nodeInRange, blockInRange, bandInRange, bandsInRange, validState};
-ghost use Rattle.tcd.specs.Geometry.{SidesUpTo64, AllUpTo64};
+ghost use Rattle.tcd.specs.Geometry.{AllUpTo64};
 ghost use Rattle.tcdstate.specs.Parts.{fault, LimitsOf, isOneOf, lengthBitsInRange, segmentInRange, blockWordsInRange, shapeInRange, firstWordsInRange, threeBands};
 use t800::Band;
 use tcd::Style;
@@ -67,14 +67,14 @@ pub fn band_too_deep(bands: [Band; 3], n: usize) -> bool
     false
 }
 
-fn over(x: u32, most: u32) -> u32
+pub fn over(x: u32, most: u32) -> u32
     ensures { λ r. ⌜ r ≡ fault (leb x most) ⌝ }
 {
     if most < x { 1 } else { 0 }
 }
 
 // Looks at all of them, so that the loop vectorises.
-fn any_over(planes: &[u32], most: u32) -> bool
+pub fn any_over(planes: &[u32], most: u32) -> bool
     ensures { λ r. ⌜ r ≡ any (λ p. ltb most p) (now (planes .entry)) ⌝ }
 {
     let mut faults: u32 = 0;
@@ -283,11 +283,10 @@ fn blocks_in_range(state: &[u32], at: usize, n: usize) -> bool
     faults == 0
 }
 
-fn band_in_range(state: &[u32], at: usize, band: Band) -> bool
-    requires { ⌜ SidesUpTo64 band × (at + bandLength band ≤ length (now state)) ⌝ }
+fn band_in_range(state: &[u32], at: usize, band: Band, nodes: usize) -> bool
+    requires { ⌜ (nodes ≡ bandNodes band) × (at + bandLength band ≤ length (now state)) ⌝ }
     ensures { λ r. ⌜ r ≡ bandInRange (now (state .entry)) at band ⌝ }
 {
-    let nodes = tcd::band_nodes(band);
     let zero_tree = at + 3 * nodes;
     let blocks = zero_tree + 3 * nodes;
     if !nodes_in_range(state, at, nodes, tcd::NOT_YET_INCLUDED) {
@@ -299,22 +298,28 @@ fn band_in_range(state: &[u32], at: usize, band: Band) -> bool
     blocks_in_range(state, blocks, tcd::band_blocks(band))
 }
 
+// The words of the bands end where the state does, and are in range.
 fn bands_in_range(state: &[u32], bands: [Band; 3], n: usize) -> bool
-    requires { ⌜ (n ≤ 3) × AllUpTo64 (take n bands) × (length (now state) ≡ stateLength (take n bands)) ⌝ }
-    ensures { λ r. ⌜ r ≡ bandsInRange (now (state .entry)) 13 (take n bands) ⌝ }
+    requires { ⌜ (n ≤ 3) × AllUpTo64 (take n bands) ⌝ }
+    ensures { λ r. ⌜ r ≡ (eqb (length (now (state .entry))) (stateLength (take n bands)) && bandsInRange (now (state .entry)) 13 (take n bands)) ⌝ }
 {
     let mut at: usize = 13;
     let mut i: usize = 0;
     while i < n {
         let band = bands[i];
-        if !band_in_range(state, at, band) {
+        let nodes = tcd::band_nodes(band);
+        let blocks = tcd::band_blocks(band);
+        let end = at + 6 * nodes + 4 * blocks;
+        if state.len() < end {
             return false;
         }
-        let words = tcd::band_length(band);
-        at += words;
+        if !band_in_range(state, at, band, nodes) {
+            return false;
+        }
+        at = end;
         i += 1;
     }
-    true
+    state.len() == at
 }
 
 fn unused_fault(state: &[u32], i: usize, used: usize) -> u32
@@ -382,12 +387,9 @@ pub fn valid_state(role: u32, state: &[u32], scratch_len: usize) -> bool
     if !first_words_in_range(role, state, bands) {
         return false;
     }
-    let n = word(state, 1) as usize;
-    if state.len() != tcd::state_length(bands, n) {
-        return false;
-    }
     if scratch_len != state.len() {
         return false;
     }
+    let n = word(state, 1) as usize;
     bands_in_range(state, bands, n)
 }

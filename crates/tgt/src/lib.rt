@@ -1,7 +1,7 @@
 // Tag trees of a packet header in a lent list of words (tgt.rs): a node is value, low and known, and is found from its level and place.
 ghost use mathlib.Core.Path.{_≡_};
 ghost use Prim.Native.Nat.{_+_, _-_, _*_, _/_, _^_, _<_, _≤_};
-ghost use lib.ListN.{length};
+ghost use lib.ListN.{length, replicate};
 ghost use lib.Seq.{sets};
 ghost use Rattle.t800.specs.TagTree.{setValue};
 ghost use Rattle.t800.specs.Start.{freshNodes};
@@ -31,12 +31,11 @@ pub fn behind_bits(b: Bio, k: u32) -> Bio
 
 // ---- places
 
-// The first node on each level of the row over row y of the leaves: the same for both trees of a band.
-pub fn opj_tgt_row(levels: [Level; 7], depth: usize, y: usize) -> [usize; 7]
-    requires { ⌜ (SmallLevels levels depth) × (y ≤ 64) ⌝ }
-    ensures { λ r. ⌜ r ≡ rowOver levels depth y ⌝ }
+// The first node on each level of the row over row y of the leaves, into zeros: the same for both trees of a band.
+pub fn opj_tgt_row(levels: [Level; 7], depth: usize, y: usize, row: &mut [usize; 7])
+    requires { ⌜ (SmallLevels levels depth) × (y ≤ 64) × (now row ≡ replicate 7 0) ⌝ }
+    ensures { λ _. ⌜ now (row .exit) ≡ rowOver levels depth y ⌝ }
 {
-    let mut row = [0usize; 7];
     let mut below: usize = 0;
     let mut place = y;
     let mut i: usize = 0;
@@ -51,7 +50,6 @@ pub fn opj_tgt_row(levels: [Level; 7], depth: usize, y: usize) -> [usize; 7]
         place /= 2;
         i += 1;
     }
-    row
 }
 
 // The first word of the node over column x, on a level whose row begins with `start`.

@@ -118,7 +118,8 @@ fn set_rows(words: &mut [u32], levels: [Level; 7], depth: usize, w: usize, h: us
 {
     let mut y: usize = 0;
     while y < h {
-        let row = tgt::opj_tgt_row(levels, depth, y);
+        let mut row = [0usize; 7];
+        tgt::opj_tgt_row(levels, depth, y, &mut row);
         set_row(words, &row, depth, w, values, y * w);
         y += 1;
     }
@@ -180,7 +181,8 @@ fn encode_rows(
     let mut bio = b;
     let mut y: usize = 0;
     while y < h {
-        let row = tgt::opj_tgt_row(levels, depth, y);
+        let mut row = [0usize; 7];
+        tgt::opj_tgt_row(levels, depth, y, &mut row);
         bio = encode_row(words, out, bio, &row, depth, w, threshold);
         y += 1;
     }
@@ -255,7 +257,8 @@ fn decode_rows(
     let mut bio = b;
     let mut y: usize = 0;
     while y < h {
-        let row = tgt::opj_tgt_row(levels, depth, y);
+        let mut row = [0usize; 7];
+        tgt::opj_tgt_row(levels, depth, y, &mut row);
         bio = decode_row(words, src, bio, &row, depth, w, threshold);
         y += 1;
     }
@@ -321,7 +324,8 @@ fn raise_rows(
     let mut bio = b;
     let mut y: usize = 0;
     while y < h {
-        let row = tgt::opj_tgt_row(levels, depth, y);
+        let mut row = [0usize; 7];
+        tgt::opj_tgt_row(levels, depth, y, &mut row);
         bio = raise_row(words, src, bio, &row, depth, w);
         y += 1;
     }

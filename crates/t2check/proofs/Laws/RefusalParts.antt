@@ -11,7 +11,7 @@ use Rattle.t800.specs.declared.Band.{Band}
 use Rattle.t800.specs.Base.{any, sum}
 use Rattle.t800.specs.State.{notYetIncluded, writer, bandCount, layer, bands, blocks, stateLength}
 use Rattle.t800.specs.Ranges.{validState}
-use Rattle.t800.specs.WriteHeader.{Contribution, segmentTooLong, fieldTooWide}
+use Rattle.t800.specs.WriteHeader.{Contribution}
 use Rattle.t800.specs.Packet.{wrongLists}
 use Rattle.t800.proofs.Laws.Tests.{or-left, or-right}
 use Rattle.t800.proofs.Laws.Layout.{end-after}
@@ -20,7 +20,8 @@ use Rattle.tcd.proofs.Laws.Bands.{blocks-up-to-12288}
 use Rattle.tcdstate.specs.Parts.{threeBands}
 use Rattle.tcdstate.proofs.Laws.RangeParts.{first-bands}
 use Rattle.tcdstate.proofs.Laws.ValidStates.{valid-state}
-use Rattle.t2check.specs.Refusals.{contributionRefusal, measureRefusalFor, PassesLeft}
+use Rattle.t2wide.specs.Widths.{PassesLeft, segmentsRefusal}
+use Rattle.t2check.specs.Refusals.{contributionRefusal, measureRefusalFor}
 
 -- ---- the lists
 
@@ -64,11 +65,10 @@ blocks-of-valid ws n v = let k = valid-state writer ws n v in blocks-up-to-12288
 
 -- ---- in order
 
-pub contribution-parts : (ws : List ℕ) (p : Contribution) (a b c d : Bool) → a ≡ wrongLists p (length (blocks (bands ws))) → b ≡ any (λ c. ltb 164 c) (p .counts)
-    → c ≡ segmentTooLong (p .counts) (p .lengths) (p .marks) → d ≡ fieldTooWide ws (blocks (bands ws)) (p .counts) (p .lengths) (p .marks)
-    → cond a 3 (cond b 7 (cond c 8 (cond d 9 0))) ≡ contributionRefusal ws p
-unfolding contributionRefusal
-contribution-parts ws p a b c d ea eb ec ed = rw (ea, eb, ec, ed)
+pub contribution-parts : (ws : List ℕ) (p : Contribution) (a b : Bool) (r : ℕ) → a ≡ wrongLists p (length (blocks (bands ws))) → b ≡ any (λ c. ltb 164 c) (p .counts)
+    → r ≡ segmentsRefusal ws (blocks (bands ws)) (p .counts) (p .lengths) (p .marks) → cond a 3 (cond b 7 r) ≡ contributionRefusal ws p
+unfolding contributionRefusal segmentsRefusal
+contribution-parts ws p a b r ea eb er = rw (ea, eb, er)
 
 pub measure-parts : (ws : List ℕ) (n : ℕ) (p : Contribution) (v t : Bool) (r : ℕ) → v ≡ validState writer ws n → t ≡ eqb (layer ws) notYetIncluded → r ≡ contributionRefusal ws p
     → cond (not v) 5 (cond t 6 r) ≡ measureRefusalFor ws n p

@@ -7,12 +7,13 @@ use mathlib.Core.List.{List}
 use mathlib.Core.Path.{_∙_, ap, refl, sym}
 use native.Mathlib.Omega.{arith}
 use Rattle.t800.specs.State.{blocks}
-use Rattle.t800.specs.WriteHeader.{fieldTooWide}
 use Rattle.t800.specs.Packet.{wrongLists}
 use Rattle.t800.specs.declared.Band.{Band}
-use Rattle.t2check.specs.Refusals.{contribution}
 use Rattle.tcd.proofs.Laws.Bands.{blocks-up-to-12288}
+use Rattle.t2wide.specs.Widths.{segmentsRefusal}
+use Rattle.t2check.specs.Refusals.{contribution}
 use Rattle.t2check.proofs.Laws.RefusalParts.{lists-right, passes-left, first-words, bands-are, sides-are, length-is, contribution-parts}
+use Rattle.t2check.proofs.Laws.NotRefused.{passes-up-to}
 use Rattle.t2check.proofs.contribution_refusal.Statement.{statement}
 use Rattle.t2check.proofs.contribution_refusal.Tie as tie
 
@@ -47,10 +48,10 @@ returns c =
     let b = bands-are (s .args .state .now) (length (s .args .state .now)) (s .pre) (getD (s .args .state .now) 1 0) (v .result) refl (v .ensures) in
     let p = (contribution (s .args .counts .now) (s .args .lengths .now) (s .args .marks .now)) in
     let w = sym (c .if1 .taken) ∙ c .before .wrong-lists .ensures ∙ ap (λ (k : ℕ). wrongLists p k) (c .before .before .num-blocks .ensures ∙ ap (λ (z : List Band). length (blocks z)) b) in
-    contribution-parts (s .args .state .now) p true _ _ _ w refl refl refl
+    contribution-parts (s .args .state .now) p true _ _ w refl refl
 
-any-count-over-164-requires : tie.Need-any-count-over-164-requires
-any-count-over-164-requires c κs = search needs
+any-over-requires : tie.Need-any-over-requires
+any-over-requires c κs = search needs
 
 returns-2 : tie.Need-returns-2
 returns-2 c =
@@ -59,61 +60,36 @@ returns-2 c =
     let b = bands-are (s .args .state .now) (length (s .args .state .now)) (s .pre) (getD (s .args .state .now) 1 0) (v .result) refl (v .ensures) in
     let p = (contribution (s .args .counts .now) (s .args .lengths .now) (s .args .marks .now)) in
     let w = sym (c .before .before .if1 .left) ∙ c .before .before .before .wrong-lists .ensures ∙ ap (λ (k : ℕ). wrongLists p k) (c .before .before .before .before .num-blocks .ensures ∙ ap (λ (z : List Band). length (blocks z)) b) in
-    contribution-parts (s .args .state .now) p false true _ _ w (sym (c .if2 .taken) ∙ c .before .any-count-over-164 .ensures) refl refl
+    contribution-parts (s .args .state .now) p false true _ w (sym (c .if2 .taken) ∙ c .before .any-over .ensures) refl
 
-segment-too-long-requires : tie.Need-segment-too-long-requires
-segment-too-long-requires c κs =
+segments-refusal-requires : tie.Need-segments-refusal-requires
+segments-refusal-requires c κs =
     let s = c .before .before .before .before .before .before .before .before .before .before .before in
-    let w = sym (c .before .before .before .wrong-lists .ensures) ∙ c .before .before .if1 .left in
-    passes-left (contribution (s .args .counts .now) (s .args .lengths .now) (s .args .marks .now)) _ w
-
-returns-3 : tie.Need-returns-3
-returns-3 c =
-    let s = c .before .before .before .before .before .before .before .before .before .before .before .before .before in
-    let v = c .before .before .before .before .before .before .before .before .bands-of in
-    let b = bands-are (s .args .state .now) (length (s .args .state .now)) (s .pre) (getD (s .args .state .now) 1 0) (v .result) refl (v .ensures) in
+    let v = c .before .before .before .before .before .before .bands-of in
     let p = (contribution (s .args .counts .now) (s .args .lengths .now) (s .args .marks .now)) in
-    let w = sym (c .before .before .before .before .if1 .left) ∙ c .before .before .before .before .before .wrong-lists .ensures ∙ ap (λ (k : ℕ). wrongLists p k) (c .before .before .before .before .before .before .num-blocks .ensures ∙ ap (λ (z : List Band). length (blocks z)) b) in
-    let few = sym (c .before .before .if2 .left) ∙ c .before .before .before .any-count-over-164 .ensures in
-    contribution-parts (s .args .state .now) p false false true _ w few (sym (c .if3 .taken) ∙ c .before .segment-too-long .ensures) refl
-
-field-too-wide-requires : tie.Need-field-too-wide-requires
-field-too-wide-requires c κs =
-    let s = c .before .before .before .before .before .before .before .before .before .before .before .before .before in
-    let v = c .before .before .before .before .before .before .before .before .bands-of in
-    let w = sym (c .before .before .before .before .before .wrong-lists .ensures) ∙ c .before .before .before .before .if1 .left in
-    let k = sides-are (s .args .state .now) (length (s .args .state .now)) (s .pre) (getD (s .args .state .now) 1 0) (v .result) refl (v .ensures) in (
+    let w = sym (c .before .before .before .wrong-lists .ensures) ∙ c .before .before .if1 .left in
+    let few = sym (c .before .any-over .ensures) ∙ c .if2 .left in
+    let k = sides-are (s .args .state .now) (length (s .args .state .now)) (s .pre) (getD (s .args .state .now) 1 0) (v .result) refl (v .ensures) in
+    let r = lists-right p _ w in
+    let n = c .before .before .before .before .num-blocks .ensures in (
       k .0,
       k .1,
       length-is (s .args .state .now) (length (s .args .state .now)) (s .pre) (getD (s .args .state .now) 1 0) (v .result) refl (v .ensures),
-      lists-right (contribution (s .args .counts .now) (s .args .lengths .now) (s .args .marks .now)) _ w .0 ∙ c .before .before .before .before .before .before .num-blocks .ensures,
-      passes-left (contribution (s .args .counts .now) (s .args .lengths .now) (s .args .marks .now)) _ w,
-      sym (c .before .segment-too-long .ensures) ∙ c .if3 .left,
+      r .0 ∙ n,
+      passes-left p _ w,
+      omega (arith, r .0, r .1, n, passes-up-to (s .args .counts .now) few, blocks-up-to-12288 (getD (s .args .state .now) 1 0) (v .result) (k .0) (k .1)),
+      few,
     )
 
-returns-4 : tie.Need-returns-4
-returns-4 c =
-    let s = c .before .before .before .before .before .before .before .before .before .before .before .before .before .before .before in
-    let v = c .before .before .before .before .before .before .before .before .before .before .bands-of in
+returns-3 : tie.Need-returns-3
+returns-3 c =
+    let s = c .before .before .before .before .before .before .before .before .before .before .before .before in
+    let v = c .before .before .before .before .before .before .before .bands-of in
     let b = bands-are (s .args .state .now) (length (s .args .state .now)) (s .pre) (getD (s .args .state .now) 1 0) (v .result) refl (v .ensures) in
     let p = (contribution (s .args .counts .now) (s .args .lengths .now) (s .args .marks .now)) in
-    let w = sym (c .before .before .before .before .before .before .if1 .left) ∙ c .before .before .before .before .before .before .before .wrong-lists .ensures ∙ ap (λ (k : ℕ). wrongLists p k) (c .before .before .before .before .before .before .before .before .num-blocks .ensures ∙ ap (λ (z : List Band). length (blocks z)) b) in
-    let few = sym (c .before .before .before .before .if2 .left) ∙ c .before .before .before .before .before .any-count-over-164 .ensures in
-    let short = sym (c .before .before .if3 .left) ∙ c .before .before .before .segment-too-long .ensures in
-    let wide = c .before .field-too-wide .ensures ∙ ap (λ (z : List Band). fieldTooWide (s .args .state .now) (blocks z) (s .args .counts .now) (s .args .lengths .now) (s .args .marks .now)) b in
-    contribution-parts (s .args .state .now) p false false false true w few short (sym (c .if4 .taken) ∙ wide)
-
-returns-5 : tie.Need-returns-5
-returns-5 c =
-    let s = c .before .before .before .before .before .before .before .before .before .before .before .before .before .before .before in
-    let v = c .before .before .before .before .before .before .before .before .before .before .bands-of in
-    let b = bands-are (s .args .state .now) (length (s .args .state .now)) (s .pre) (getD (s .args .state .now) 1 0) (v .result) refl (v .ensures) in
-    let p = (contribution (s .args .counts .now) (s .args .lengths .now) (s .args .marks .now)) in
-    let w = sym (c .before .before .before .before .before .before .if1 .left) ∙ c .before .before .before .before .before .before .before .wrong-lists .ensures ∙ ap (λ (k : ℕ). wrongLists p k) (c .before .before .before .before .before .before .before .before .num-blocks .ensures ∙ ap (λ (z : List Band). length (blocks z)) b) in
-    let few = sym (c .before .before .before .before .if2 .left) ∙ c .before .before .before .before .before .any-count-over-164 .ensures in
-    let short = sym (c .before .before .if3 .left) ∙ c .before .before .before .segment-too-long .ensures in
-    let wide = c .before .field-too-wide .ensures ∙ ap (λ (z : List Band). fieldTooWide (s .args .state .now) (blocks z) (s .args .counts .now) (s .args .lengths .now) (s .args .marks .now)) b in
-    contribution-parts (s .args .state .now) p false false false false w few short (sym (c .if4 .left) ∙ wide)
+    let w = sym (c .before .before .before .if1 .left) ∙ c .before .before .before .before .wrong-lists .ensures ∙ ap (λ (k : ℕ). wrongLists p k) (c .before .before .before .before .before .num-blocks .ensures ∙ ap (λ (z : List Band). length (blocks z)) b) in
+    let few = sym (c .before .if2 .left) ∙ c .before .before .any-over .ensures in
+    contribution-parts (s .args .state .now) p false false _ w few (c .segments-refusal .ensures ∙ ap (λ (z : List Band). segmentsRefusal (s .args .state .now) (blocks z) (s .args .counts .now) (s .args .lengths .now) (s .args .marks .now)) b)
 
 pub contribution-refusal-spec : {M : Type 1} → statement M
 contribution-refusal-spec =
@@ -125,10 +101,7 @@ contribution-refusal-spec =
     num-blocks-requires
     wrong-lists-requires
     returns
-    any-count-over-164-requires
+    any-over-requires
     returns-2
-    segment-too-long-requires
-    returns-3
-    field-too-wide-requires
-    returns-4
-    returns-5)
+    segments-refusal-requires
+    returns-3)

@@ -1,14 +1,18 @@
 -- Coding and setting with places that run on are t800's coding and setting of what is left of the lists.
 use mathlib.Core.Path.{_≡_, refl, sym, ap, _∙_}
+use mathlib.Core.Bool.{Bool, false, _&&_, _||_, and-false}
 use mathlib.Core.List.{List, [], _∷_}
 use Prim.Native.Nat.{ℕ, _+_, _≤_}
 use native.Mathlib.Omega.{arith}
 use lib.ListN.{length, getD, take, drop}
 use lib.Seq.{drop-drop}
+use lib.Dec.{ltb}
+use Rattle.t800.specs.Base.{any}
 use Rattle.t800.specs.Segments.{segmentsOf}
 use Rattle.t800.specs.State.{Block}
 use Rattle.t800.specs.TagTree.{Coded}
-use Rattle.t800.specs.WriteHeader.{setNewBlocks, codeBlock, codeBlocks}
+use Rattle.t800.specs.WriteHeader.{isNew, setNewBlocks, codeBlock, codeBlocks}
+use Rattle.t800.proofs.Laws.Tests.{if-false, or-left, or-right}
 use Rattle.bio.specs.Writing.{Output, putBits}
 use Rattle.bio.proofs.Laws.FreeBits.{putBits-append}
 use Rattle.tgtenc.specs.Coding.{putCoded}
@@ -20,6 +24,18 @@ pub set-is-blocks : (t : ℕ) (cs : List ℕ) (ks : List Block) (i : ℕ) (ws : 
 unfolding setAll setNext setNewBlocks
 set-is-blocks t cs [] i ws h = refl
 set-is-blocks t cs (k ∷ ks) i ws h = set-is-blocks t cs ks (i + 1) _ (omega arith) ∙ sym (ap (λ (ds : List ℕ). setNewBlocks t (k ∷ ks) ds ws) (next-entry cs i (omega arith)))
+
+-- blocks without passes are not set
+pub none-set : (t : ℕ) (cs : List ℕ) (ks : List Block) (i : ℕ) (ws : List ℕ) → i + length ks ≤ length cs → any (λ c. ltb 0 c) (take (length ks) (drop i cs)) ≡ false → setAll t cs ks i ws ≡ ws
+unfolding any setAll setNext
+none-set t cs [] i ws l h = refl
+none-set t cs (k ∷ ks) i ws l h =
+    let c : ℕ = getD cs i 0 in
+    let rest : List ℕ = take (length ks) (drop (i + 1) cs) in
+    let e : take (length (k ∷ ks)) (drop i cs) ≡ c ∷ rest = ap (take (length (k ∷ ks))) (next-entry cs i (omega arith)) in
+    let g : (ltb 0 c || any (λ (c : ℕ). ltb 0 c) rest) ≡ false = sym (ap (any (λ (c : ℕ). ltb 0 c)) e) ∙ h in
+    let same : setNext t k c ws ≡ ws = if-false (isNew ws k && ltb 0 c) _ _ (ap (λ (b : Bool). isNew ws k && b) (or-left (ltb 0 c) (any (λ (c : ℕ). ltb 0 c) rest) g) ∙ and-false (isNew ws k)) in
+    ap (setAll t cs ks (i + 1)) same ∙ none-set t cs ks (i + 1) ws (omega arith) (or-right (ltb 0 c) (any (λ (c : ℕ). ltb 0 c) rest) g)
 
 -- one block, then those behind it
 blocks-turn : (t : ℕ) (k : Block) (ks : List Block) (c : ℕ) (cs ls ms ws : List ℕ) (o : Output)

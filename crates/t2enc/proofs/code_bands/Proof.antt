@@ -1,7 +1,7 @@
 -- `t2enc::code_bands` meets its contract.
 use mathlib.Core.Path.{_≡_, refl, sym, ap, _∙_, subst}
 use mathlib.Core.List.{List, [], _∷_}
-use Prim.Native.Nat.{ℕ, _+_, _-_, _≤_, _<_, _^_}
+use Prim.Native.Nat.{ℕ, _+_, _-_, _*_, _≤_, _<_, _^_}
 use native.Mathlib.Omega.{arith}
 use lib.ListN.{length, getD, take, drop}
 use borrow.Author.Needs.{needs}
@@ -10,10 +10,11 @@ use Rattle.t800.specs.declared.Level.{Level}
 use Rattle.t800.specs.State.{blocksIn, bandLength, blocksAt, blocks, endOf, stateLength}
 use Rattle.t800.proofs.Laws.Layout.{end-after}
 use Rattle.bio.specs.Writing.{FreeBitsClear}
-use Rattle.tcd.specs.Geometry.{noBand}
+use Rattle.tcd.specs.Geometry.{noBand, SidesUpTo64}
 use Rattle.tcd.proofs.Laws.Bands.{next-band, no-more-bands, sides-of-first, end-turn, band-levels-at}
 use Rattle.t2block.specs.Runs.{Running, running, AllFit}
-use Rattle.t2enc.specs.Bands.{codeBands}
+use Rattle.t2enc.specs.declared.Grid.{Grid}
+use Rattle.t2enc.specs.Bands.{gridOf, bandBlocks, BandIn, codeBand, codeBands}
 use Rattle.t2enc.proofs.Laws.AllBands.{first-band-fits, other-bands-fit, blocks-of-first, band-clear, band-blocks, bands-turn, bands-coded}
 use Rattle.t2enc.proofs.code_bands.Statement.{statement}
 use Rattle.t2enc.proofs.code_bands.Tie as tie
@@ -48,6 +49,13 @@ mul-band c = omega arith
 array-copy-out-band : tie.Need-array-copy-out-band Inv-loop μ-loop
 array-copy-out-band c = omega arith
 
+grid-of-requires : tie.Need-grid-of-requires Inv-loop μ-loop
+grid-of-requires c κs =
+    let s = c .before .before .before .before .before .before .before .before .before in
+    let l = c .before .before .loop in
+    let g : length (s .args .t5) ≡ 3 = search needs in
+    sides-of-first (s .args .t5) (s .args .n) (l .i) (omega arith) (omega arith) (s .pre .3)
+
 mul-code-band : tie.Need-mul-code-band Inv-loop μ-loop
 mul-code-band c = omega arith
 
@@ -56,43 +64,42 @@ array-copy-out-code-band c = omega arith
 
 code-band-requires : tie.Need-code-band-requires Inv-loop μ-loop
 code-band-requires c κs =
-    let s = c .before .before .before .before .before .before .before .before .before .before .before .before in
+    let s = c .before .before .before .before .before .before .before .before .before .before .before .before .before in
     let a = s .args in
-    let l = c .before .before .before .before .before .loop in
+    let l = c .before .before .before .before .before .before .loop in
     let g : length (a .t5) ≡ 3 = search needs in
     let band : Band = getD (a .t5) (l .i) noBand in
     let rest : List Band = drop (l .i + 1) (take (a .n) (a .t5)) in
+    let ge = c .before .before .before .grid-of .ensures in
     let e = next-band (a .t5) (a .n) (l .i) (omega arith) (omega arith) in
     let m : l .run .block + length (blocksAt (l .start) (band ∷ rest)) ≡ length (a .counts .now) = subst (λ (z : List Band). l .run .block + length (blocksAt (l .start) z) ≡ length (a .counts .now)) e (l .inv .5) in
     let f = subst (λ (z : List Band). AllFit (a .counts .now) (a .lengths .now) (a .marks .now) (l .words) (blocksAt (l .start) z) (l .run .block) (l .run .pass)) e (l .inv .6) in (
       s .pre .0,
       l .inv .1,
-      record {
+      subst (λ (k : Grid). BandIn (length (l .words)) (k .start) band) (sym ge) (record {
         sides = sides-of-first (a .t5) (a .n) (l .i) (omega arith) (omega arith) (s .pre .3);
         inside = omega (arith, l .inv .2, l .inv .4, end-turn (a .t5) (a .n) (l .i) (l .start) (omega arith) (omega arith), end-after (l .start + bandLength band) rest);
-      },
-      ap (λ (z : List (List Level)). getD z (l .i) []) (c .before .before .before .before .before .before .band-levels .ensures) ∙ band-levels-at (a .t5) (l .i) (omega arith),
+      }),
+      subst (λ (k : Grid). k ≡ gridOf (k .start) band) (sym ge) refl,
+      ap (λ (z : List (List Level)). getD z (l .i) []) (c .before .before .before .before .before .before .before .band-levels .ensures) ∙ band-levels-at (a .t5) (l .i) (omega arith),
       s .pre .5,
       omega (arith, blocks-of-first (l .start) band rest, m),
-      first-band-fits (l .start) band (a .layer) (a .counts .now) (a .lengths .now) (a .marks .now) rest (running (l .words) (l .out) (l .run)) f,
+      subst (λ (k : Grid). AllFit (a .counts .now) (a .lengths .now) (a .marks .now) (l .words) (bandBlocks (k .start) band) (l .run .block) (l .run .pass)) (sym ge) (first-band-fits (l .start) band (a .layer) (a .counts .now) (a .lengths .now) (a .marks .now) rest (running (l .words) (l .out) (l .run)) f),
     )
 
-band-length-requires : tie.Need-band-length-requires Inv-loop μ-loop
-band-length-requires c κs =
-    let s = c .before .before .before .before .before .before .before .before .before .before .before .before .before .before .before .before .before in
-    let l = c .before .before .before .before .before .before .before .before .before .before .loop in
-    let g : length (s .args .t5) ≡ 3 = search needs in
-    sides-of-first (s .args .t5) (s .args .n) (l .i) (omega arith) (omega arith) (s .pre .3)
-
-add-start : tie.Need-add-start Inv-loop μ-loop
-add-start c =
+grid-end-requires : tie.Need-grid-end-requires Inv-loop μ-loop
+grid-end-requires c κs =
     let s = c .before .before .before .before .before .before .before .before .before .before .before .before .before .before .before .before .before .before in
     let a = s .args in
     let l = c .before .before .before .before .before .before .before .before .before .before .before .loop in
+    let ge = c .before .before .before .before .before .before .before .before .grid-of .ensures in
     let g : length (a .t5) ≡ 3 = search needs in
-    let w : length (a .words .now) < 2 ^ 64 = search needs in
+    let h : l .i < a .n = c .before .before .before .before .before .before .before .before .before .before .loop-test .taken in
+    let three : a .n ≤ 3 = s .pre .2 in
+    let w : length (a .words .now) * 4 < 2 ^ 64 = search needs in
     let band : Band = getD (a .t5) (l .i) noBand in
-    omega (arith, c .band-length .ensures, l .inv .4, end-turn (a .t5) (a .n) (l .i) (l .start) (omega arith) (omega arith), end-after (l .start + bandLength band) (drop (l .i + 1) (take (a .n) (a .t5))))
+    subst (λ (k : Grid). SidesUpTo64 band × (k ≡ gridOf (k .start) band) × (k .start < 2 ^ 63)) (sym ge)
+    (sides-of-first (a .t5) (a .n) (l .i) (omega arith) (omega arith) (s .pre .3), refl, omega (arith, l .inv .4, end-after (l .start) (drop (l .i) (take (a .n) (a .t5)))))
 
 add-i : tie.Need-add-i Inv-loop μ-loop
 add-i c = omega arith
@@ -102,12 +109,13 @@ loop-less c = omega arith
 
 loop-again : tie.Need-loop-again Inv-loop μ-loop
 loop-again c =
-    let s = c .before .before .before .before .before .before .before .before .before .before .before .before .before .before .before .before .before .before in
+    let s = c .before .before .before .before .before .before .before .before .before .before .before .before .before .before .before .before .before .before .before in
     let a = s .args in
-    let l = c .before .before .before .before .before .before .before .before .before .before .before .loop in
+    let l = c .before .before .before .before .before .before .before .before .before .before .before .before .loop in
     let k = c .before .before .before .before .before .code-band in
+    let ge = c .before .before .before .before .before .before .before .before .before .grid-of .ensures in
     let g = l .inv .8 in
-    let h : l .i < a .n = c .before .before .before .before .before .before .before .before .before .before .loop-test .taken in
+    let h : l .i < a .n = c .before .before .before .before .before .before .before .before .before .before .before .loop-test .taken in
     let three : a .n ≤ 3 = s .pre .2 in
     let band : Band = getD (a .t5) (l .i) noBand in
     let rest : List Band = drop (l .i + 1) (take (a .n) (a .t5)) in
@@ -116,15 +124,16 @@ loop-again c =
     let f = subst (λ (z : List Band). AllFit (a .counts .now) (a .lengths .now) (a .marks .now) (l .words) (blocksAt (l .start) z) (l .run .block) (l .run .pass)) e (l .inv .6) in
     let u = running (l .words) (l .out) (l .run) in
     let st : ℕ = l .start + bandLength band in
-    let p : l .start + c .band-length .result ≡ st = ap (λ (z : ℕ). l .start + z) (c .band-length .ensures) in (
+    let ke = k .ensures ∙ ap (λ (z : Grid). codeBand (a .layer) (a .counts .now) (a .lengths .now) (a .marks .now) (z .start) band u) ge in
+    let p : c .grid-end .result ≡ st = c .grid-end .ensures ∙ ap (λ (z : Grid). z .start + bandLength band) ge in (
       omega arith,
-      band-clear (a .layer) (a .counts .now) (a .lengths .now) (a .marks .now) (l .start) band u _ (k .ensures) (l .inv .1),
+      band-clear (a .layer) (a .counts .now) (a .lengths .now) (a .marks .now) (l .start) band u _ ke (l .inv .1),
       k .kept .1 .0 ∙ l .inv .2,
       k .kept .1 .1 .0 ∙ l .inv .3,
       ap (λ (z : ℕ). endOf z rest) p ∙ end-turn (a .t5) (a .n) (l .i) (l .start) (omega arith) (omega arith) ∙ l .inv .4,
-      ap (λ (z : ℕ). k .result .block + length (blocksAt z rest)) p ∙ omega (arith, band-blocks (a .layer) (a .counts .now) (a .lengths .now) (a .marks .now) (l .start) band u _ (k .ensures), blocks-of-first (l .start) band rest, m),
-      other-bands-fit (l .start) band (a .layer) (a .counts .now) (a .lengths .now) (a .marks .now) rest u f _ _ p (k .ensures),
-      bands-turn (a .layer) (a .counts .now) (a .lengths .now) (a .marks .now) (l .start) band _ rest _ u _ e p (k .ensures) ∙ l .inv .7,
+      ap (λ (z : ℕ). k .result .block + length (blocksAt z rest)) p ∙ omega (arith, band-blocks (a .layer) (a .counts .now) (a .lengths .now) (a .marks .now) (l .start) band u _ ke, blocks-of-first (l .start) band rest, m),
+      other-bands-fit (l .start) band (a .layer) (a .counts .now) (a .lengths .now) (a .marks .now) rest u f _ _ p ke,
+      bands-turn (a .layer) (a .counts .now) (a .lengths .now) (a .marks .now) (l .start) band _ rest _ u _ e p ke ∙ l .inv .7,
       g,
     )
 
@@ -154,11 +163,11 @@ code-bands-spec =
     loop-holds
     mul-band
     array-copy-out-band
+    grid-of-requires
     mul-code-band
     array-copy-out-code-band
     code-band-requires
-    band-length-requires
-    add-start
+    grid-end-requires
     add-i
     loop-less
     loop-again

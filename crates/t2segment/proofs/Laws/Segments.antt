@@ -176,13 +176,16 @@ halvings-up-to (suc k) (suc f) n h =
     let r = halvings-up-to k f (n / 2) (omega arith) in
     either (λ (z : ℕ). z ≤ suc k) (ltb n 2) 0 (1 + halvings f (n / 2)) (omega arith) (omega arith)
 
-pub log-up-to-31 : (n : ℕ) → n < 2 ^ 32 → floorLog2 n ≤ 31
+pub log-up-to : (k n : ℕ) → n < 2 ^ suc k → floorLog2 n ≤ k
 unfolding floorLog2
-log-up-to-31 n h = halvings-up-to 31 n n h
+log-up-to k n h = halvings-up-to k n n h
+
+pub log-up-to-31 : (n : ℕ) → n < 2 ^ 32 → floorLog2 n ≤ 31
+log-up-to-31 n h = log-up-to 31 n h
 
 length-up-to-31-bits : (bytes : ℕ) → bytes < 2 ^ 31 → bitLength bytes ≤ 31
-unfolding bitLength floorLog2
-length-up-to-31-bits bytes h = omega (arith, halvings-up-to 30 bytes bytes h)
+unfolding bitLength
+length-up-to-31-bits bytes h = omega (arith, log-up-to 30 bytes h)
 
 pub increment-up-to-31 : (lb : ℕ) (ss : List Segment) → anyTooLong ss ≡ false → increment lb ss ≤ 31
 unfolding any increment

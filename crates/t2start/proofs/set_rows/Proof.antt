@@ -49,23 +49,23 @@ loop-holds c =
 
 opj-tgt-row-requires : tie.Need-opj-tgt-row-requires Inv-loop μ-loop
 opj-tgt-row-requires c κs =
-    let s = c .before .before .before .before .before .before in
+    let s = c .before .before .before .before .before .before .before in
     let b : Band = s .args .band in
     let t = tree-of-band (b .across) (b .down) (s .args .tree) (s .args .depth) (s .pre .2) (s .pre .3) in
-    (small-levels (b .across) (b .down) (s .args .tree) (s .args .depth) t (s .pre .0 .0) (s .pre .0 .1), omega (arith, c .loop-test .taken, s .pre .0 .1))
+    (small-levels (b .across) (b .down) (s .args .tree) (s .args .depth) t (s .pre .0 .0) (s .pre .0 .1), omega (arith, c .before .loop-test .taken, s .pre .0 .1), refl)
 
 add-to : tie.Need-add-to Inv-loop μ-loop
 add-to c =
-    let s = c .before .before .before .before .before .before .before in
-    let l = c .before .before .loop in
+    let s = c .before .before .before .before .before .before .before .before in
+    let l = c .before .before .before .loop in
     let e = row-inside (s .args .band) (l .y) (l .from) (omega arith) (l .inv .1) in
     let f : length (s .args .planes .now) * 4 < 0x1_0000_0000_0000_0000 = search needs in
     omega (arith, e, f, s .pre .5)
 
 part-set-row-end : tie.Need-part-set-row-end Inv-loop μ-loop
 part-set-row-end c =
-    let s = c .before .before .before .before .before .before .before .before .before in
-    let l = c .before .before .before .before .loop in
+    let s = c .before .before .before .before .before .before .before .before .before .before in
+    let l = c .before .before .before .before .before .loop in
     let e = row-inside (s .args .band) (l .y) (l .from) (omega arith) (l .inv .1) in
     let f : length (s .args .planes .now) * 4 < 0x1_0000_0000_0000_0000 = search needs in
     omega (arith, e, f, s .pre .5)
@@ -81,31 +81,31 @@ part-set-row-start c = omega (arith, part-set-row-end c)
 
 set-row-requires : tie.Need-set-row-requires Inv-loop μ-loop
 set-row-requires c κs =
-    let s = c .before .before .before .before .before .before .before .before .before .before in
+    let s = c .before .before .before .before .before .before .before .before .before .before .before in
     let b : Band = s .args .band in
     let t = tree-of-band (b .across) (b .down) (s .args .tree) (s .args .depth) (s .pre .2) (s .pre .3) in
-    let l = c .before .before .before .before .before .loop in
-    let k : l .y < b .down = c .before .before .before .before .loop-test .taken in
+    let l = c .before .before .before .before .before .before .loop in
+    let k : l .y < b .down = c .before .before .before .before .before .loop-test .taken in
     let e = row-inside b (l .y) (l .from) k (l .inv .1) in
     let to : ℕ = l .from + b .across in
     let n : length (take (to - l .from) (drop (l .from) (s .args .planes .now))) ≡ to - l .from = part-length (s .args .planes .now) (l .from) to (omega arith) (omega (arith, e, s .pre .5)) in (
-      row-in (s .args .at) b (s .args .tree) (s .args .depth) t (l .y) k (c .before .before .before .opj-tgt-row .result) (c .before .before .before .opj-tgt-row .ensures) _ _ _ (ap (λ (m : ℕ). s .args .at + 3 * m) (s .pre .1)) (omega (arith, s .pre .4, l .inv .2)) (omega (arith, n)),
+      row-in (s .args .at) b (s .args .tree) (s .args .depth) t (l .y) k (c .before .before .before .opj-tgt-row .last .1 .1 .1 .0) (c .before .before .before .opj-tgt-row .ensures) _ _ _ (ap (λ (m : ℕ). s .args .at + 3 * m) (s .pre .1)) (omega (arith, s .pre .4, l .inv .2)) (omega (arith, n)),
       none-before (λ p. ltb (b .planes) p) (to - l .from) (drop (l .from) (s .args .planes .now)) (none-behind (λ p. ltb (b .planes) p) (l .from) (s .args .planes .now) (s .pre .6)),
     )
 
 add-y : tie.Need-add-y Inv-loop μ-loop
-add-y c = omega (arith, c .before .before .before .before .before .before .before .loop-test .taken, c .before .before .before .before .before .before .before .before .before .before .before .before .before .pre .0 .1)
+add-y c = omega (arith, c .before .before .before .before .before .before .before .before .loop-test .taken, c .before .before .before .before .before .before .before .before .before .before .before .before .before .before .pre .0 .1)
 
 loop-less : tie.Need-loop-less Inv-loop μ-loop
-loop-less c = omega (arith, c .before .before .before .before .before .before .before .loop-test .taken)
+loop-less c = omega (arith, c .before .before .before .before .before .before .before .before .loop-test .taken)
 
 loop-again : tie.Need-loop-again Inv-loop μ-loop
 loop-again c =
-    let s = c .before .before .before .before .before .before .before .before .before .before .before .before .before in
+    let s = c .before .before .before .before .before .before .before .before .before .before .before .before .before .before in
     let b : Band = s .args .band in
     let t = tree-of-band (b .across) (b .down) (s .args .tree) (s .args .depth) (s .pre .2) (s .pre .3) in
-    let l = c .before .before .before .before .before .before .before .before .loop in
-    let k : l .y < b .down = c .before .before .before .before .before .before .before .loop-test .taken in
+    let l = c .before .before .before .before .before .before .before .before .before .loop in
+    let k : l .y < b .down = c .before .before .before .before .before .before .before .before .loop-test .taken in
     let e = row-inside b (l .y) (l .from) k (l .inv .1) in
     let to : ℕ = l .from + b .across in
     let part : List ℕ = take (to - l .from) (drop (l .from) (s .args .planes .now)) in
@@ -115,7 +115,7 @@ loop-again c =
       c .before .before .set-row .kept .0 ∙ l .inv .2,
       row-turn (s .args .at) b (s .args .tree) (s .args .depth) t (l .y) k (s .args .planes .now) part (l .state) _ (l .from) to (l .inv .1) refl refl n
           (c .before .before .set-row .ensures
-          ∙ ap (λ (m : ℕ). setRow (s .args .at + 3 * m) (c .before .before .before .before .before .before .opj-tgt-row .result) (s .args .depth) (b .planes) 0 part (l .state)) (s .pre .1)
+          ∙ ap (λ (m : ℕ). setRow (s .args .at + 3 * m) (c .before .before .before .before .before .before .opj-tgt-row .last .1 .1 .1 .0) (s .args .depth) (b .planes) 0 part (l .state)) (s .pre .1)
           ∙ ap (λ (r : List ℕ). setRow (s .args .at + 3 * bandNodes b) r (s .args .depth) (b .planes) 0 part (l .state)) (c .before .before .before .before .before .before .opj-tgt-row .ensures))
           ∙ l .inv .3,
     )

@@ -118,7 +118,13 @@ sides-known r ws n bs e p q =
 
 -- ---- the whole state
 
-pub valid-parts : (r : ℕ) (ws : List ℕ) (n : ℕ) (t u v w : Bool) → t ≡ firstWordsInRange r ws → u ≡ eqb (length ws) (stateLength (bands ws)) → v ≡ eqb n (length ws) → w ≡ bandsInRange ws 13 (bands ws)
-    → (t && u && v && w) ≡ validState r ws n
+regroup : (t u v w : Bool) → (t && v && (u && w)) ≡ (t && u && v && w)
+regroup true true v w = refl
+regroup true false true w = refl
+regroup true false false w = refl
+regroup false u v w = refl
+
+pub valid-parts : (r : ℕ) (ws : List ℕ) (n : ℕ) (t v w : Bool) → t ≡ firstWordsInRange r ws → v ≡ eqb n (length ws) → w ≡ (eqb (length ws) (stateLength (bands ws)) && bandsInRange ws 13 (bands ws))
+    → (t && v && w) ≡ validState r ws n
 unfolding validState firstWordsInRange shapeInRange
-valid-parts r ws n t u v w et eu ev ew = rw (et, eu, ev, ew)
+valid-parts r ws n t v w et ev ew = rw (et, ev, ew) (regroup (firstWordsInRange r ws) (eqb (length ws) (stateLength (bands ws))) (eqb n (length ws)) (bandsInRange ws 13 (bands ws)))

@@ -72,7 +72,7 @@ valid-state r ws n v =
 
 -- ---- nodes and blocks, wherever they stand
 
-every-true : (n : ℕ) (f : ℕ → Bool) → every n f ≡ true → (k : ℕ) → k < n → f k ≡ true
+pub every-true : (n : ℕ) (f : ℕ → Bool) → every n f ≡ true → (k : ℕ) → k < n → f k ≡ true
 unfolding every
 every-true zero f e k h = absurd (omega arith)
 every-true (suc n) f e k h = on-eq k n (λ q. ap f q ∙ and-left (f n) (every n f) e) (λ q. every-true n f (and-right (f n) (every n f) e) k (omega arith))

@@ -30,7 +30,7 @@ rest-turn row i v h e =
     drop-set-lt (i + 1) row i v (omega arith) ∙ sym (drop-drop 1 i row) ∙ ap (drop 1) e ∙ ap (λ (n : ℕ). drop 1 (replicate {A = ℕ} n 0)) q
 
 abbrev Inv-loop : tie.InvT-loop
-Inv-loop depth y levels row₀ below₀ place₀ i₀ row below place i = (length row ≡ 7)
+Inv-loop depth y row₀ levels below₀ place₀ i₀ row below place i = (length row ≡ 7)
     × (i ≤ depth)
     × (below ≤ 4096 * i)
     × (place ≤ 64)
@@ -38,10 +38,10 @@ Inv-loop depth y levels row₀ below₀ place₀ i₀ row below place i = (lengt
     × (drop i row ≡ replicate (7 - i) 0)
 
 abbrev μ-loop : tie.MeasureT-loop
-μ-loop depth y levels row₀ below₀ place₀ i₀ row below place i = depth - i
+μ-loop depth y row₀ levels below₀ place₀ i₀ row below place i = depth - i
 
 loop-holds : tie.Need-loop-holds Inv-loop μ-loop
-loop-holds c = (refl, omega arith, omega arith, c .pre .1, refl, refl)
+loop-holds c = (ap length (c .pre .2), omega arith, omega arith, c .pre .1, refl, c .pre .2)
 
 mul-l : tie.Need-mul-l Inv-loop μ-loop
 mul-l c = omega arith
@@ -68,8 +68,8 @@ add-row c = let l = c .before .before .before .before .loop in
 mul-row : tie.Need-mul-row Inv-loop μ-loop
 mul-row c = omega arith
 
-array-write-row : tie.Need-array-write-row Inv-loop μ-loop
-array-write-row c = omega (arith, c .before .before .before .before .before .pre .0 .atMostSeven)
+element-write-row : tie.Need-element-write-row Inv-loop μ-loop
+element-write-row c = omega (arith, c .before .before .before .before .before .pre .0 .atMostSeven)
 
 mul-size : tie.Need-mul-size Inv-loop μ-loop
 mul-size c = let l = c .before .before .before .before .loop in
@@ -135,7 +135,7 @@ opj-tgt-row-spec =
     mul-before
     add-row
     mul-row
-    array-write-row
+    element-write-row
     mul-size
     add-below
     add-i

@@ -30,13 +30,13 @@ loop-holds : tie.Need-loop-holds Inv-loop μ-loop
 loop-holds c = let s = c .before .before in (s .pre .0, refl, refl, omega arith, rows-all (codeLeaf (s .args .w) (s .args .h) (s .args .threshold)) (s .args .w) (s .args .h) (leafCoded (s .args .words .now) (s .args .out .now) (s .args .b)))
 
 opj-tgt-row-requires : tie.Need-opj-tgt-row-requires Inv-loop μ-loop
-opj-tgt-row-requires c κs = let s = c .before .before .before .before in (small (length (s .args .words .now)) (s .args .w) (s .args .h) (s .args .levels) (s .args .depth) (s .pre .1), omega (arith, s .pre .1 .down))
+opj-tgt-row-requires c κs = let s = c .before .before .before .before .before in (small (length (s .args .words .now)) (s .args .w) (s .args .h) (s .args .levels) (s .args .depth) (s .pre .1), omega (arith, s .pre .1 .down), refl)
 
 encode-row-requires : tie.Need-encode-row-requires Inv-loop μ-loop
-encode-row-requires c κs = let s = c .before .before .before .before .before .before .before .before in
-    let l = c .before .before .before .before .before .loop in
-    let r = row-in (length (s .args .words .now)) (s .args .w) (s .args .h) (s .args .levels) (s .args .depth) (s .pre .1) (l .y) (c .before .before .before .before .loop-test .taken) in
-    (l .inv .0, subst (λ (n : ℕ). RowIn n (c .before .before .before .opj-tgt-row .result) (s .args .depth) (s .args .w)) (sym (l .inv .1)) (subst (λ (row : List ℕ). RowIn (length (s .args .words .now)) row (s .args .depth) (s .args .w)) (sym (c .before .before .before .opj-tgt-row .ensures)) r))
+encode-row-requires c κs = let s = c .before .before .before .before .before .before .before .before .before in
+    let l = c .before .before .before .before .before .before .loop in
+    let r = row-in (length (s .args .words .now)) (s .args .w) (s .args .h) (s .args .levels) (s .args .depth) (s .pre .1) (l .y) (c .before .before .before .before .before .loop-test .taken) in
+    (l .inv .0, subst (λ (n : ℕ). RowIn n (c .before .before .before .opj-tgt-row .last .1 .1 .1 .0) (s .args .depth) (s .args .w)) (sym (l .inv .1)) (subst (λ (row : List ℕ). RowIn (length (s .args .words .now)) row (s .args .depth) (s .args .w)) (sym (c .before .before .before .opj-tgt-row .ensures)) r))
 
 add-y : tie.Need-add-y Inv-loop μ-loop
 add-y c = omega arith
@@ -45,8 +45,8 @@ loop-less : tie.Need-loop-less Inv-loop μ-loop
 loop-less c = omega arith
 
 loop-again : tie.Need-loop-again Inv-loop μ-loop
-loop-again c = let s = c .before .before .before .before .before .before .before .before .before .before .before .before .before in
-    let l = c .before .before .before .before .before .before .before .before .before .before .loop in
+loop-again c = let s = c .before .before .before .before .before .before .before .before .before .before .before .before .before .before in
+    let l = c .before .before .before .before .before .before .before .before .before .before .before .loop in
     let r = c .before .before .before .before .encode-row in
     let w = s .args .w in
     let h = s .args .h in
@@ -54,7 +54,7 @@ loop-again c = let s = c .before .before .before .before .before .before .before
     let row = rowOver (s .args .levels) (s .args .depth) (l .y) in
     let before = leafCoded (l .words) (l .out) (l .bio) in
     let after = leafCoded (r .last .0) (r .last .1 .0) (r .result) in
-    let here = c .before .before .before .before .before .before .before .before .before .loop-test .taken in
+    let here = c .before .before .before .before .before .before .before .before .before .before .loop-test .taken in
     let e : after ≡ steps (codeOver row (s .args .depth) t) w 0 before = r .ensures ∙ ap (λ (k : List ℕ). steps (codeOver k (s .args .depth) t) w 0 before) (c .before .before .before .before .before .before .before .before .opj-tgt-row .ensures) in (
       subst FreeBitsClear (sym (ap (λ (k : LeafCoded). k .output .bio) e)) (code-clear row (s .args .depth) t w 0 before (l .inv .0)),
       r .kept .0 ∙ l .inv .1,

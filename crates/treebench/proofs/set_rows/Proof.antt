@@ -30,19 +30,19 @@ loop-holds : tie.Need-loop-holds Inv-loop μ-loop
 loop-holds c = let s = c .before .before in (refl, omega arith, rows-all (setLeaf (s .args .w) (s .args .h) (s .args .values .now)) (s .args .w) (s .args .h) (s .args .words .now))
 
 opj-tgt-row-requires : tie.Need-opj-tgt-row-requires Inv-loop μ-loop
-opj-tgt-row-requires c κs = let s = c .before .before .before .before in (small (length (s .args .words .now)) (s .args .w) (s .args .h) (s .args .levels) (s .args .depth) (s .pre .0), omega (arith, s .pre .0 .down))
+opj-tgt-row-requires c κs = let s = c .before .before .before .before .before in (small (length (s .args .words .now)) (s .args .w) (s .args .h) (s .args .levels) (s .args .depth) (s .pre .0), omega (arith, s .pre .0 .down), refl)
 
 mul-set-row : tie.Need-mul-set-row Inv-loop μ-loop
-mul-set-row c = let s = c .before .before .before .before .before .before .before in
-    let b : c .before .before .before .before .loop .y ≤ 64 = omega (arith, s .pre .0 .down) in
+mul-set-row c = let s = c .before .before .before .before .before .before .before .before in
+    let b : c .before .before .before .before .before .loop .y ≤ 64 = omega (arith, s .pre .0 .down) in
     omega (arith, mul-le-mul b (s .pre .0 .across))
 
 set-row-requires : tie.Need-set-row-requires Inv-loop μ-loop
-set-row-requires c κs = let s = c .before .before .before .before .before .before .before in
-    let l = c .before .before .before .before .loop in
-    let r = row-in (length (s .args .words .now)) (s .args .w) (s .args .h) (s .args .levels) (s .args .depth) (s .pre .0) (l .y) (c .before .before .before .loop-test .taken) in (
-      subst (λ (n : ℕ). RowIn n (c .before .before .opj-tgt-row .result) (s .args .depth) (s .args .w)) (sym (l .inv .0)) (subst (λ (row : List ℕ). RowIn (length (s .args .words .now)) row (s .args .depth) (s .args .w)) (sym (c .before .before .opj-tgt-row .ensures)) r),
-      omega (arith, s .pre .1, row-end (l .y) (s .args .w) (s .args .h) (c .before .before .before .loop-test .taken)),
+set-row-requires c κs = let s = c .before .before .before .before .before .before .before .before in
+    let l = c .before .before .before .before .before .loop in
+    let r = row-in (length (s .args .words .now)) (s .args .w) (s .args .h) (s .args .levels) (s .args .depth) (s .pre .0) (l .y) (c .before .before .before .before .loop-test .taken) in (
+      subst (λ (n : ℕ). RowIn n (c .before .before .opj-tgt-row .last .1 .1 .1 .0) (s .args .depth) (s .args .w)) (sym (l .inv .0)) (subst (λ (row : List ℕ). RowIn (length (s .args .words .now)) row (s .args .depth) (s .args .w)) (sym (c .before .before .opj-tgt-row .ensures)) r),
+      omega (arith, s .pre .1, row-end (l .y) (s .args .w) (s .args .h) (c .before .before .before .before .loop-test .taken)),
     )
 
 add-y : tie.Need-add-y Inv-loop μ-loop
@@ -52,13 +52,13 @@ loop-less : tie.Need-loop-less Inv-loop μ-loop
 loop-less c = omega arith
 
 loop-again : tie.Need-loop-again Inv-loop μ-loop
-loop-again c = let s = c .before .before .before .before .before .before .before .before .before .before in
-    let l = c .before .before .before .before .before .before .before .loop in
+loop-again c = let s = c .before .before .before .before .before .before .before .before .before .before .before in
+    let l = c .before .before .before .before .before .before .before .before .loop in
     let r = c .before .before .set-row in
     let w = s .args .w in
     let values = s .args .values .now in
     let row = rowOver (s .args .levels) (s .args .depth) (l .y) in
-    let here = c .before .before .before .before .before .before .loop-test .taken in
+    let here = c .before .before .before .before .before .before .before .loop-test .taken in
     let e : r .last .0 ≡ steps (setOver row (s .args .depth) values (l .y * w)) w 0 (l .words) = r .ensures ∙ ap (λ (k : List ℕ). steps (setOver k (s .args .depth) values (l .y * w)) w 0 (l .words)) (c .before .before .before .before .before .opj-tgt-row .ensures) in (
       r .kept .0 ∙ l .inv .0,
       omega arith,

@@ -1,12 +1,12 @@
--- `t2check::band_too_wide` meets its contract.
+-- `t2wide::band_too_wide` meets its contract.
 use Prim.Native.Nat.{_+_, _*_, ℕ}
 use borrow.Author.Needs.{needs}
 use mathlib.Core.Path.{_∙_, ap}
 use native.Mathlib.Omega.{arith}
 use Rattle.t800.proofs.Laws.Layout.{band-length}
-use Rattle.t2check.proofs.Laws.BlocksLeft.{wide-band}
-use Rattle.t2check.proofs.band_too_wide.Statement.{statement}
-use Rattle.t2check.proofs.band_too_wide.Tie as tie
+use Rattle.t2wide.proofs.Laws.BlocksLeft.{wide-band}
+use Rattle.t2wide.proofs.band_too_wide.Statement.{statement}
+use Rattle.t2wide.proofs.band_too_wide.Tie as tie
 
 band-nodes-requires : tie.Need-band-nodes-requires
 band-nodes-requires c κs = c .before .before .before .before .pre .0

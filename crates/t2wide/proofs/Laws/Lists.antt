@@ -8,7 +8,7 @@ use lib.Seq.{take-all}
 use Rattle.t800.specs.Base.{sum}
 use Rattle.t2segment.specs.Segments.{PassLists}
 use Rattle.t2segment.proofs.Laws.Segments.{next-entry}
-use Rattle.t2check.specs.Refusals.{PassesLeft}
+use Rattle.t2wide.specs.Widths.{PassesLeft}
 
 pub sum-turn : (l : List ℕ) (i : ℕ) → i < length l → sum (drop i l) ≡ getD l i 0 + sum (drop (i + 1) l)
 unfolding sum

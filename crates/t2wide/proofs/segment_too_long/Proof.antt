@@ -1,4 +1,4 @@
--- `t2check::segment_too_long` meets its contract.
+-- `t2wide::segment_too_long` meets its contract.
 use Prim.Native.Nat.{_+_, _-_, _≤_}
 use lib.ListN.{length, drop, getD}
 use mathlib.Core.Bool.{true, false}
@@ -6,10 +6,10 @@ use mathlib.Core.Path.{_≡_, _∙_, refl, sym}
 use native.Mathlib.Omega.{arith}
 use Rattle.t800.specs.Base.{sum}
 use Rattle.t800.specs.WriteHeader.{segmentTooLong}
-use Rattle.t2check.proofs.Laws.Lists.{sum-turn, part-lists}
-use Rattle.t2check.proofs.Laws.BlocksLeft.{long-turn, long-end}
-use Rattle.t2check.proofs.segment_too_long.Statement.{statement}
-use Rattle.t2check.proofs.segment_too_long.Tie as tie
+use Rattle.t2wide.proofs.Laws.Lists.{sum-turn, part-lists}
+use Rattle.t2wide.proofs.Laws.BlocksLeft.{long-turn, long-end}
+use Rattle.t2wide.proofs.segment_too_long.Statement.{statement}
+use Rattle.t2wide.proofs.segment_too_long.Tie as tie
 
 abbrev Inv-loop : tie.InvT-loop
 Inv-loop counts lengths marks from₀ i₀ from i = (i ≤ length counts) × (from + sum (drop i counts) ≡ sum counts) × (segmentTooLong (drop i counts) (drop from lengths) (drop from marks) ≡ segmentTooLong counts lengths marks)

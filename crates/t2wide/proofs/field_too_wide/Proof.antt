@@ -1,4 +1,4 @@
--- `t2check::field_too_wide` meets its contract.
+-- `t2wide::field_too_wide` meets its contract.
 use Prim.Native.Nat.{_+_, _-_, _≤_, ℕ}
 use borrow.Author.Needs.{needs}
 use lib.ListN.{length, take, drop, getD, drop-of-length-le, length-take, length-drop}
@@ -14,11 +14,11 @@ use Rattle.t800.specs.declared.Band.{Band}
 use Rattle.t800.proofs.Laws.Layout.{band-length, end-after}
 use Rattle.tcd.specs.Geometry.{noBand}
 use Rattle.tcd.proofs.Laws.Bands.{next-band, sides-of-first, blocks-turn, end-turn, length-blocks, blocks-up-to-12288}
-use Rattle.t2check.specs.Refusals.{PassesLeft}
-use Rattle.t2check.proofs.Laws.Lists.{sum-splits, passes-left-behind, of-rests, on-rests, part-length}
-use Rattle.t2check.proofs.Laws.BlocksLeft.{band-wide-turn, passes-behind-band, none-long-behind-band, passes-here, no-band-left}
-use Rattle.t2check.proofs.field_too_wide.Statement.{statement}
-use Rattle.t2check.proofs.field_too_wide.Tie as tie
+use Rattle.t2wide.specs.Widths.{PassesLeft}
+use Rattle.t2wide.proofs.Laws.Lists.{sum-splits, passes-left-behind, of-rests, on-rests, part-length}
+use Rattle.t2wide.proofs.Laws.BlocksLeft.{band-wide-turn, passes-behind-band, none-long-behind-band, passes-here, no-band-left}
+use Rattle.t2wide.proofs.field_too_wide.Statement.{statement}
+use Rattle.t2wide.proofs.field_too_wide.Tie as tie
 
 abbrev Inv-loop : tie.InvT-loop
 Inv-loop state n counts lengths marks bands at₀ first₀ from₀ i₀ at first from i = (i ≤ n) × (endOf at (drop i (take n bands)) ≡ length state) × (first + sum (map blocksIn (drop i (take n bands))) ≡ length counts) × (from + sum (drop first counts) ≡ sum counts) × (segmentTooLong (drop first counts) (drop from lengths) (drop from marks) ≡ false) × (fieldTooWide state (blocksAt at (drop i (take n bands))) (drop first counts) (drop from lengths) (drop from marks) ≡ fieldTooWide state (blocks (take n bands)) counts lengths marks)

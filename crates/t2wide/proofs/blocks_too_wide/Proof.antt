@@ -1,4 +1,4 @@
--- `t2check::blocks_too_wide` meets its contract.
+-- `t2wide::blocks_too_wide` meets its contract.
 use Prim.Native.Nat.{_+_, _-_, _*_, _≤_, ℕ}
 use lib.ListN.{drop, getD}
 use mathlib.Core.Bool.{true, false}
@@ -6,11 +6,11 @@ use mathlib.Core.Path.{_≡_, _∙_, ap, refl, sym}
 use native.Mathlib.Omega.{arith}
 use Rattle.t800.specs.Base.{sum}
 use Rattle.t800.specs.WriteHeader.{segmentTooLong}
-use Rattle.t2check.specs.Refusals.{wideFrom}
-use Rattle.t2check.proofs.Laws.Lists.{sum-turn, part-lists}
-use Rattle.t2check.proofs.Laws.BlocksLeft.{none-long-here, wide-turn, wide-end}
-use Rattle.t2check.proofs.blocks_too_wide.Statement.{statement}
-use Rattle.t2check.proofs.blocks_too_wide.Tie as tie
+use Rattle.t2wide.specs.Widths.{wideFrom}
+use Rattle.t2wide.proofs.Laws.Lists.{sum-turn, part-lists}
+use Rattle.t2wide.proofs.Laws.BlocksLeft.{none-long-here, wide-turn, wide-end}
+use Rattle.t2wide.proofs.blocks_too_wide.Statement.{statement}
+use Rattle.t2wide.proofs.blocks_too_wide.Tie as tie
 
 abbrev Inv-loop : tie.InvT-loop
 Inv-loop state at n counts lengths marks block₀ from₀ i₀ block from i = (i ≤ n) × (block + 4 * (n - i) ≡ at + 4 * n) × (from + sum (drop i counts) ≡ sum counts) × (segmentTooLong (drop i counts) (drop from lengths) (drop from marks) ≡ false) × (wideFrom state block (n - i) (drop i counts) (drop from lengths) (drop from marks) ≡ wideFrom state at n counts lengths marks)

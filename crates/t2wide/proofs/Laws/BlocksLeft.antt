@@ -16,8 +16,8 @@ use Rattle.tcd.proofs.Laws.Bands.{length-from}
 use Rattle.tcdstate.proofs.Laws.BlockPlanes.{or-group}
 use Rattle.t2segment.specs.Segments.{bitsBefore, anyTooLong, anyTooWide, blockTooWide}
 use Rattle.t2segment.proofs.Laws.Segments.{next-entry}
-use Rattle.t2check.specs.Refusals.{wideFrom}
-use Rattle.t2check.proofs.Laws.Lists.{sum-splits}
+use Rattle.t2wide.specs.Widths.{wideFrom}
+use Rattle.t2wide.proofs.Laws.Lists.{sum-splits}
 
 -- the passes of a block: those from `from` up to `to`
 module _ (from to c : ℕ) (e : to ≡ from + c) where

@@ -1,10 +1,10 @@
--- `t2check::block_too_wide` meets its contract.
+-- `t2wide::block_too_wide` meets its contract.
 use borrow.Author.Needs.{needs}
 use native.Mathlib.Omega.{arith}
 use Rattle.t800.specs.Segments.{segmentsOf}
-use Rattle.t2check.proofs.Laws.BlocksLeft.{block-wide-parts}
-use Rattle.t2check.proofs.block_too_wide.Statement.{statement}
-use Rattle.t2check.proofs.block_too_wide.Tie as tie
+use Rattle.t2wide.proofs.Laws.BlocksLeft.{block-wide-parts}
+use Rattle.t2wide.proofs.block_too_wide.Statement.{statement}
+use Rattle.t2wide.proofs.block_too_wide.Tie as tie
 
 length-bits-before-requires : tie.Need-length-bits-before-requires
 length-bits-before-requires c κs = search needs
