@@ -1,6 +1,7 @@
 // The coding of blocks in a packet header (opj_t2_encode_packet of t2.rs): a block's lengths, its passes, the block, a row of them.
 ghost use mathlib.Core.Path.{_≡_};
 ghost use mathlib.Core.Bool.{false, cond};
+ghost use mathlib.Core.List.{[], _∷_};
 ghost use Prim.Native.Nat.{_+_, _*_, _^_, _<_, _≤_};
 ghost use lib.Dec.{T, ltb};
 ghost use lib.ListN.{length, getD};
@@ -8,11 +9,12 @@ ghost use Rattle.t800.specs.WriteHeader.{codeInclusion, codeZeroPlanes, codePas
 ghost use Rattle.t800.specs.Segments.{segmentsOf, lengthFields};
 ghost use Rattle.bio.specs.Writing.{output, putBits, FreeBitsClear};
 ghost use Rattle.t2codes.specs.PassTable.{isPassTable};
-ghost use Rattle.t2segment.specs.Segments.{anyTooWide, blockTooWide};
+ghost use Rattle.t2segment.specs.Segments.{segment, anyTooWide, blockTooWide};
 ghost use Rattle.t2block.specs.Lengths.{BlockPasses, lengthsPut, putLengths};
 ghost use Rattle.tgtenc.specs.Coding.{leafCoded, putCoded};
 ghost use Rattle.t2block.specs.Blocks.{blockAt, blockOver, PassesFit, BlockIn};
 ghost use Rattle.t2block.specs.Runs.{running, codeNext, codeAll, placeAt, rowBlocks, NextFits, AllFit, RowIn, setNext, setAll};
+use t2segment::CodedSegment;
 use t800::Bio;
 
 // A block's new length bits, and where the bits stand.
@@ -56,8 +58,8 @@ fn code_lengths(out: &mut [u8], b: Bio, lengths: &[u32], marks: &[u8], lenbits: 
     bio
 }
 
-// Pass count, increment of the length bits, lengths.
-fn put_lengths(
+// Of any number of segments.
+fn put_all_lengths(
     codes: &[u16; 328],
     out: &mut [u8],
     b: Bio,
@@ -75,6 +77,48 @@ fn put_lengths(
     let widened = t2codes::opj_t2_putcommacode(out, counted, more);
     let bio = code_lengths(out, widened, lengths, marks, lenbits);
     LengthsPut { bits: lenbits, bio }
+}
+
+// Of one segment, which is looked at once.
+fn put_one_length(
+    codes: &[u16; 328],
+    out: &mut [u8],
+    b: Bio,
+    before: u32,
+    count: u32,
+    s: CodedSegment,
+) -> LengthsPut
+    requires { ⌜ (T (isPassTable (now codes))) × (FreeBitsClear b) × (1 ≤ count) × (count ≤ 164) × (before ≤ 32) × (s .bytes < 2 ^ 31) × (blockTooWide before (segment (s .passes) (s .bytes) ∷ []) ≡ false) ⌝ }
+    ensures { λ r. ⌜ lengthsPut (now (out .exit)) r ≡ putLengths (output (now (out .entry)) b) before count (segment (s .passes) (s .bytes) ∷ []) ⌝ }
+{
+    let bytes = s.bytes as u32;
+    let more = t2segment::bits_missing(bytes, s.passes, before);
+    let lenbits = before + more;
+    let width = t2segment::field_width(lenbits as u64, s.passes);
+    let counted = t2codes::put_pass_codeword(codes, out, b, count);
+    let widened = t2codes::opj_t2_putcommacode(out, counted, more);
+    let bio = bio::opj_bio_write(out, widened, bytes, width as u32);
+    LengthsPut { bits: lenbits, bio }
+}
+
+// Pass count, increment of the length bits, lengths.
+fn put_lengths(
+    codes: &[u16; 328],
+    out: &mut [u8],
+    b: Bio,
+    before: u32,
+    count: u32,
+    lengths: &[u32],
+    marks: &[u8],
+) -> LengthsPut
+    requires { ⌜ (T (isPassTable (now codes))) × (FreeBitsClear b) × (1 ≤ count) × (count ≡ length (now lengths)) × (BlockPasses (now lengths) (now marks)) × (before ≤ 32) × (blockTooWide before (segmentsOf (now lengths) (now marks)) ≡ false) ⌝ }
+    ensures { λ r. ⌜ lengthsPut (now (out .exit)) r ≡ putLengths (output (now (out .entry)) b) before count (segmentsOf (now (lengths .entry)) (now (marks .entry))) ⌝ }
+{
+    let first = t2segment::segment_at(lengths, marks, 0);
+    if first.passes == count {
+        return put_one_length(codes, out, b, before, count, first);
+    }
+    put_all_lengths(codes, out, b, before, count, lengths, marks)
 }
 
 // ---- one block

@@ -51,7 +51,7 @@ fn bit_length(bytes: u32) -> u32
 }
 
 // The bits by which a segment's length is wider than its field.
-fn bits_missing(bytes: u32, passes: u32, length_bits: u32) -> u32
+pub fn bits_missing(bytes: u32, passes: u32, length_bits: u32) -> u32
     ensures { λ r. ⌜ r ≡ bitLength bytes - width «length_bits» passes ⌝ }
 {
     let bits = bit_length(bytes);

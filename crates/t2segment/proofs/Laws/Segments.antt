@@ -183,7 +183,7 @@ log-up-to k n h = halvings-up-to k n n h
 pub log-up-to-31 : (n : ℕ) → n < 2 ^ 32 → floorLog2 n ≤ 31
 log-up-to-31 n h = log-up-to 31 n h
 
-length-up-to-31-bits : (bytes : ℕ) → bytes < 2 ^ 31 → bitLength bytes ≤ 31
+pub length-up-to-31-bits : (bytes : ℕ) → bytes < 2 ^ 31 → bitLength bytes ≤ 31
 unfolding bitLength
 length-up-to-31-bits bytes h = omega (arith, log-up-to 30 bytes h)
 
