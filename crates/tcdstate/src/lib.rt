@@ -122,13 +122,13 @@ fn word(state: &[u32], i: usize) -> u32
 }
 
 fn band_at(state: &[u32], i: usize) -> Band
-    requires { ⌜ i < 3 ⌝ }
+    requires { ⌜ (i < 3) × (13 ≤ length (now state)) ⌝ }
     ensures { λ r. ⌜ r ≡ bandAt (now (state .entry)) i ⌝ }
 {
     let at = 4 + 3 * i;
-    let across = word(state, at);
-    let down = word(state, at + 1);
-    let planes = word(state, at + 2);
+    let across = state[at];
+    let down = state[at + 1];
+    let planes = state[at + 2];
     Band {
         across,
         down,
@@ -138,6 +138,7 @@ fn band_at(state: &[u32], i: usize) -> Band
 
 // The bands that a state names, used or not.
 pub fn bands_of(state: &[u32]) -> [Band; 3]
+    requires { ⌜ 13 ≤ length (now state) ⌝ }
     ensures { λ r. ⌜ r ≡ threeBands (now (state .entry)) ⌝ }
 {
     let first = band_at(state, 0);
@@ -283,16 +284,14 @@ fn blocks_in_range(state: &[u32], at: usize, n: usize) -> bool
     faults == 0
 }
 
+// Both trees, which say "not yet" by the same number, then the blocks.
 fn band_in_range(state: &[u32], at: usize, band: Band, nodes: usize) -> bool
     requires { ⌜ (nodes ≡ bandNodes band) × (at + bandLength band ≤ length (now state)) ⌝ }
     ensures { λ r. ⌜ r ≡ bandInRange (now (state .entry)) at band ⌝ }
 {
-    let zero_tree = at + 3 * nodes;
-    let blocks = zero_tree + 3 * nodes;
-    if !nodes_in_range(state, at, nodes, tcd::NOT_YET_INCLUDED) {
-        return false;
-    }
-    if !nodes_in_range(state, zero_tree, nodes, tcd::NOT_YET_PLANES) {
+    let both = 2 * nodes;
+    let blocks = at + 3 * both;
+    if !nodes_in_range(state, at, both, tcd::NOT_YET_INCLUDED) {
         return false;
     }
     blocks_in_range(state, blocks, tcd::band_blocks(band))
@@ -383,6 +382,9 @@ fn first_words_in_range(role: u32, state: &[u32], bands: [Band; 3]) -> bool
 pub fn valid_state(role: u32, state: &[u32], scratch_len: usize) -> bool
     ensures { λ r. ⌜ r ≡ validState role (now (state .entry)) «scratch_len» ⌝ }
 {
+    if state.len() < 13 {
+        return false;
+    }
     let bands = bands_of(state);
     if !first_words_in_range(role, state, bands) {
         return false;

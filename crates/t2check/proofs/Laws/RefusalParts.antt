@@ -14,12 +14,11 @@ use Rattle.t800.specs.Ranges.{validState}
 use Rattle.t800.specs.WriteHeader.{Contribution}
 use Rattle.t800.specs.Packet.{wrongLists}
 use Rattle.t800.proofs.Laws.Tests.{or-left, or-right}
-use Rattle.t800.proofs.Laws.Layout.{end-after}
 use Rattle.tcd.specs.Geometry.{AllUpTo64}
 use Rattle.tcd.proofs.Laws.Bands.{blocks-up-to-12288}
 use Rattle.tcdstate.specs.Parts.{threeBands}
 use Rattle.tcdstate.proofs.Laws.RangeParts.{first-bands}
-use Rattle.tcdstate.proofs.Laws.ValidStates.{valid-state}
+use Rattle.tcdstate.proofs.Laws.ValidStates.{valid-state, long-enough}
 use Rattle.t2wide.specs.Widths.{PassesLeft, segmentsRefusal}
 use Rattle.t2check.specs.Refusals.{contributionRefusal, measureRefusalFor}
 
@@ -43,8 +42,7 @@ passes-left p n h = let r = lists-right p n h in (omega (arith, r .1), omega (ar
 
 module _ (ws : List ℕ) (k : ℕ) (valid : validState writer ws k ≡ true) where
   pub first-words : 13 ≤ length ws
-  unfolding stateLength
-  first-words = omega (arith, valid-state writer ws k valid .length-is, end-after 13 (bands ws))
+  first-words = long-enough writer ws k valid
 
   pub scratch-as-long : validState writer ws (length ws) ≡ true
   scratch-as-long = subst (λ (z : ℕ). validState writer ws z ≡ true) (valid-state writer ws k valid .scratch-is) valid

@@ -18,7 +18,7 @@ use Rattle.t2check.proofs.contribution_refusal.Statement.{statement}
 use Rattle.t2check.proofs.contribution_refusal.Tie as tie
 
 bands-of-requires : tie.Need-bands-of-requires
-bands-of-requires c κs = search needs
+bands-of-requires c κs = let s = c .before .before .before .before in first-words (s .args .state .now) (length (s .args .state .now)) (s .pre)
 
 shared-slice-read-n : tie.Need-shared-slice-read-n
 shared-slice-read-n c =

@@ -36,7 +36,10 @@ ends src b r t e o = flip (endsInFF src b) t (sym (ap (λ (x : Aligned). x .ok) 
     flip false y q = ap not q
 
 bands-of-requires : tie.Need-bands-of-requires
-bands-of-requires c κs = search needs
+bands-of-requires c κs =
+    let s = c .before .before .before .before .before in
+    let ws = s .args .words .now in
+    thirteen-words ws (length ws) (valid-state reader ws (length ws) (s .pre .0))
 
 slice-read-n : tie.Need-slice-read-n
 slice-read-n c =

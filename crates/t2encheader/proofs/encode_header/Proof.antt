@@ -24,7 +24,11 @@ use Rattle.t2encheader.proofs.encode_header.Statement.{statement}
 use Rattle.t2encheader.proofs.encode_header.Tie as tie
 
 bands-of-requires : tie.Need-bands-of-requires
-bands-of-requires c κs = search needs
+bands-of-requires c κs =
+    let s = c .before .before .before .before .before .before in
+    let a = s .args in
+    let ws = a .words .now in
+    first-words ws (length ws) (not-refused-for ws (length ws) (contribution (a .counts .now) (a .lengths .now) (a .marks .now)) (s .pre .0) .valid)
 
 slice-read-n : tie.Need-slice-read-n
 slice-read-n c =

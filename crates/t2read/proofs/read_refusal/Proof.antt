@@ -42,7 +42,12 @@ returns-2 c =
     refusal-6 (s .args .state .now) (s .args .scratch .now) (s .args .reports .now) (sym (c .before .before .before .valid-state .ensures) ∙ not-false _ (c .before .before .if1 .left)) (c .if2 .taken)
 
 bands-of-requires : tie.Need-bands-of-requires
-bands-of-requires c κs = search needs
+unfolding reader
+bands-of-requires c κs =
+    let s = c .before .before .before .before .before .before .before in
+    let ws = s .args .state .now in
+    let e = sym (c .before .before .before .valid-state .ensures) ∙ not-false _ (c .before .before .if1 .left) in
+    thirteen-words ws (length (s .args .scratch .now)) (valid-state reader ws (length (s .args .scratch .now)) e)
 
 shared-slice-read-n : tie.Need-shared-slice-read-n
 unfolding reader

@@ -1,5 +1,5 @@
 -- What a state that refusal 5 lets pass holds: its first words, its length, and bounds on the words of each node and block.
-use mathlib.Core.Path.{_≡_, ap, _∙_}
+use mathlib.Core.Path.{_≡_, refl, ap, _∙_}
 use mathlib.Core.Logic.{inl, inr}
 use mathlib.Core.Bool.{Bool, true, false, cond, not, _&&_, _||_}
 use mathlib.Core.List.{List, [], _∷_}
@@ -15,7 +15,7 @@ use Rattle.t800.specs.Segments.{termAll, bypass, firstLimit, nextLimit, isLimit
 use Rattle.t800.specs.State.{writer, notYetIncluded, notYetPlanes, role, bandCount, style, layer, bands, bandNodes, blocksIn, bandLength, stateLength, passesSoFar, lengthBits, segmentLimit, segmentPasses}
 use Rattle.t800.specs.Ranges.{badShape, badStyle, bandTooDeep, nodeInRange, blockInRange, bandInRange, bandsInRange, unusedBandsZero, validState}
 use Rattle.t800.proofs.Laws.Tests.{on-eq}
-use Rattle.t800.proofs.Laws.Layout.{Tree, inclusion, zeroPlanes, notYet, treeFrom, NodeFrom, BlockFrom}
+use Rattle.t800.proofs.Laws.Layout.{Tree, inclusion, zeroPlanes, notYet, treeFrom, NodeFrom, BlockFrom, end-after}
 use Rattle.tcd.specs.Geometry.{AllUpTo64}
 use Rattle.tcdstate.specs.Parts.{shapeInRange}
 use Rattle.tcdstate.proofs.Laws.RangeParts.{and-left, and-right, shape-known}
@@ -69,6 +69,17 @@ valid-state r ws n v =
       scratch-is = eqb-true n (length ws) (e₇ .1);
       ranges = e₈ .1;
     }
+
+pub long-enough : (r : ℕ) (ws : List ℕ) (n : ℕ) → validState r ws n ≡ true → 13 ≤ length ws
+unfolding stateLength
+long-enough r ws n v = omega (arith, valid-state r ws n v .length-is, end-after 13 (bands ws))
+
+pub too-short : (r : ℕ) (ws : List ℕ) (n : ℕ) → length ws < 13 → false ≡ validState r ws n
+too-short r ws n h = go (validState r ws n) refl
+  where
+    go : (t : Bool) → validState r ws n ≡ t → false ≡ t
+    go true e = absurd (omega (arith, long-enough r ws n e))
+    go false e = refl
 
 -- ---- nodes and blocks, wherever they stand
 

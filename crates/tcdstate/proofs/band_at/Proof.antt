@@ -1,5 +1,6 @@
 -- `tcdstate::band_at` meets its contract.
 use borrow.Author.Needs.{needs}
+use mathlib.Core.Path.{refl}
 use Rattle.tcdstate.proofs.Laws.RangeParts.{band-words}
 use Rattle.tcdstate.proofs.band_at.Statement.{statement}
 use Rattle.tcdstate.proofs.band_at.Tie as tie
@@ -10,23 +11,32 @@ mul-at c = search needs
 add-at : tie.Need-add-at
 add-at c = search needs
 
-word-requires : tie.Need-word-requires
-word-requires c κs = search needs
+mul-across : tie.Need-mul-across
+mul-across c = search needs
 
-add-word : tie.Need-add-word
-add-word c = search needs
+shared-slice-read-across : tie.Need-shared-slice-read-across
+shared-slice-read-across c = search needs
 
-word-requires-2 : tie.Need-word-requires-2
-word-requires-2 c κs = search needs
+add-down : tie.Need-add-down
+add-down c = search needs
 
-add-word-2 : tie.Need-add-word-2
-add-word-2 c = search needs
+mul-down : tie.Need-mul-down
+mul-down c = search needs
 
-word-requires-3 : tie.Need-word-requires-3
-word-requires-3 c κs = search needs
+shared-slice-read-down : tie.Need-shared-slice-read-down
+shared-slice-read-down c = search needs
+
+add-planes : tie.Need-add-planes
+add-planes c = search needs
+
+mul-planes : tie.Need-mul-planes
+mul-planes c = search needs
+
+shared-slice-read-planes : tie.Need-shared-slice-read-planes
+shared-slice-read-planes c = search needs
 
 returns : tie.Need-returns
-returns c = let s = c .before .before .before .before .args in band-words (s .state .now) (s .i) _ _ _ (c .before .before .word .ensures) (c .before .word2 .ensures) (c .word3 .ensures)
+returns c = let s = c .before .before .before .args in band-words (s .state .now) (s .i) _ _ _ refl refl refl
 
 pub band-at-spec : {M : Type 1} → statement M
 band-at-spec =
@@ -34,9 +44,12 @@ band-at-spec =
     (tie.spec
     mul-at
     add-at
-    word-requires
-    add-word
-    word-requires-2
-    add-word-2
-    word-requires-3
+    mul-across
+    shared-slice-read-across
+    add-down
+    mul-down
+    shared-slice-read-down
+    add-planes
+    mul-planes
+    shared-slice-read-planes
     returns)
