@@ -284,14 +284,16 @@ fn blocks_in_range(state: &[u32], at: usize, n: usize) -> bool
     faults == 0
 }
 
-// Both trees, which say "not yet" by the same number, then the blocks.
 fn band_in_range(state: &[u32], at: usize, band: Band, nodes: usize) -> bool
     requires { ⌜ (nodes ≡ bandNodes band) × (at + bandLength band ≤ length (now state)) ⌝ }
     ensures { λ r. ⌜ r ≡ bandInRange (now (state .entry)) at band ⌝ }
 {
-    let both = 2 * nodes;
-    let blocks = at + 3 * both;
-    if !nodes_in_range(state, at, both, tcd::NOT_YET_INCLUDED) {
+    let zero_tree = at + 3 * nodes;
+    let blocks = zero_tree + 3 * nodes;
+    if !nodes_in_range(state, at, nodes, tcd::NOT_YET_INCLUDED) {
+        return false;
+    }
+    if !nodes_in_range(state, zero_tree, nodes, tcd::NOT_YET_PLANES) {
         return false;
     }
     blocks_in_range(state, blocks, tcd::band_blocks(band))

@@ -1,9 +1,9 @@
 -- The parts of the range check, as the code reads them, make the definition's. Each law takes a Bool for each part, so that a part that
 -- is known to fail decides.
-use mathlib.Core.Path.{_≡_, refl, sym, ap, ap₂, _∙_, subst}
-use mathlib.Core.Bool.{Bool, true, false, cond, not, _&&_, _||_, and-true}
+use mathlib.Core.Path.{_≡_, refl, sym, subst}
+use mathlib.Core.Bool.{Bool, true, false, cond, not, _&&_, _||_}
 use mathlib.Core.List.{List, _∷_}
-use Prim.Native.Nat.{ℕ, zero, suc, _+_, _*_, _≤_}
+use Prim.Native.Nat.{ℕ, _+_, _*_, _≤_}
 use native.Mathlib.Omega.{arith}
 use lib.ListN.{length, getD, take}
 use lib.Dec.{ltb, leb, eqb}
@@ -46,39 +46,16 @@ pub block-words : (ws : List ℕ) (at r s t : ℕ) (l : Limits) → r ≡ role w
 unfolding blockWordsInRange blockInRange lengthBitsInRange segmentInRange isOneOf isLimit writer
 block-words ws at r s t l p q h k = rw (k .first, k .second, k .third, p, q, h)
 
--- m places, and n behind them
-every-two : (m n : ℕ) (f : ℕ → Bool) → every (m + n) f ≡ (every m f && every n (λ i. f (m + i)))
-unfolding every
-every-two m zero f =
-    let e : m + 0 ≡ m = omega arith in
-    ap (λ (k : ℕ). every k f) e ∙ sym (and-true (every m f))
-every-two m (suc n) f =
-    let e : m + suc n ≡ suc (m + n) = omega arith in
-    ap (λ (k : ℕ). every k f) e ∙ ap (λ (t : Bool). f (m + n) && t) (every-two m n f) ∙ between (f (m + n)) (every m f) (every n (λ i. f (m + i)))
-  where
-    between : (a b c : Bool) → (a && (b && c)) ≡ (b && (a && c))
-    between true true c = refl
-    between true false c = refl
-    between false true c = refl
-    between false false c = refl
-
-every-same : (n : ℕ) (f g : ℕ → Bool) → ((i : ℕ) → f i ≡ g i) → every n f ≡ every n g
-unfolding every
-every-same zero f g h = refl
-every-same (suc n) f g h = ap₂ _&&_ (h n) (every-same n f g h)
-
--- the nodes of both trees, and m blocks from `blocks` on
-pub band-parts : (ws : List ℕ) (at : ℕ) (b : Band) (both blocks m : ℕ) (t v : Bool) → both ≡ 2 * bandNodes b → blocks ≡ at + 3 * both → m ≡ blocksIn b
-    → t ≡ every both (λ i. nodeInRange ws notYetIncluded (at + 3 * i))
-    → v ≡ every m (λ i. blockInRange ws (blocks + 4 * i)) → (t && v) ≡ bandInRange ws at b
+-- n nodes in each tree, the second's from `zeros` on, and m blocks from `blocks` on
+pub band-parts : (ws : List ℕ) (at : ℕ) (b : Band) (n zeros blocks m : ℕ) (t u v : Bool) → n ≡ bandNodes b → zeros ≡ at + 3 * n → blocks ≡ zeros + 3 * n → m ≡ blocksIn b
+    → t ≡ every n (λ i. nodeInRange ws notYetIncluded (at + 3 * i))
+    → u ≡ every n (λ i. nodeInRange ws notYetPlanes (zeros + 3 * i))
+    → v ≡ every m (λ i. blockInRange ws (blocks + 4 * i)) → (t && u && v) ≡ bandInRange ws at b
 unfolding bandInRange
-band-parts ws at b both blocks m t v en eb em et ev =
-    let n : ℕ = bandNodes b in
-    let two : both ≡ n + n = omega arith in
-    let e : blocks ≡ at + 6 * n = omega arith in
-    let places = every-same n (λ i. nodeInRange ws notYetIncluded (at + 3 * (n + i))) (λ i. nodeInRange ws notYetPlanes (at + 3 * n + 3 * i)) (λ i. let q : at + 3 * (n + i) ≡ at + 3 * n + 3 * i = omega arith in ap (nodeInRange ws notYetPlanes) q) in
-    let trees = et ∙ ap (λ (k : ℕ). every k (λ i. nodeInRange ws notYetIncluded (at + 3 * i))) two ∙ every-two n n (λ i. nodeInRange ws notYetIncluded (at + 3 * i)) ∙ ap (λ (x : Bool). every n (λ i. nodeInRange ws notYetIncluded (at + 3 * i)) && x) places in
-    ap₂ _&&_ trees (ev ∙ (λ j. every (em j) (λ i. blockInRange ws (e j + 4 * i))))
+band-parts ws at b n zeros blocks m t u v en ez eb em et eu ev =
+    let e₁ : zeros ≡ at + 3 * bandNodes b = omega arith in
+    let e₂ : blocks ≡ at + 6 * bandNodes b = omega arith in
+    rw (et, eu, ev, e₂, e₁, en, em)
 
 pub bands-turn : (ws : List ℕ) (at : ℕ) (l : List Band) (b : Band) (bs : List Band) (t : Bool) → l ≡ b ∷ bs → t ≡ bandInRange ws at b → (t && bandsInRange ws (at + bandLength b) bs) ≡ bandsInRange ws at l
 unfolding bandsInRange
