@@ -4,7 +4,7 @@ use mathlib.Core.Bool.{false}
 use mathlib.Core.List.{List, [], _∷_, append-nil}
 use Prim.Native.Nat.{ℕ, _+_, _-_, _≤_, _<_}
 use native.Mathlib.Omega.{arith}
-use lib.ListN.{length, drop}
+use lib.ListN.{length}
 use Rattle.t800.specs.Bits.{bitsOf}
 use Rattle.t800.specs.Segments.{Segment, segmentsOf, width, bitLength, increment, lengthFields}
 use Rattle.t2segment.specs.Segments.{segment, firstSegment, blockTooWide}

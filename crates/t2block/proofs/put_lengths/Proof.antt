@@ -4,7 +4,7 @@ use mathlib.Core.Bool.{false}
 use mathlib.Core.List.{List}
 use native.Mathlib.Omega.{arith}
 use borrow.Author.Needs.{needs}
-use Rattle.t800.specs.Segments.{Segment, segmentsOf}
+use Rattle.t800.specs.Segments.{Segment}
 use Rattle.bio.specs.Writing.{output}
 use Rattle.t2segment.specs.Segments.{blockTooWide}
 use Rattle.t2segment.proofs.Laws.Segments.{first-not-long}

@@ -1,10 +1,9 @@
 -- `t2enc::code_band` meets its contract.
-use mathlib.Core.Path.{_≡_, sym, ap, _∙_, subst}
+use mathlib.Core.Path.{sym, ap, _∙_, subst}
 use mathlib.Core.List.{List}
-use Prim.Native.Nat.{ℕ, _+_, _≤_}
-use lib.ListN.{length}
+use Prim.Native.Nat.{ℕ}
 use borrow.Author.Needs.{needs}
-use Rattle.t2block.specs.Runs.{Running, running, codeAll, AllFit}
+use Rattle.t2block.specs.Runs.{running, codeAll, AllFit}
 use Rattle.t2enc.specs.Bands.{bandBlocks, BandIn, codeBand}
 use Rattle.t2enc.proofs.Laws.AllBands.{band-fits}
 use Rattle.t2enc.proofs.code_band.Statement.{statement}

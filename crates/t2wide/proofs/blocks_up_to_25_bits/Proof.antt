@@ -1,5 +1,5 @@
 -- `t2wide::blocks_up_to_25_bits` meets its contract.
-use Prim.Native.Nat.{ℕ, _*_, _+_, _-_, _≤_}
+use Prim.Native.Nat.{_*_, _+_, _-_, _≤_}
 use lib.Dec.{leb}
 use mathlib.Core.Path.{_≡_, refl}
 use native.Mathlib.Omega.{arith}
