@@ -19,10 +19,16 @@ fn main() {
 fn build() -> PathBuf {
     let root = Path::new(env!("CARGO_MANIFEST_DIR")).join("../..");
     println!("cargo:rerun-if-changed={}", root.join("crates").display());
-    let status = Command::new("rt").args(["staticlib", "capi"]).current_dir(&root).status();
-    match status {
-        Ok(status) if status.success() => root.join("target/staticlib"),
-        Ok(status) => panic!("`rt staticlib capi` ended with {status}"),
-        Err(error) => panic!("`rt staticlib capi` could not be run ({error}); set TONKELVI_LIB to the folder that holds libcapi.a"),
+    // `rt staticlib` proves one crate after another; `rt check` proves those below the library on all cores.
+    rt(&root, &["check", "t2segs"]);
+    rt(&root, &["staticlib", "capi"]);
+    root.join("target/staticlib")
+}
+
+fn rt(root: &Path, words: &[&str]) {
+    match Command::new("rt").args(words).current_dir(root).status() {
+        Ok(status) if status.success() => {}
+        Ok(status) => panic!("`rt {}` ended with {status}", words.join(" ")),
+        Err(error) => panic!("`rt` could not be run ({error}); set TONKELVI_LIB to the folder that holds libcapi.a"),
     }
 }
