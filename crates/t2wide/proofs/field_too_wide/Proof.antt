@@ -26,6 +26,10 @@ Inv-loop state n counts lengths marks bands at₀ first₀ from₀ i₀ at first
 abbrev μ-loop : tie.MeasureT-loop
 μ-loop state n counts lengths marks bands at₀ first₀ from₀ i₀ at first from i = n - i
 
+-- Proved where it first holds: `omega` and `search` at a need read all that its `c` holds, up to half a second each time.
+all-three : (s : tie.Start Inv-loop μ-loop) → s .args .n ≤ length (s .args .t2)
+all-three s = let g : length (s .args .t2) ≡ 3 = search needs in omega (arith, s .pre .0)
+
 loop-holds : tie.Need-loop-holds Inv-loop μ-loop
 unfolding stateLength blocks
 loop-holds c =
@@ -96,12 +100,11 @@ band-too-wide-requires : tie.Need-band-too-wide-requires Inv-loop μ-loop
 band-too-wide-requires c κs =
     let s = c .before .before .before .before .before .before .before .before .before .before in
     let l = c .before .before .before .before .before .loop in
-    let g : length (s .args .t2) ≡ 3 = search needs in
     let b : Band = getD (s .args .t2) (l .i) noBand in
-    let q = blocks-turn (s .args .t2) (s .args .n) (l .i) (l .first) (omega arith) (omega arith) in
+    let q = blocks-turn (s .args .t2) (s .args .n) (l .i) (l .first) (all-three s) (c .before .before .before .before .loop-test .taken) in
     let r = of-rests (λ (x y z : List ℕ). (blocksIn b ≤ length x) × PassesLeft x y z × (segmentTooLong x y z ≡ false)) (s .args .counts .now) (s .args .lengths .now) (s .args .marks .now) (l .first) (l .from) (omega (arith, q, l .inv .2, length-drop (l .first) (s .args .counts .now)), passes-left-behind (s .args .counts .now) (s .args .lengths .now) (s .args .marks .now) (l .first) (l .from) (l .inv .3) (s .pre .4), l .inv .4) in (
-      sides-of-first (s .args .t2) (s .args .n) (l .i) (omega arith) (omega arith) (s .pre .1),
-      omega (arith, end-turn (s .args .t2) (s .args .n) (l .i) (l .at) (omega arith) (omega arith), l .inv .1, end-after (l .at + bandLength b) (drop (l .i + 1) (take (s .args .n) (s .args .t2)))),
+      sides-of-first (s .args .t2) (s .args .n) (l .i) (all-three s) (c .before .before .before .before .loop-test .taken) (s .pre .1),
+      omega (arith, end-turn (s .args .t2) (s .args .n) (l .i) (l .at) (all-three s) (c .before .before .before .before .loop-test .taken), l .inv .1, end-after (l .at + bandLength b) (drop (l .i + 1) (take (s .args .n) (s .args .t2)))),
       r .0,
       r .1,
       r .2,
@@ -111,9 +114,8 @@ returns : tie.Need-returns Inv-loop μ-loop
 returns c =
     let s = c .before .before .before .before .before .before .before .before .before .before .before .before in
     let l = c .before .before .before .before .before .before .before .loop in
-    let g : length (s .args .t2) ≡ 3 = search needs in
     let b : Band = getD (s .args .t2) (l .i) noBand in
-    sym (band-wide-turn (s .args .counts .now) (s .args .lengths .now) (s .args .marks .now) b (l .first) _ (l .from) _ refl refl (s .args .state .now) (l .at) _ _ true (next-band (s .args .t2) (s .args .n) (l .i) (omega arith) (omega arith)) (sym (c .if1 .taken) ∙ c .before .band-too-wide .ensures ∙ on-rests (λ (x y z : List ℕ). fieldTooWide (s .args .state .now) (blocksFrom (l .at) b (blocksIn b) 0) x y z) (s .args .counts .now) (s .args .lengths .now) (s .args .marks .now) (l .first) (l .from))) ∙ l .inv .5
+    sym (band-wide-turn (s .args .counts .now) (s .args .lengths .now) (s .args .marks .now) b (l .first) _ (l .from) _ refl refl (s .args .state .now) (l .at) _ _ true (next-band (s .args .t2) (s .args .n) (l .i) (all-three s) (c .before .before .before .before .before .before .loop-test .taken)) (sym (c .if1 .taken) ∙ c .before .band-too-wide .ensures ∙ on-rests (λ (x y z : List ℕ). fieldTooWide (s .args .state .now) (blocksFrom (l .at) b (blocksIn b) 0) x y z) (s .args .counts .now) (s .args .lengths .now) (s .args .marks .now) (l .first) (l .from))) ∙ l .inv .5
 
 band-blocks-requires : tie.Need-band-blocks-requires Inv-loop μ-loop
 band-blocks-requires c κs = omega arith
@@ -122,45 +124,40 @@ add-next : tie.Need-add-next Inv-loop μ-loop
 add-next c =
     let s = c .before .before .before .before .before .before .before .before .before .before .before .before .before in
     let l = c .before .before .before .before .before .before .before .before .loop in
-    let g : length (s .args .t2) ≡ 3 = search needs in
     let b : Band = getD (s .args .t2) (l .i) noBand in
-    let q = blocks-turn (s .args .t2) (s .args .n) (l .i) (l .first) (omega arith) (omega arith) in
+    let q = blocks-turn (s .args .t2) (s .args .n) (l .i) (l .first) (all-three s) (c .before .before .before .before .before .before .before .loop-test .taken) in
     omega (arith, c .band-blocks .ensures, q, l .inv .2)
 
 mul-total : tie.Need-mul-total Inv-loop μ-loop
 mul-total c =
     let s = c .before .before .before .before .before .before .before .before .before .before .before .before .before in
     let l = c .before .before .before .before .before .before .before .before .loop in
-    let g : length (s .args .t2) ≡ 3 = search needs in
     let b : Band = getD (s .args .t2) (l .i) noBand in
-    let q = blocks-turn (s .args .t2) (s .args .n) (l .i) (l .first) (omega arith) (omega arith) in
+    let q = blocks-turn (s .args .t2) (s .args .n) (l .i) (l .first) (all-three s) (c .before .before .before .before .before .before .before .loop-test .taken) in
     omega (arith, c .band-blocks .ensures, q, l .inv .2)
 
 sub-total : tie.Need-sub-total Inv-loop μ-loop
 sub-total c =
     let s = c .before .before .before .before .before .before .before .before .before .before .before .before .before in
     let l = c .before .before .before .before .before .before .before .before .loop in
-    let g : length (s .args .t2) ≡ 3 = search needs in
     let b : Band = getD (s .args .t2) (l .i) noBand in
-    let q = blocks-turn (s .args .t2) (s .args .n) (l .i) (l .first) (omega arith) (omega arith) in
+    let q = blocks-turn (s .args .t2) (s .args .n) (l .i) (l .first) (all-three s) (c .before .before .before .before .before .before .before .loop-test .taken) in
     omega (arith, c .band-blocks .ensures, q, l .inv .2)
 
 part-total-start : tie.Need-part-total-start Inv-loop μ-loop
 part-total-start c =
     let s = c .before .before .before .before .before .before .before .before .before .before .before .before .before in
     let l = c .before .before .before .before .before .before .before .before .loop in
-    let g : length (s .args .t2) ≡ 3 = search needs in
     let b : Band = getD (s .args .t2) (l .i) noBand in
-    let q = blocks-turn (s .args .t2) (s .args .n) (l .i) (l .first) (omega arith) (omega arith) in
+    let q = blocks-turn (s .args .t2) (s .args .n) (l .i) (l .first) (all-three s) (c .before .before .before .before .before .before .before .loop-test .taken) in
     omega (arith, c .band-blocks .ensures, q, l .inv .2)
 
 part-total-end : tie.Need-part-total-end Inv-loop μ-loop
 part-total-end c =
     let s = c .before .before .before .before .before .before .before .before .before .before .before .before .before in
     let l = c .before .before .before .before .before .before .before .before .loop in
-    let g : length (s .args .t2) ≡ 3 = search needs in
     let b : Band = getD (s .args .t2) (l .i) noBand in
-    let q = blocks-turn (s .args .t2) (s .args .n) (l .i) (l .first) (omega arith) (omega arith) in
+    let q = blocks-turn (s .args .t2) (s .args .n) (l .i) (l .first) (all-three s) (c .before .before .before .before .before .before .before .loop-test .taken) in
     omega (arith, c .band-blocks .ensures, q, l .inv .2)
 
 total-requires : tie.Need-total-requires Inv-loop μ-loop
@@ -173,7 +170,6 @@ add-from : tie.Need-add-from Inv-loop μ-loop
 add-from c =
     let s = c .before .before .before .before .before .before .before .before .before .before .before .before .before .before .before in
     let l = c .before .before .before .before .before .before .before .before .before .before .loop in
-    let g : length (s .args .t2) ≡ 3 = search needs in
     let b : Band = getD (s .args .t2) (l .i) noBand in
     let p = passes-here (s .args .counts .now) b (l .first) _ _ (ap (λ (z : ℕ). l .first + z) (c .before .before .band-blocks .ensures)) (c .total .ensures) in
     omega (arith, p, sum-splits (blocksIn b) (drop (l .first) (s .args .counts .now)), l .inv .3, s .pre .4 .0)
@@ -182,16 +178,14 @@ band-length-requires : tie.Need-band-length-requires Inv-loop μ-loop
 band-length-requires c κs =
     let s = c .before .before .before .before .before .before .before .before .before .before .before .before .before .before .before in
     let l = c .before .before .before .before .before .before .before .before .before .before .loop in
-    let g : length (s .args .t2) ≡ 3 = search needs in
-    sides-of-first (s .args .t2) (s .args .n) (l .i) (omega arith) (omega arith) (s .pre .1)
+    sides-of-first (s .args .t2) (s .args .n) (l .i) (all-three s) (c .before .before .before .before .before .before .before .before .before .loop-test .taken) (s .pre .1)
 
 add-at : tie.Need-add-at Inv-loop μ-loop
 add-at c =
     let s = c .before .before .before .before .before .before .before .before .before .before .before .before .before .before .before .before in
     let l = c .before .before .before .before .before .before .before .before .before .before .before .loop in
-    let g : length (s .args .t2) ≡ 3 = search needs in
     let b : Band = getD (s .args .t2) (l .i) noBand in
-    omega (arith, c .band-length .ensures, end-turn (s .args .t2) (s .args .n) (l .i) (l .at) (omega arith) (omega arith), l .inv .1, end-after (l .at + bandLength b) (drop (l .i + 1) (take (s .args .n) (s .args .t2))))
+    omega (arith, c .band-length .ensures, end-turn (s .args .t2) (s .args .n) (l .i) (l .at) (all-three s) (c .before .before .before .before .before .before .before .before .before .before .loop-test .taken), l .inv .1, end-after (l .at + bandLength b) (drop (l .i + 1) (take (s .args .n) (s .args .t2))))
 
 add-i : tie.Need-add-i Inv-loop μ-loop
 add-i c = omega arith
@@ -203,20 +197,19 @@ loop-again : tie.Need-loop-again Inv-loop μ-loop
 loop-again c =
     let s = c .before .before .before .before .before .before .before .before .before .before .before .before .before .before .before .before in
     let l = c .before .before .before .before .before .before .before .before .before .before .before .loop in
-    let g : length (s .args .t2) ≡ 3 = search needs in
     let b : Band = getD (s .args .t2) (l .i) noBand in
-    let q = blocks-turn (s .args .t2) (s .args .n) (l .i) (l .first) (omega arith) (omega arith) in
+    let q = blocks-turn (s .args .t2) (s .args .n) (l .i) (l .first) (all-three s) (c .before .before .before .before .before .before .before .before .before .before .loop-test .taken) in
     let ls : List ℕ = drop (l .from + c .before .total .result) (s .args .lengths .now) in
     let ms : List ℕ = drop (l .from + c .before .total .result) (s .args .marks .now) in
     let size = ap (λ (z : ℕ). l .first + z) (c .before .before .before .band-blocks .ensures) in
     let p = passes-here (s .args .counts .now) b (l .first) _ _ size (c .before .total .ensures) in
     let rest : List Band = drop (l .i + 1) (take (s .args .n) (s .args .t2)) in (
       omega arith,
-      ap (λ (w : ℕ). endOf (l .at + w) rest) (c .band-length .ensures) ∙ end-turn (s .args .t2) (s .args .n) (l .i) (l .at) (omega arith) (omega arith) ∙ l .inv .1,
+      ap (λ (w : ℕ). endOf (l .at + w) rest) (c .band-length .ensures) ∙ end-turn (s .args .t2) (s .args .n) (l .i) (l .at) (all-three s) (c .before .before .before .before .before .before .before .before .before .before .loop-test .taken) ∙ l .inv .1,
       omega (arith, c .before .before .before .band-blocks .ensures, q, l .inv .2),
       passes-behind-band (s .args .counts .now) (s .args .lengths .now) (s .args .marks .now) b (l .first) _ (l .from) _ size p (l .inv .3),
       none-long-behind-band (s .args .counts .now) (s .args .lengths .now) (s .args .marks .now) b (l .first) _ (l .from) _ size p (l .inv .4),
-      ap (λ (w : ℕ). fieldTooWide (s .args .state .now) (blocksAt (l .at + w) rest) (drop (l .first + c .before .before .before .band-blocks .result) (s .args .counts .now)) ls ms) (c .band-length .ensures) ∙ sym (band-wide-turn (s .args .counts .now) (s .args .lengths .now) (s .args .marks .now) b (l .first) _ (l .from) _ size p (s .args .state .now) (l .at) _ _ false (next-band (s .args .t2) (s .args .n) (l .i) (omega arith) (omega arith)) (sym (c .before .before .before .before .if1 .left) ∙ c .before .before .before .before .before .band-too-wide .ensures ∙ on-rests (λ (x y z : List ℕ). fieldTooWide (s .args .state .now) (blocksFrom (l .at) b (blocksIn b) 0) x y z) (s .args .counts .now) (s .args .lengths .now) (s .args .marks .now) (l .first) (l .from))) ∙ l .inv .5,
+      ap (λ (w : ℕ). fieldTooWide (s .args .state .now) (blocksAt (l .at + w) rest) (drop (l .first + c .before .before .before .band-blocks .result) (s .args .counts .now)) ls ms) (c .band-length .ensures) ∙ sym (band-wide-turn (s .args .counts .now) (s .args .lengths .now) (s .args .marks .now) b (l .first) _ (l .from) _ size p (s .args .state .now) (l .at) _ _ false (next-band (s .args .t2) (s .args .n) (l .i) (all-three s) (c .before .before .before .before .before .before .before .before .before .before .loop-test .taken)) (sym (c .before .before .before .before .if1 .left) ∙ c .before .before .before .before .before .band-too-wide .ensures ∙ on-rests (λ (x y z : List ℕ). fieldTooWide (s .args .state .now) (blocksFrom (l .at) b (blocksIn b) 0) x y z) (s .args .counts .now) (s .args .lengths .now) (s .args .marks .now) (l .first) (l .from))) ∙ l .inv .5,
     )
 
 returns-2 : tie.Need-returns-2 Inv-loop μ-loop
