@@ -184,8 +184,8 @@ fn read_present(
 pub fn read(
     state: &mut [u32],
     scratch: &mut [u32],
-    m: Markers,
     src: &[u8],
+    m: Markers,
     reports: &mut [u32],
     records: &mut [u32],
 ) -> ReadAnswer

@@ -21,8 +21,8 @@ use Rattle.tcdstate.proofs.Laws.ValidStates.{valid-state}
 use Rattle.t2check.proofs.Laws.NotRefused.{NotRefused, not-refused-for}
 use Rattle.t2check.proofs.Laws.ScratchLength.{refusal-by-scratch-length}
 use Rattle.t2encheader.specs.Header.{HeaderCoded}
-use Rattle.t2.specs.Front.{BytesPut, bytesPut, putBytes, putFront}
-use Rattle.t2.proofs.Laws.Front.{put-append}
+use Rattle.t2front.specs.Front.{BytesPut, bytesPut, putBytes, putFront}
+use Rattle.t2front.proofs.Laws.Front.{put-append}
 
 -- ---- a packet that nothing refuses
 

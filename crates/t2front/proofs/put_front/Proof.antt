@@ -1,4 +1,4 @@
--- `t2::put_front` meets its contract.
+-- `t2front::put_front` meets its contract.
 use mathlib.Core.Path.{ap}
 use Prim.Native.Nat.{_≤_}
 use native.Mathlib.Omega.{arith}
@@ -6,10 +6,10 @@ use lib.ListN.{length}
 use borrow.Author.Needs.{needs}
 use Rattle.t2check.specs.Refusals.{contribution}
 use Rattle.t2check.proofs.Laws.NotRefused.{not-refused-for}
-use Rattle.t2.specs.Front.{BytesPut}
-use Rattle.t2.proofs.Laws.Front.{sop-up-to, front-put, header-ends}
-use Rattle.t2.proofs.put_front.Statement.{statement}
-use Rattle.t2.proofs.put_front.Tie as tie
+use Rattle.t2front.specs.Front.{BytesPut}
+use Rattle.t2front.proofs.Laws.Front.{sop-up-to, front-put, header-ends}
+use Rattle.t2front.proofs.put_front.Statement.{statement}
+use Rattle.t2front.proofs.put_front.Tie as tie
 
 put-sop-requires : tie.Need-put-sop-requires
 put-sop-requires c κs = search needs

@@ -1,11 +1,11 @@
--- `t2::has_room` meets its contract.
+-- `t2front::has_room` meets its contract.
 use mathlib.Core.Path.{sym}
 use Prim.Native.Nat.{_+_, _-_}
 use native.Mathlib.Omega.{arith}
 use borrow.Author.Tests.{lt-leb}
-use Rattle.t2.proofs.Laws.Front.{room-behind}
-use Rattle.t2.proofs.has_room.Statement.{statement}
-use Rattle.t2.proofs.has_room.Tie as tie
+use Rattle.t2front.proofs.Laws.Front.{room-behind}
+use Rattle.t2front.proofs.has_room.Statement.{statement}
+use Rattle.t2front.proofs.has_room.Tie as tie
 
 returns : tie.Need-returns
 returns c = let a = c .before .args in sym (lt-leb (a .front + a .body) (a .bytes) (omega (arith, c .if1 .taken)))

@@ -17,7 +17,7 @@ use Rattle.t800.proofs.Laws.Tests.{on-le}
 use Rattle.t2encheader.specs.Header.{HeaderCoded, headerCoded, putHeader}
 use Rattle.t2check.proofs.Laws.NotRefused.{NotRefused}
 use Rattle.t2encheader.proofs.Laws.Header.{header-small}
-use Rattle.t2.specs.Front.{BytesPut, bytesPut, putBytes, putFront}
+use Rattle.t2front.specs.Front.{BytesPut, bytesPut, putBytes, putFront}
 
 pub sets-append : (xs ys l : List ℕ) (i : ℕ) → sets (sets l i xs) (i + length xs) ys ≡ sets l i (xs ++ ys)
 sets-append [] ys l i = let e : i + 0 ≡ i = omega arith in ap (λ (k : ℕ). sets l k ys) e

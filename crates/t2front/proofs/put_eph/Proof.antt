@@ -1,12 +1,12 @@
--- `t2::put_eph` meets its contract.
+-- `t2front::put_eph` meets its contract.
 use mathlib.Core.Path.{refl, _∙_}
 use native.Mathlib.Numerals.{add-one}
 use lib.ListN.{set}
 use borrow.Author.Needs.{needs}
 use Rattle.t800.specs.MarkerSegments.{ephBytes}
-use Rattle.t2.proofs.Laws.Front.{not-used, used-bytes}
-use Rattle.t2.proofs.put_eph.Statement.{statement}
-use Rattle.t2.proofs.put_eph.Tie as tie
+use Rattle.t2front.proofs.Laws.Front.{not-used, used-bytes}
+use Rattle.t2front.proofs.put_eph.Statement.{statement}
+use Rattle.t2front.proofs.put_eph.Tie as tie
 
 returns : tie.Need-returns
 returns c = let a = c .before .before .args in not-used (a .used) (a .out .now) (a .at) ephBytes (c .if1 .taken)

@@ -1,4 +1,4 @@
--- `t2::put_sop` meets its contract.
+-- `t2front::put_sop` meets its contract.
 use mathlib.Core.Path.{refl, ap, _∙_}
 use mathlib.Core.List.{List}
 use Prim.Native.Nat.{ℕ, _/_}
@@ -7,9 +7,9 @@ use lib.Bits.{and-mask}
 use lib.ListN.{set}
 use borrow.Author.Needs.{needs}
 use Rattle.t800.specs.MarkerSegments.{sopBytes}
-use Rattle.t2.proofs.Laws.Front.{not-used, used-bytes}
-use Rattle.t2.proofs.put_sop.Statement.{statement}
-use Rattle.t2.proofs.put_sop.Tie as tie
+use Rattle.t2front.proofs.Laws.Front.{not-used, used-bytes}
+use Rattle.t2front.proofs.put_sop.Statement.{statement}
+use Rattle.t2front.proofs.put_sop.Tie as tie
 
 returns : tie.Need-returns
 returns c = let a = c .before .before .args in not-used (a .used) (a .out .now) 0 (sopBytes (a .number)) (c .if1 .taken)

@@ -1,9 +1,9 @@
--- `t2::put_body` meets its contract.
+-- `t2front::put_body` meets its contract.
 use mathlib.Core.Path.{refl}
 use borrow.Author.Needs.{needs}
-use Rattle.t2.proofs.Laws.Front.{part-put}
-use Rattle.t2.proofs.put_body.Statement.{statement}
-use Rattle.t2.proofs.put_body.Tie as tie
+use Rattle.t2front.proofs.Laws.Front.{part-put}
+use Rattle.t2front.proofs.put_body.Statement.{statement}
+use Rattle.t2front.proofs.put_body.Tie as tie
 
 add-end : tie.Need-add-end
 add-end c = search needs
