@@ -28,7 +28,7 @@ pub fn measure(
             body: 0,
         };
     }
-    tcd::copy(state, scratch);
+    tcdlists::copy(state, scratch);
     let mut none: [u8; 1] = [0];
     let end = t2front::put_front(scratch, &mut none, counts, lengths, marks, markers, 0);
     let body = t2check::sum_lengths(lengths);
@@ -65,18 +65,18 @@ pub fn write(
             bytes: 0,
         };
     }
-    tcd::copy(state, scratch);
+    tcdlists::copy(state, scratch);
     let end = t2front::put_front(scratch, output, counts, lengths, marks, markers, number);
     if !t2front::has_room(output.len(), end, body.len()) {
-        tcd::wipe(scratch);
-        tcd::wipe_bytes(output);
+        tcdlists::wipe(scratch);
+        tcdlists::wipe_bytes(output);
         return WriteAnswer {
             refusal: 11,
             bytes: 0,
         };
     }
     let bytes = t2front::put_body(output, end, body);
-    tcd::copy(scratch, state);
+    tcdlists::copy(scratch, state);
     WriteAnswer {
         refusal: 0,
         bytes: bytes as u64,

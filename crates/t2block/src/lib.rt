@@ -186,7 +186,7 @@ fn code_zero_planes(words: &mut [u32], out: &mut [u8], b: Bio, p: Place, row: &[
             row,
             p.depth,
             p.x,
-            tcd::NOT_YET_PLANES,
+            tcdstyle::NOT_YET_PLANES,
         );
     }
     b

@@ -62,10 +62,10 @@ pub fn measure_refusal(
 ) -> u32
     ensures { λ r. ⌜ r ≡ measureRefusalFor (now (state .entry)) «scratch_len» (contribution (now (counts .entry)) (now (lengths .entry)) (now (marks .entry))) ⌝ }
 {
-    if !tcdstate::valid_state(tcd::WRITER, state, scratch_len) {
+    if !tcdstate::valid_state(tcdstyle::WRITER, state, scratch_len) {
         return 5;
     }
-    if state[3] == tcd::NOT_YET_INCLUDED {
+    if state[3] == tcdstyle::NOT_YET_INCLUDED {
         return 6;
     }
     contribution_refusal(state, counts, lengths, marks)

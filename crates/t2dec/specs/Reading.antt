@@ -16,7 +16,7 @@ use Rattle.t800.specs.Reports.{reportWords, recordWords}
 use Rattle.t800.specs.State.{Block, notYetPlanes, lengthBits}
 use Rattle.t800.specs.WriteHeader.{isNew}
 use Rattle.t800.specs.ReadHeader.{HeaderRead, opensSegment, currentLimit, currentPasses, passesTaken, readZeroPlanesFrom}
-use Rattle.tcd.specs.Rows.{putRow}
+use Rattle.tcdlists.specs.Rows.{putRow}
 use Rattle.tgt.specs.Path.{pathOver}
 use Rattle.tgtdec.specs.Reading.{ValueAfter}
 use Rattle.t2codes.specs.CommaCode.{readCommaLimited}

@@ -10,7 +10,7 @@ ghost use Rattle.t2dec.specs.Reading.{reading, WithAnyReports, nextSegme
 use biodec::Decoded;
 use t2block::Place;
 use t800::Bio;
-use tcd::Style;
+use tcdstyle::Style;
 
 // Refusals that reading gives at a segment.
 pub const FIELD_TOO_WIDE: u32 = 9;
@@ -104,7 +104,7 @@ fn read_segment(
     let len = biodec::opj_bio_read(src, r.bio, width as u32);
     words[at + 2] = s.limit;
     words[at + 3] = s.used + n;
-    tcd::put_record(records, count, block as u32, s.opens, n, len.value);
+    tcdlists::put_record(records, count, block as u32, s.opens, n, len.value);
     let bio = len.bio;
     let next = count + 1;
     Run {
@@ -187,8 +187,8 @@ fn read_first(
 {
     let z = tgtdec::opj_tgt_decode_value(words, src, r.bio, p.zero, row, p.depth, p.x);
     let n = read_passes(words, src, z.bio, p.at, 0, 3);
-    let left = tcd::block_planes(planes, z.value);
-    tcd::put_report(reports, block, 1, z.value, left, n.value);
+    let left = tcdstyle::block_planes(planes, z.value);
+    tcdlists::put_report(reports, block, 1, z.value, left, n.value);
     read_segments(words, records, src, moved(r, n.bio), p.at, block, n.value)
 }
 
@@ -207,7 +207,7 @@ fn read_again(
     let before = words[at];
     let bits = words[at + 1];
     let n = read_passes(words, src, r.bio, at, before, bits);
-    tcd::put_report(reports, block, 2, 0, 0, n.value);
+    tcdlists::put_report(reports, block, 2, 0, 0, n.value);
     read_segments(words, records, src, moved(r, n.bio), at, block, n.value)
 }
 
@@ -232,7 +232,7 @@ fn read_new(
     if w.below {
         return read_first(words, reports, records, src, run, p, row, planes, block);
     }
-    tcd::put_report(reports, block, 0, 0, 0, 0);
+    tcdlists::put_report(reports, block, 0, 0, 0, 0);
     run
 }
 
@@ -252,7 +252,7 @@ fn read_old(
     let bit = biolent::bit_in(src, r.bio);
     let run = moved(r, bit.bio);
     if bit.value == 0 {
-        tcd::put_report(reports, block, 0, 0, 0, 0);
+        tcdlists::put_report(reports, block, 0, 0, 0, 0);
         return run;
     }
     read_again(words, reports, records, src, run, at, block)

@@ -10,7 +10,7 @@ ghost use Rattle.t2check.specs.Refusals.{contribution, measureRefusalFor};
 ghost use Rattle.t2encheader.specs.Header.{headerCoded};
 ghost use Rattle.t2front.specs.Front.{bytesPut, putBytes, putFront};
 use t800::Markers;
-use tcd::Marker;
+use tcdstyle::Marker;
 
 // The place behind it.
 fn put_sop(out: &mut [u8], used: bool, number: u32) -> usize
@@ -73,6 +73,6 @@ pub fn put_body(out: &mut [u8], at: usize, body: &[u8]) -> usize
     ensures { λ r. ⌜ bytesPut (now (out .exit)) r ≡ putBytes (bytesPut (now (out .entry)) at) (now (body .entry)) ⌝ }
 {
     let end = at + body.len();
-    tcd::copy_bytes(body, &mut out[at..end]);
+    tcdlists::copy_bytes(body, &mut out[at..end]);
     end
 }

@@ -14,7 +14,7 @@ ghost use Rattle.t2read.specs.Answers.{markerRead, readResult, WithAnyRe
 use t800::Bio;
 use t800::Markers;
 use t800::ReadAnswer;
-use tcd::Marker;
+use tcdstyle::Marker;
 
 // Refusals before a packet is looked at.
 pub const BAD_STATE: u32 = 5;
@@ -68,10 +68,10 @@ fn read_marker(used: bool, m: Marker, src: &[u8], p: usize) -> MarkerFound
 fn read_refusal(state: &[u32], scratch: &[u32], reports: &[u32]) -> u32
     ensures { λ r. ⌜ r ≡ readRefusal (now (state .entry)) (now (scratch .entry)) (now (reports .entry)) ⌝ }
 {
-    if !tcdstate::valid_state(tcd::READER, state, scratch.len()) {
+    if !tcdstate::valid_state(tcdstyle::READER, state, scratch.len()) {
         return BAD_STATE;
     }
-    if state[3] == tcd::NOT_YET_INCLUDED {
+    if state[3] == tcdstyle::NOT_YET_INCLUDED {
         return NO_MORE_LAYERS;
     }
     let bands = tcdstate::bands_of(state);
@@ -133,17 +133,17 @@ fn read_absent(
 {
     let next = state[3] + 1;
     state[3] = next;
-    tcd::copy(state, scratch);
-    tcd::wipe(reports);
+    tcdlists::copy(state, scratch);
+    tcdlists::wipe(reports);
     done(src, m, s, b, 0, 0)
 }
 
 fn wipe_all(scratch: &mut [u32], reports: &mut [u32], records: &mut [u32])
     ensures { λ _. ⌜ (now (scratch .exit) ≡ wiped (now (scratch .entry))) × (now (reports .exit) ≡ wiped (now (reports .entry))) × (now (records .exit) ≡ wiped (now (records .entry))) ⌝ }
 {
-    tcd::wipe(scratch);
-    tcd::wipe(reports);
-    tcd::wipe(records);
+    tcdlists::wipe(scratch);
+    tcdlists::wipe(reports);
+    tcdlists::wipe(records);
 }
 
 // What was read becomes the state, with the next layer.
@@ -153,7 +153,7 @@ fn settle(state: &mut [u32], scratch: &mut [u32])
 {
     let next = state[3] + 1;
     scratch[3] = next;
-    tcd::copy(scratch, state);
+    tcdlists::copy(scratch, state);
 }
 
 // A first bit 1.
@@ -170,7 +170,7 @@ fn read_present(
     requires { ⌜ (validState reader (now state) (length (now scratch)) ≡ true) × (layer (now state) < 999) × (length (now reports) ≡ 4 * length (blocks (bands (now state)))) × (BitsIn (now src) b) ⌝ }
     ensures { λ r. ⌜ readResult (now (state .exit)) (now (scratch .exit)) (now (reports .exit)) (now (records .exit)) r ≡ presentOrBroken (now (state .entry)) (now (scratch .entry)) m (now (src .entry)) (now (reports .entry)) (now (records .entry)) (markerRead s) (readHeader (now (src .entry)) (length (now (records .entry)) / 4) (now (state .entry)) b) ⌝ }
 {
-    tcd::copy(state, scratch);
+    tcdlists::copy(state, scratch);
     let run = t2decheader::opj_t2_read_packet_header(scratch, reports, records, src, b);
     if run.refusal != 0 {
         wipe_all(scratch, reports, records);

@@ -22,10 +22,10 @@ fn four_each(words: usize, room: usize) -> bool
 fn wrong_list(state: &[u32], scratch: &[u32]) -> u32
     ensures { λ r. ⌜ r ≡ wrongListNumber (now (state .entry)) (now (scratch .entry)) ⌝ }
 {
-    if !tcdstate::valid_state(tcd::READER, state, scratch.len()) {
+    if !tcdstate::valid_state(tcdstyle::READER, state, scratch.len()) {
         return t2read::BAD_STATE;
     }
-    if state[3] == tcd::NOT_YET_INCLUDED {
+    if state[3] == tcdstyle::NOT_YET_INCLUDED {
         return t2read::NO_MORE_LAYERS;
     }
     t2read::WRONG_LIST

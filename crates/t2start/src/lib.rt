@@ -15,11 +15,11 @@ ghost use Rattle.tcd.specs.Geometry.{noBand, padded, SidesUpTo64, AllUpTo64};
 ghost use Rattle.t2start.specs.Parts.{begun, planesWanted, setRow, RowIn};
 use t800::Band;
 use t800::Level;
-use tcd::NOT_YET_INCLUDED;
-use tcd::NOT_YET_PLANES;
-use tcd::READER;
-use tcd::Style;
-use tcd::WRITER;
+use tcdstyle::NOT_YET_INCLUDED;
+use tcdstyle::NOT_YET_PLANES;
+use tcdstyle::READER;
+use tcdstyle::Style;
+use tcdstyle::WRITER;
 
 // ---- the checks
 
@@ -134,7 +134,7 @@ fn zero_blocks(state: &mut [u32], from: usize, blocks: usize)
 {
     let words = 4 * blocks;
     let to = from + words;
-    tcd::wipe(&mut state[from..to]);
+    tcdlists::wipe(&mut state[from..to]);
 }
 
 // The trees and blocks of one band.

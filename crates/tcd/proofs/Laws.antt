@@ -1,5 +1,3 @@
 pub mod Lists
-pub mod StyleBits
 pub mod TreeLevels
 pub mod Bands
-pub mod Filled

@@ -1,2 +1,1 @@
 pub mod Geometry
-pub mod Rows

@@ -10,7 +10,7 @@ ghost use Rattle.t800.specs.Ranges.{badShape, bandTooDeep, blockTooDeep, nodeIn
 ghost use Rattle.tcd.specs.Geometry.{AllUpTo64};
 ghost use Rattle.tcdstate.specs.Parts.{fault, LimitsOf, isOneOf, lengthBitsInRange, segmentInRange, blockWordsInRange, shapeInRange, firstWordsInRange, threeBands};
 use t800::Band;
-use tcd::Style;
+use tcdstyle::Style;
 
 // ---- start's checks
 
@@ -189,7 +189,7 @@ fn has_no_segment(role: u32, passes: u32) -> bool
     if passes == 0 {
         return true;
     }
-    role == tcd::WRITER
+    role == tcdstyle::WRITER
 }
 
 // The limits that a style gives: of a first segment, and of one behind a limit 2 and any other.
@@ -290,10 +290,10 @@ fn band_in_range(state: &[u32], at: usize, band: Band, nodes: usize) -> bool
 {
     let zero_tree = at + 3 * nodes;
     let blocks = zero_tree + 3 * nodes;
-    if !nodes_in_range(state, at, nodes, tcd::NOT_YET_INCLUDED) {
+    if !nodes_in_range(state, at, nodes, tcdstyle::NOT_YET_INCLUDED) {
         return false;
     }
-    if !nodes_in_range(state, zero_tree, nodes, tcd::NOT_YET_PLANES) {
+    if !nodes_in_range(state, zero_tree, nodes, tcdstyle::NOT_YET_PLANES) {
         return false;
     }
     blocks_in_range(state, blocks, tcd::band_blocks(band))
@@ -370,7 +370,7 @@ fn first_words_in_range(role: u32, state: &[u32], bands: [Band; 3]) -> bool
     if style.is_refused() {
         return false;
     }
-    if tcd::NOT_YET_INCLUDED < word(state, 3) {
+    if tcdstyle::NOT_YET_INCLUDED < word(state, 3) {
         return false;
     }
     let n = word(state, 1);

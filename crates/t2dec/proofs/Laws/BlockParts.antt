@@ -13,7 +13,7 @@ use Rattle.t800.specs.State.{Block, notYetPlanes}
 use Rattle.t800.specs.WriteHeader.{isNew}
 use Rattle.t800.specs.ReadHeader.{opensSegment, currentLimit, currentPasses, passesTaken, readZeroPlanesFrom}
 use Rattle.t800.proofs.Laws.Tests.{if-true, if-false, if-eq, if-ne}
-use Rattle.tcd.specs.Rows.{putRow}
+use Rattle.tcdlists.specs.Rows.{putRow}
 use Rattle.tgt.specs.Path.{pathOver, leafWord}
 use Rattle.tgtdec.specs.Reading.{LeafAfter, belowIn, ValueAfter, valueIn, leafOf}
 use Rattle.t2block.specs.declared.Place.{Place}

@@ -21,8 +21,8 @@ use Rattle.t800.specs.WriteHeader.{isNew, lengthBitsBefore}
 use Rattle.t800.specs.ReadHeader.{HeaderRead, refused, movedTo, withReport, opensSegment, currentLimit, currentPasses, passesTaken, readSegment, readSegments, readZeroPlanesFrom, readZeroPlanes, firstReport, againReport, readIncluded, readNewBlock, readOldBlock, readBlock, readBlocks}
 use Rattle.t800.proofs.Laws.Tests.{either, if-eq, if-ne, if-lt, if-ge, on-eq, on-lt}
 use Rattle.t800.proofs.Trip.Segments.{readSoFar}
-use Rattle.tcd.proofs.Laws.Filled.{length-records, record-put, report-put}
-use Rattle.tcd.specs.Rows.{putRow}
+use Rattle.tcdlists.proofs.Laws.Filled.{length-records, record-put, report-put}
+use Rattle.tcdlists.specs.Rows.{putRow}
 use Rattle.t2codes.specs.CommaCode.{mostOnes, readCommaLimited}
 use Rattle.t2codes.proofs.Laws.PassCount.{passes-between}
 use Rattle.t2codes.proofs.Laws.CommaCode.{comma-below, comma-value}

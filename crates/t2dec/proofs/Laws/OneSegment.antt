@@ -11,7 +11,7 @@ use Rattle.t800.specs.PassCount.{readPasses}
 use Rattle.t800.specs.Segments.{width}
 use Rattle.t800.specs.ReadHeader.{opensSegment, currentLimit, currentPasses}
 use Rattle.t800.proofs.Laws.Tests.{if-lt, if-ge, if-le, if-gt}
-use Rattle.tcd.specs.Rows.{putRow}
+use Rattle.tcdlists.specs.Rows.{putRow}
 use Rattle.tgtdec.specs.Reading.{ValueAfter}
 use Rattle.t2codes.specs.CommaCode.{readCommaLimited}
 use Rattle.t2dec.specs.declared.Segment.{Segment}

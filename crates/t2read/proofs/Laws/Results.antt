@@ -20,7 +20,7 @@ use Rattle.t800.specs.MarkerSegments.{MarkerRead, readMarker, readSop, readEph}
 use Rattle.t800.specs.ReadHeader.{HeaderRead, readHeader}
 use Rattle.t800.specs.Packet.{ReadResult, refusedAnswer, readRefusal, readAbsent, readPresent, read}
 use Rattle.t800.proofs.Laws.Tests.{if-eq, if-ne, not-refused}
-use Rattle.tcd.proofs.Laws.Filled.{length-reports}
+use Rattle.tcdlists.proofs.Laws.Filled.{length-reports}
 use Rattle.tcdstate.proofs.Laws.ValidStates.{valid-state}
 use Rattle.t2dec.specs.Reading.{Reading, heldBy}
 use Rattle.t2decheader.specs.Header.{ReadsHeader}

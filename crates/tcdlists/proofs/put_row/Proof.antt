@@ -1,11 +1,11 @@
--- `tcd::put_row` meets its contract.
+-- `tcdlists::put_row` meets its contract.
 use borrow.Author.Needs.{needs}
 use borrow.Author.Tests.{le-ltb, lt-ltb}
 use lib.ListN.{length-set}
 use native.Mathlib.Omega.{arith}
-use Rattle.tcd.specs.Rows.{putRow}
-use Rattle.tcd.proofs.put_row.Statement.{statement}
-use Rattle.tcd.proofs.put_row.Tie as tie
+use Rattle.tcdlists.specs.Rows.{putRow}
+use Rattle.tcdlists.proofs.put_row.Statement.{statement}
+use Rattle.tcdlists.proofs.put_row.Tie as tie
 
 mul-at : tie.Need-mul-at
 mul-at c = search needs

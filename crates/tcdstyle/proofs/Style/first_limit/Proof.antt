@@ -1,9 +1,9 @@
--- `tcd::Style::first_limit` meets its contract.
+-- `tcdstyle::Style::first_limit` meets its contract.
 use borrow.Author.Needs.{needs}
 use mathlib.Core.Path.{_∙_, sym}
 use Rattle.t800.specs.Segments.{firstLimit}
-use Rattle.tcd.proofs.Style.first_limit.Statement.{statement}
-use Rattle.tcd.proofs.Style.first_limit.Tie as tie
+use Rattle.tcdstyle.proofs.Style.first_limit.Statement.{statement}
+use Rattle.tcdstyle.proofs.Style.first_limit.Tie as tie
 
 terminates-all-requires : tie.Need-terminates-all-requires
 terminates-all-requires c κs = search needs

@@ -1,10 +1,10 @@
--- `tcd::Style::next_limit` meets its contract.
+-- `tcdstyle::Style::next_limit` meets its contract.
 use borrow.Author.Needs.{needs}
 use borrow.Author.Tests.{eq-eqb, ne-eqb}
 use mathlib.Core.Path.{_∙_, sym}
 use Rattle.t800.specs.Segments.{nextLimit}
-use Rattle.tcd.proofs.Style.next_limit.Statement.{statement}
-use Rattle.tcd.proofs.Style.next_limit.Tie as tie
+use Rattle.tcdstyle.proofs.Style.next_limit.Statement.{statement}
+use Rattle.tcdstyle.proofs.Style.next_limit.Tie as tie
 
 terminates-all-requires : tie.Need-terminates-all-requires
 terminates-all-requires c κs = search needs

@@ -1,11 +1,11 @@
--- `tcd::Style::is_refused` meets its contract.
+-- `tcdstyle::Style::is_refused` meets its contract.
 use borrow.Author.Tests.{le-leb, le-ltb, lt-leb, lt-ltb}
 use mathlib.Core.Path.{_∙_, sym}
 use native.Mathlib.Omega.{arith}
 use Rattle.t800.proofs.Laws.Tests.{on-lt}
 use Rattle.t800.specs.Ranges.{badStyle}
-use Rattle.tcd.proofs.Style.is_refused.Statement.{statement}
-use Rattle.tcd.proofs.Style.is_refused.Tie as tie
+use Rattle.tcdstyle.proofs.Style.is_refused.Statement.{statement}
+use Rattle.tcdstyle.proofs.Style.is_refused.Tie as tie
 
 returns : tie.Need-returns
 unfolding badStyle

@@ -1,12 +1,12 @@
--- `tcd::wipe_bytes` meets its contract.
+-- `tcdlists::wipe_bytes` meets its contract.
 use Prim.Native.Nat.{_-_, _≤_}
 use lib.ListN.{length, length-set, take}
 use mathlib.Core.Path.{_≡_, refl}
 use native.Mathlib.Omega.{arith}
 use Rattle.t800.specs.Base.{wiped}
-use Rattle.tcd.proofs.Laws.Lists.{wiped-all, wiped-turn}
-use Rattle.tcd.proofs.wipe_bytes.Statement.{statement}
-use Rattle.tcd.proofs.wipe_bytes.Tie as tie
+use Rattle.tcdlists.proofs.Laws.Lists.{wiped-all, wiped-turn}
+use Rattle.tcdlists.proofs.wipe_bytes.Statement.{statement}
+use Rattle.tcdlists.proofs.wipe_bytes.Tie as tie
 
 abbrev Inv-loop : tie.InvT-loop
 Inv-loop bytes₀ i₀ bytes i = (i ≤ length bytes₀) × (length bytes ≡ length bytes₀) × (take i bytes ≡ take i (wiped bytes₀))

@@ -1,11 +1,11 @@
--- `tcd::Style::bypasses` meets its contract.
+-- `tcdstyle::Style::bypasses` meets its contract.
 use Prim.Native.Nat.{_%_}
 use lib.Bits.{and-high, bitAnd}
 use native.Mathlib.Omega.{arith}
 use Rattle.t800.specs.Segments.{bypass}
-use Rattle.tcd.proofs.Laws.StyleBits.{masked}
-use Rattle.tcd.proofs.Style.bypasses.Statement.{statement}
-use Rattle.tcd.proofs.Style.bypasses.Tie as tie
+use Rattle.tcdstyle.proofs.Laws.StyleBits.{masked}
+use Rattle.tcdstyle.proofs.Style.bypasses.Statement.{statement}
+use Rattle.tcdstyle.proofs.Style.bypasses.Tie as tie
 
 returns : tie.Need-returns
 unfolding bypass

@@ -8,7 +8,7 @@ use lib.Seq.{sets-eq, take-at, drop-drop, drop-append-add}
 use borrow.Author.Tests.{lt-ltb, le-ltb}
 use Rattle.t800.specs.Base.{overwrite}
 use Rattle.t800.specs.Reports.{BlockReport, SegmentRecord, reportWords, recordWords}
-use Rattle.tcd.specs.Rows.{putRow}
+use Rattle.tcdlists.specs.Rows.{putRow}
 
 -- a row that isn't lent
 pub row-not-lent : (rows : List ℕ) (n a b c d : ℕ) → length rows / 4 ≤ n → putRow rows n a b c d ≡ rows

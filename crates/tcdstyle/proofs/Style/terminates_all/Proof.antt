@@ -1,11 +1,11 @@
--- `tcd::Style::terminates_all` meets its contract.
+-- `tcdstyle::Style::terminates_all` meets its contract.
 use Prim.Native.Nat.{_%_, _/_}
 use lib.Bits.{and-high, bitAnd}
 use native.Mathlib.Omega.{arith}
 use Rattle.t800.specs.Segments.{termAll}
-use Rattle.tcd.proofs.Laws.StyleBits.{masked}
-use Rattle.tcd.proofs.Style.terminates_all.Statement.{statement}
-use Rattle.tcd.proofs.Style.terminates_all.Tie as tie
+use Rattle.tcdstyle.proofs.Laws.StyleBits.{masked}
+use Rattle.tcdstyle.proofs.Style.terminates_all.Statement.{statement}
+use Rattle.tcdstyle.proofs.Style.terminates_all.Tie as tie
 
 returns : tie.Need-returns
 unfolding termAll

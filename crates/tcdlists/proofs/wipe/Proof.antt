@@ -1,12 +1,12 @@
--- `tcd::wipe` meets its contract.
+-- `tcdlists::wipe` meets its contract.
 use Prim.Native.Nat.{_-_, _≤_}
 use lib.ListN.{length, length-set, take}
 use mathlib.Core.Path.{_≡_, refl}
 use native.Mathlib.Omega.{arith}
 use Rattle.t800.specs.Base.{wiped}
-use Rattle.tcd.proofs.Laws.Lists.{wiped-all, wiped-turn}
-use Rattle.tcd.proofs.wipe.Statement.{statement}
-use Rattle.tcd.proofs.wipe.Tie as tie
+use Rattle.tcdlists.proofs.Laws.Lists.{wiped-all, wiped-turn}
+use Rattle.tcdlists.proofs.wipe.Statement.{statement}
+use Rattle.tcdlists.proofs.wipe.Tie as tie
 
 abbrev Inv-loop : tie.InvT-loop
 Inv-loop list₀ i₀ list i = (i ≤ length list₀) × (length list ≡ length list₀) × (take i list ≡ take i (wiped list₀))
