@@ -1,4 +1,3 @@
-pub mod HeldWord
 pub mod FreeBits
 pub mod WriteChunks
 pub mod Packed

@@ -40,7 +40,7 @@ pub fn opj_bio_bytein(src: &[u8], b: Bio) -> Bio
 {
     let bp = b.bp;
     let buf = (b.buf << 8) & 0xffff;
-    let ct = bio::bits_behind(buf);
+    let ct = biobytes::bits_behind(buf);
     if bp < src.len() {
         return Bio {
             bp: bp + 1,
@@ -70,7 +70,7 @@ fn held_bits(b: Bio, k: u32) -> Decoded
 {
     let ct = b.ct - k;
     Decoded {
-        value: (b.buf >> ct) & bio::low_ones(k),
+        value: (b.buf >> ct) & biobytes::low_ones(k),
         bio: Bio {
             bp: b.bp,
             buf: b.buf,

@@ -2,7 +2,7 @@
 ghost use mathlib.Core.Path.{_≡_};
 ghost use Prim.Native.Nat.{_≤_};
 ghost use Rattle.t800.specs.Bits.{getBit};
-ghost use Rattle.bio.specs.Writing.{output, putBit, FreeBitsClear};
+ghost use Rattle.biobytes.specs.Writing.{output, putBit, FreeBitsClear};
 ghost use Rattle.biodec.specs.Reading.{decoded};
 use biodec::Decoded;
 use t800::Bio;

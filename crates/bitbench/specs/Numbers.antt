@@ -4,7 +4,7 @@ use mathlib.Core.List.{List}
 use lib.ListN.{length, getD, set}
 use Rattle.t800.specs.declared.Bio.{Bio}
 use Rattle.t800.specs.Bits.{bitsOf, bioAt, readBits, bytesTaken}
-use Rattle.bio.specs.Writing.{Output, output, emptyAt, putBits, flush}
+use Rattle.biobytes.specs.Writing.{Output, output, emptyAt, putBits, flush}
 use Rattle.bitbench.specs.Steps.{steps}
 
 abbrev pub widthAt : List ℕ → ℕ → ℕ

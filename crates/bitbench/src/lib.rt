@@ -3,7 +3,7 @@ ghost use mathlib.Core.Path.{_≡_};
 ghost use Prim.Native.Nat.{_≤_, min};
 ghost use lib.ListN.{length};
 ghost use Rattle.t800.specs.Bits.{bitsOf, readBits};
-ghost use Rattle.bio.specs.Writing.{output, putBits, FreeBitsClear};
+ghost use Rattle.biobytes.specs.Writing.{output, putBits, FreeBitsClear};
 ghost use Rattle.biodec.specs.Reading.{decoded};
 ghost use Rattle.bitbench.specs.Steps.{steps};
 ghost use Rattle.bitbench.specs.Numbers.{putNumber, written, writeAll, numbersRead, readNumber, allRead, readAll};
@@ -47,7 +47,7 @@ fn write_numbers(out: &mut [u8], b: Bio, values: &[u32], widths: &[u8], n: usize
 pub extern "C" fn bitbench_write(out: &mut [u8], values: &[u32], widths: &[u8]) -> usize
     ensures { λ r. ⌜ written (now (out .exit)) r ≡ writeAll (now (values .entry)) (now (widths .entry)) (now (out .entry)) ⌝ }
 {
-    let b = bio::opj_bio_init_enc(0);
+    let b = biobytes::opj_bio_init_enc(0);
     let n = smaller(values.len(), widths.len());
     let bio = write_numbers(out, b, values, widths, n);
     let end = bio::opj_bio_flush(out, bio);

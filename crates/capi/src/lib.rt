@@ -50,7 +50,7 @@ fn three_bands(
 fn state_length_of(count: u32, bands: [Band; 3]) -> usize
     ensures { λ r. ⌜ r ≡ stateLengthOf count bands ⌝ }
 {
-    if tcdstate::bad_shape(count, bands) {
+    if tcdstart::bad_shape(count, bands) {
         return 0;
     }
     tcd::state_length(bands, count as usize)

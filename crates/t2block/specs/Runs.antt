@@ -10,11 +10,11 @@ use Rattle.t800.specs.Segments.{segmentsOf}
 use Rattle.t800.specs.State.{Block}
 use Rattle.t800.specs.TagTree.{Coded, setValue}
 use Rattle.t800.specs.WriteHeader.{isNew, codeBlock}
-use Rattle.bio.specs.Writing.{Output, output, putBits}
+use Rattle.biobytes.specs.Writing.{Output, output, putBits}
 use Rattle.tgt.specs.Path.{PathIn}
-use Rattle.t2block.specs.declared.Place.{Place}
+use Rattle.t2lengths.specs.declared.Place.{Place}
 use Rattle.t2block.specs.declared.Run.{Run}
-use Rattle.t2block.specs.Blocks.{blockOver, PassesFit}
+use Rattle.t2lengths.specs.Blocks.{blockOver, PassesFit}
 
 -- ---- coding
 

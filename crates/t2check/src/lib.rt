@@ -46,7 +46,7 @@ fn contribution_refusal(state: &[u32], counts: &[u32], lengths: &[u32], marks: &
     if wrong_lists(blocks, counts, lengths, marks) {
         return 3;
     }
-    if tcdstate::any_over(counts, 164) {
+    if tcdstart::any_over(counts, 164) {
         return 7;
     }
     t2wide::segments_refusal(state, bands, n, counts, lengths, marks)

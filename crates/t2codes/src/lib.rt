@@ -4,7 +4,7 @@ ghost use Prim.Native.Nat.{_+_, _≤_};
 ghost use lib.Dec.{T};
 ghost use Rattle.t800.specs.PassCount.{passBits, readPasses};
 ghost use Rattle.t800.specs.Segments.{commaBits};
-ghost use Rattle.bio.specs.Writing.{output, putBits, FreeBitsClear};
+ghost use Rattle.biobytes.specs.Writing.{output, putBits, FreeBitsClear};
 ghost use Rattle.biodec.specs.Reading.{decoded};
 ghost use Rattle.t2codes.specs.PassTable.{isPassTable, IsCodewordOf};
 ghost use Rattle.t2codes.specs.PassCount.{counted, readFrom3};

@@ -1,5 +1,3 @@
-pub mod OneSegment
-pub mod ManySegments
 pub mod Kept
 pub mod BlockParts
 pub mod Rows

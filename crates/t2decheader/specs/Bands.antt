@@ -3,7 +3,7 @@ use Prim.Native.Nat.{ℕ, _+_, _*_}
 use mathlib.Core.List.{List, [], _∷_}
 use Rattle.t800.specs.declared.Band.{Band}
 use Rattle.t800.specs.State.{blocksIn, bandNodes, bandLength}
-use Rattle.t2dec.specs.Reading.{BlocksFit}
+use Rattle.t2decsegs.specs.Reading.{BlocksFit}
 
 -- those of a band whose words begin at `start`
 abbrev pub BandFits : List ℕ → ℕ → Band → Type 0

@@ -6,7 +6,7 @@ use lib.ListN.{length}
 use Rattle.t800.specs.declared.Bio.{Bio}
 use Rattle.t800.specs.State.{bands, blocks}
 use Rattle.t800.specs.ReadHeader.{readHeader}
-use Rattle.t2dec.specs.Reading.{Reading, BitsIn, Follows}
+use Rattle.t2decsegs.specs.Reading.{Reading, BitsIn, Follows}
 
 -- from the state's words ws and the bits at b, into these lists as they were lent: a ended as t800's reading did, and that has a report
 -- for each block

@@ -7,12 +7,12 @@ ghost use Rattle.t800.specs.TagTree.{levels};
 ghost use Rattle.t800.specs.State.{reader, layer, bands, blocks, endOf};
 ghost use Rattle.t800.specs.Ranges.{validState};
 ghost use Rattle.tcd.specs.Geometry.{AllUpTo64, padded};
-ghost use Rattle.t2enc.specs.Bands.{gridOf, bandBlocks, BandIn};
-ghost use Rattle.t2dec.specs.Reading.{reading, nextBlocks, BitsIn};
+ghost use Rattle.t2grid.specs.Bands.{gridOf, bandBlocks, BandIn};
+ghost use Rattle.t2decsegs.specs.Reading.{reading, nextBlocks, BitsIn};
 ghost use Rattle.t2decheader.specs.Bands.{BandFits, BandsFit};
 ghost use Rattle.t2decheader.specs.Header.{ReadsHeader};
-use t2dec::Run;
-use t2enc::Grid;
+use t2decsegs::Run;
+use t2grid::Grid;
 use t800::Band;
 use t800::Bio;
 use t800::Level;
@@ -38,10 +38,10 @@ fn read_band(
 {
     let mut run = r;
     let mut y: usize = 0;
-    while y < t2enc::rows(band) {
+    while y < t2grid::rows(band) {
         let mut row = [0usize; 7];
         tgt::opj_tgt_row(tree, g.depth, y, &mut row);
-        let place = t2enc::row_place(g, y);
+        let place = t2grid::row_place(g, y);
         let before = y * g.w;
         let first = block + before;
         run = t2dec::read_row(
@@ -87,7 +87,7 @@ fn read_bands(
     while i < n {
         let band = bands[i];
         let tree = trees[i];
-        let g = t2enc::grid_of(band, start);
+        let g = t2grid::grid_of(band, start);
         run = read_band(
             words,
             reports,
@@ -103,7 +103,7 @@ fn read_bands(
         if run.refusal != 0 {
             return run;
         }
-        start = t2enc::grid_end(band, g);
+        start = t2grid::grid_end(band, g);
         block += tcd::band_blocks(band);
         i += 1;
     }
@@ -137,5 +137,5 @@ pub fn opj_t2_read_packet_header(
     if end.ok {
         return run;
     }
-    t2dec::refuse(run, HEADER_END)
+    t2decsegs::refuse(run, HEADER_END)
 }

@@ -1,4 +1,2 @@
-pub mod BandRows
-pub mod AllBlocks
 pub mod TwoBands
 pub mod AllBands

@@ -21,7 +21,7 @@ pub fn encode_header(
     let n = words[1] as usize;
     let layer = words[3];
     let codes = t2codes::pass_codes::PASS_CODES;
-    let b = bio::opj_bio_init_enc(start);
+    let b = biobytes::opj_bio_init_enc(start);
     let first = biolent::bit_out(out, b, 1);
     let last = t2enc::code_bands(
         &codes,

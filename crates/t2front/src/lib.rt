@@ -19,12 +19,12 @@ fn put_sop(out: &mut [u8], used: bool, number: u32) -> usize
     if !used {
         return 0;
     }
-    bio::store(out, 0, Marker::FIRST);
-    bio::store(out, 1, Marker::SOP.second);
-    bio::store(out, 2, 0);
-    bio::store(out, 3, Marker::LSOP);
-    bio::store(out, 4, ((number >> 8) & 0xff) as u8);
-    bio::store(out, 5, (number & 0xff) as u8);
+    biobytes::store(out, 0, Marker::FIRST);
+    biobytes::store(out, 1, Marker::SOP.second);
+    biobytes::store(out, 2, 0);
+    biobytes::store(out, 3, Marker::LSOP);
+    biobytes::store(out, 4, ((number >> 8) & 0xff) as u8);
+    biobytes::store(out, 5, (number & 0xff) as u8);
     Marker::SOP.bytes
 }
 
@@ -35,8 +35,8 @@ fn put_eph(out: &mut [u8], used: bool, at: usize) -> usize
     if !used {
         return at;
     }
-    bio::store(out, at, Marker::FIRST);
-    bio::store(out, at + 1, Marker::EPH.second);
+    biobytes::store(out, at, Marker::FIRST);
+    biobytes::store(out, at + 1, Marker::EPH.second);
     at + Marker::EPH.bytes
 }
 

@@ -9,7 +9,7 @@ ghost use Rattle.t800.specs.Ranges.{validState};
 ghost use Rattle.t800.specs.MarkerSegments.{readMarker};
 ghost use Rattle.t800.specs.ReadHeader.{readHeader};
 ghost use Rattle.t800.specs.Packet.{readRefusal, refusedAnswer, readAbsent, read};
-ghost use Rattle.t2dec.specs.Reading.{BitsIn};
+ghost use Rattle.t2decsegs.specs.Reading.{BitsIn};
 ghost use Rattle.t2read.specs.Answers.{markerRead, readResult, WithAnyRecords, doneAnswer, presentOrBroken};
 use t800::Bio;
 use t800::Markers;

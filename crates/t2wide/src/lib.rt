@@ -187,7 +187,7 @@ fn blocks_up_to_25_bits(state: &[u32], at: usize, n: usize) -> bool
     let mut i: usize = 0;
     while i < n {
         let block = at + 4 * i;
-        faults = faults | tcdstate::over(state[block + 1], 25);
+        faults = faults | tcdstart::over(state[block + 1], 25);
         i += 1;
     }
     faults == 0

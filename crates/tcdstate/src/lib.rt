@@ -1,117 +1,19 @@
 // What a start and a state must meet: the checks of refusals 1, 4 and 5 over the bands that are given and the words that are lent.
 ghost use mathlib.Core.Path.{_≡_};
 ghost use mathlib.Core.Bool.{cond, _&&_, _||_};
-ghost use Prim.Native.Nat.{_+_, _*_, _≤_, _<_, min};
+ghost use Prim.Native.Nat.{_+_, _*_, _≤_, _<_};
 ghost use lib.ListN.{length, getD, take};
 ghost use lib.Dec.{ltb, leb, eqb};
-ghost use Rattle.t800.specs.Base.{every, any};
-ghost use Rattle.t800.specs.State.{writer, bandNodes, bandLength, stateLength, blocks, bandAt};
-ghost use Rattle.t800.specs.Ranges.{badShape, bandTooDeep, blockTooDeep, nodeInRange, blockInRange, bandInRange, bandsInRange, validState};
+ghost use Rattle.t800.specs.Base.{every};
+ghost use Rattle.t800.specs.State.{writer, bandNodes, bandLength, stateLength, bandAt};
+ghost use Rattle.t800.specs.Ranges.{nodeInRange, blockInRange, bandInRange, bandsInRange, validState};
 ghost use Rattle.tcd.specs.Geometry.{AllUpTo64};
-ghost use Rattle.tcdstate.specs.Parts.{fault, LimitsOf, isOneOf, lengthBitsInRange, segmentInRange, blockWordsInRange, shapeInRange, firstWordsInRange, threeBands};
+ghost use Rattle.tcdstart.specs.Parts.{fault, LimitsOf, isOneOf, lengthBitsInRange, segmentInRange, blockWordsInRange, shapeInRange, firstWordsInRange, threeBands};
 use t800::Band;
+use tcdstart::Limits;
 use tcdstyle::Style;
 
 // ---- start's checks
-
-fn side_over_64(band: Band) -> bool
-    ensures { λ r. ⌜ r ≡ (ltb 64 (band .across) || ltb 64 (band .down)) ⌝ }
-{
-    if 64 < band.across {
-        return true;
-    }
-    64 < band.down
-}
-
-fn any_side_over_64(bands: [Band; 3], n: usize) -> bool
-    requires { ⌜ n ≤ 3 ⌝ }
-    ensures { λ r. ⌜ r ≡ any (λ b. ltb 64 (b .across) || ltb 64 (b .down)) (take n bands) ⌝ }
-{
-    let mut i: usize = 0;
-    while i < n {
-        let band = bands[i];
-        if side_over_64(band) {
-            return true;
-        }
-        i += 1;
-    }
-    false
-}
-
-// Refusal 1.
-pub fn bad_shape(n: u32, bands: [Band; 3]) -> bool
-    ensures { λ r. ⌜ r ≡ badShape n (take n bands) ⌝ }
-{
-    if n == 0 {
-        return true;
-    }
-    if 3 < n {
-        return true;
-    }
-    any_side_over_64(bands, n as usize)
-}
-
-// Part of refusal 4: one of the first n bands has more planes than document 01 allows.
-pub fn band_too_deep(bands: [Band; 3], n: usize) -> bool
-    requires { ⌜ n ≤ 3 ⌝ }
-    ensures { λ r. ⌜ r ≡ bandTooDeep (take n bands) ⌝ }
-{
-    let mut i: usize = 0;
-    while i < n {
-        let band = bands[i];
-        if 998 < band.planes {
-            return true;
-        }
-        i += 1;
-    }
-    false
-}
-
-pub fn over(x: u32, most: u32) -> u32
-    ensures { λ r. ⌜ r ≡ fault (leb x most) ⌝ }
-{
-    if most < x { 1 } else { 0 }
-}
-
-// Looks at all of them, so that the loop vectorises.
-pub fn any_over(planes: &[u32], most: u32) -> bool
-    ensures { λ r. ⌜ r ≡ any (λ p. ltb most p) (now (planes .entry)) ⌝ }
-{
-    let mut faults: u32 = 0;
-    let mut i: usize = 0;
-    while i < planes.len() {
-        faults = faults | over(planes[i], most);
-        i += 1;
-    }
-    faults != 0
-}
-
-fn smaller(a: usize, b: usize) -> usize
-    ensures { λ r. ⌜ r ≡ min a b ⌝ }
-{
-    if a < b { a } else { b }
-}
-
-// Part of refusal 4: a block of the first n bands has more planes than its band.
-pub fn block_too_deep(bands: [Band; 3], n: usize, planes: &[u32]) -> bool
-    requires { ⌜ n ≤ 3 ⌝ }
-    ensures { λ r. ⌜ r ≡ blockTooDeep (blocks (take n bands)) (now (planes .entry)) ⌝ }
-{
-    let mut from: usize = 0;
-    let mut i: usize = 0;
-    while i < n {
-        let band = bands[i];
-        let size = tcd::band_blocks(band);
-        let left = planes.len() - from;
-        let to = from + smaller(size, left);
-        if any_over(&planes[from..to], band.planes) {
-            return true;
-        }
-        from = to;
-        i += 1;
-    }
-    false
-}
 
 // ---- the state's words
 
@@ -150,7 +52,7 @@ pub fn bands_of(state: &[u32]) -> [Band; 3]
 fn node_fault(value: u32, low: u32, known: u32, most: u32) -> u32
     ensures { λ r. ⌜ r ≡ fault (leb value most && leb low most && leb known 1) ⌝ }
 {
-    over(value, most) | over(low, most) | over(known, 1)
+    tcdstart::over(value, most) | tcdstart::over(low, most) | tcdstart::over(known, 1)
 }
 
 // Looks at all nodes, so that the loop vectorises.
@@ -180,7 +82,7 @@ fn length_bits_fault(passes: u32, bits: u32) -> u32
     let none = passes == 0;
     let least = chosen(none, 0, 3);
     let most = chosen(none, 0, 32);
-    over(least, bits) | over(bits, most)
+    tcdstart::over(least, bits) | tcdstart::over(bits, most)
 }
 
 fn has_no_segment(role: u32, passes: u32) -> bool
@@ -190,13 +92,6 @@ fn has_no_segment(role: u32, passes: u32) -> bool
         return true;
     }
     role == tcdstyle::WRITER
-}
-
-// The limits that a style gives: of a first segment, and of one behind a limit 2 and any other.
-struct Limits {
-    first: u32,
-    second: u32,
-    third: u32,
 }
 
 fn limits_of(style: Style) -> Limits
@@ -231,7 +126,7 @@ fn segment_fault(role: u32, limits: Limits, passes: u32, limit: u32, used: u32) 
     let none = has_no_segment(role, passes);
     let least = chosen(none, 0, 1);
     let wrong = chosen(none, differs(limit, 0), limit_fault(limits, limit));
-    wrong | over(least, used) | over(used, limit)
+    wrong | tcdstart::over(least, used) | tcdstart::over(used, limit)
 }
 
 fn passes_fault(passes: u32, layer: u32) -> u32
@@ -354,7 +249,7 @@ fn shape_in_range(role: u32, state: &[u32], bands: [Band; 3]) -> bool
         return false;
     }
     let n = word(state, 1);
-    !bad_shape(n, bands)
+    !tcdstart::bad_shape(n, bands)
 }
 
 // The thirteen words before the first band's.
@@ -374,7 +269,7 @@ fn first_words_in_range(role: u32, state: &[u32], bands: [Band; 3]) -> bool
         return false;
     }
     let n = word(state, 1);
-    if band_too_deep(bands, n as usize) {
+    if tcdstart::band_too_deep(bands, n as usize) {
         return false;
     }
     unused_bands_zero(state, n)

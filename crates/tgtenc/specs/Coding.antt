@@ -6,7 +6,7 @@ use lib.Dec.{eqb}
 use lib.ListN.{getD, set}
 use Rattle.t800.specs.declared.Bio.{Bio}
 use Rattle.t800.specs.TagTree.{Coded, value, low, known, lowAfter, nodeBits, knownAfter}
-use Rattle.bio.specs.Writing.{Output, output, putBits}
+use Rattle.biobytes.specs.Writing.{Output, output, putBits}
 use Rattle.tgt.specs.declared.Behind.{Behind}
 
 -- ---- a leaf

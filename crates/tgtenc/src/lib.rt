@@ -7,7 +7,7 @@ ghost use Prim.Native.Nat.{_+_, _-_, _<_, _≤_};
 ghost use lib.Dec.{eqb, ltb, leb};
 ghost use lib.ListN.{length, getD, replicate};
 ghost use Rattle.t800.specs.TagTree.{codePath};
-ghost use Rattle.bio.specs.Writing.{output, putBits, FreeBitsClear};
+ghost use Rattle.biobytes.specs.Writing.{output, putBits, FreeBitsClear};
 ghost use Rattle.tgt.specs.Path.{pathOver, PathIn};
 ghost use Rattle.tgtenc.specs.Coding.{leafCoded, putCoded, told, nodeCoded, codeFrom, codeNode};
 use t800::Bio;
@@ -22,7 +22,7 @@ fn zeros(out: &mut [u8], b: Bio, n: u32) -> Bio
     let mut left = n;
     while bio.ct < left {
         left -= bio.ct;
-        bio = bio::opj_bio_byteout(out, bio);
+        bio = biobytes::opj_bio_byteout(out, bio);
     }
     tgt::behind_bits(bio, left)
 }

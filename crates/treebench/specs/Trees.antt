@@ -10,7 +10,7 @@ use Rattle.t800.specs.Bits.{bioAt, bytesTaken}
 use Rattle.t800.specs.TagTree.{PathRead, levels, nodes, pathToRoot, setValue, codePath, readPath}
 use Rattle.t800.specs.State.{Block, notYetPlanes}
 use Rattle.t800.specs.ReadHeader.{readZeroPlanesFrom}
-use Rattle.bio.specs.Writing.{output, emptyAt, flush}
+use Rattle.biobytes.specs.Writing.{output, emptyAt, flush}
 use Rattle.tgt.specs.Path.{pathOver, PathIn}
 use Rattle.tgtenc.specs.Coding.{LeafCoded, leafCoded, putCoded}
 use Rattle.tgtdec.specs.Reading.{pathRead, leafOf}

@@ -3,7 +3,7 @@ ghost use mathlib.Core.Path.{_≡_};
 ghost use Prim.Native.Nat.{_+_, _*_, _/_, _≤_, _<_};
 ghost use lib.ListN.{length};
 ghost use Rattle.t800.specs.TagTree.{levels, nodes};
-ghost use Rattle.bio.specs.Writing.{FreeBitsClear};
+ghost use Rattle.biobytes.specs.Writing.{FreeBitsClear};
 ghost use Rattle.tgtenc.specs.Coding.{leafCoded};
 ghost use Rattle.tgtdec.specs.Reading.{pathRead};
 ghost use Rattle.bitbench.specs.Steps.{steps};
@@ -204,7 +204,7 @@ pub extern "C" fn treebench_encode(
     }
     let levels = tree_levels(w, h);
     let depth = tree_depth(w, h);
-    let b = bio::opj_bio_init_enc(0);
+    let b = biobytes::opj_bio_init_enc(0);
     let bio = encode_rows(
         words,
         out,

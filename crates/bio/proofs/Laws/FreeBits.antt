@@ -10,7 +10,7 @@ use lib.ListN.{length, length-set}
 use lib.Pow.{mod-mod-pow}
 use borrow.Author.Tests.{eqb-false}
 use Rattle.t800.specs.declared.Bio.{Bio}
-use Rattle.bio.specs.Writing.{Output, emptyAt, byteOut, makeRoom, holdBit, putBit, putBits, FreeBitsClear}
+use Rattle.biobytes.specs.Writing.{Output, emptyAt, byteOut, makeRoom, holdBit, putBit, putBits, FreeBitsClear}
 
 pub emptyAt-clear : (p : ℕ) → FreeBitsClear (emptyAt p)
 emptyAt-clear p = record { atMostEight = omega arith; clear = refl }

@@ -10,7 +10,7 @@ use lib.Seq.{sets, sets-eq, set-out}
 use borrow.Author.Tests.{eq-eqb, ne-eqb, eqb-true, eqb-false, ltb-true, ltb-false}
 use Rattle.t800.specs.Bits.{bitsAfter, lastBytes, packFrom, pack}
 use Rattle.t800.proofs.Laws.Pack.{AreBits}
-use Rattle.bio.specs.Writing.{Output, output, emptyAt, lastPlace, placeAfter, byteOut, makeRoom, holdBit, putBit, putBits, flush, FreeBitsClear}
+use Rattle.biobytes.specs.Writing.{Output, output, emptyAt, lastPlace, placeAfter, byteOut, makeRoom, holdBit, putBit, putBits, flush, FreeBitsClear}
 use Rattle.bio.proofs.Laws.FreeBits.{emptyAt-clear, putBit-clear}
 use Rattle.bio.proofs.Laws.WriteChunks.{bioOf, put-held}
 

@@ -8,7 +8,7 @@ use lib.Pow.{mod-pow-add, pow-add, shr-shr}
 use borrow.Author.Tests.{ne-eqb}
 use Rattle.t800.specs.declared.Bio.{Bio}
 use Rattle.t800.specs.Bits.{bitsOf}
-use Rattle.bio.specs.Writing.{Output, output, makeRoom, holdBit, putBit, putBits, FreeBitsClear}
+use Rattle.biobytes.specs.Writing.{Output, output, makeRoom, holdBit, putBit, putBits, FreeBitsClear}
 use Rattle.bio.specs.Chunks.{holdBits}
 use Rattle.bio.proofs.Laws.FreeBits.{makeRoom-clear, putBits-clear, putBits-append}
 

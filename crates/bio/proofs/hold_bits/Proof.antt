@@ -8,7 +8,7 @@ use lib.Bits.{bitAnd, bitOr, and-mask}
 use lib.Pow.{pow-pos}
 use borrow.Author.Needs.{needs}
 use Rattle.bio.specs.Chunks.{holdBits}
-use Rattle.bio.proofs.Laws.HeldWord.{bio≡, or-above}
+use Rattle.biobytes.proofs.Laws.HeldWord.{bio≡, or-above}
 use Rattle.bio.proofs.hold_bits.Statement.{statement}
 use Rattle.bio.proofs.hold_bits.Tie as tie
 

@@ -3,7 +3,7 @@
 use mathlib.Core.Path.{_∙_}
 use borrow.Author.Needs.{needs}
 use borrow.Author.Tests.{eq-eqb, ne-eqb}
-use Rattle.bio.specs.Writing.{makeRoom}
+use Rattle.biobytes.specs.Writing.{makeRoom}
 use Rattle.bio.proofs.make_room.Statement.{statement}
 use Rattle.bio.proofs.make_room.Tie as tie
 

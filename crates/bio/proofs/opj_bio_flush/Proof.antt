@@ -3,7 +3,7 @@
 use mathlib.Core.Path.{sym, ap, _∙_}
 use borrow.Author.Needs.{needs}
 use borrow.Author.Tests.{eq-eqb, ne-eqb}
-use Rattle.bio.specs.Writing.{Output, byteOut, flush}
+use Rattle.biobytes.specs.Writing.{Output, byteOut, flush}
 use Rattle.bio.proofs.opj_bio_flush.Statement.{statement}
 use Rattle.bio.proofs.opj_bio_flush.Tie as tie
 

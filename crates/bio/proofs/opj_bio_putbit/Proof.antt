@@ -4,7 +4,7 @@ use mathlib.Core.Path.{ap, _∙_}
 use native.Mathlib.Omega.{arith}
 use borrow.Author.Needs.{needs}
 use Rattle.t800.specs.declared.Bio.{Bio}
-use Rattle.bio.specs.Writing.{Output, output, holdBit, putBit}
+use Rattle.biobytes.specs.Writing.{Output, output, holdBit, putBit}
 use Rattle.bio.proofs.Laws.FreeBits.{makeRoom-clear}
 use Rattle.bio.proofs.Laws.WriteChunks.{holdBit-is}
 use Rattle.bio.proofs.opj_bio_putbit.Statement.{statement}

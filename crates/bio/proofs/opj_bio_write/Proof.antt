@@ -6,7 +6,7 @@ use native.Mathlib.Omega.{arith}
 use lib.Bits.{and-mask}
 use borrow.Author.Needs.{needs}
 use Rattle.t800.specs.Bits.{bitsOf}
-use Rattle.bio.specs.Writing.{output, putBits}
+use Rattle.biobytes.specs.Writing.{output, putBits}
 use Rattle.bio.proofs.Laws.WriteChunks.{holdBits-is, putBit-is}
 use Rattle.bio.proofs.opj_bio_write.Statement.{statement}
 use Rattle.bio.proofs.opj_bio_write.Tie as tie

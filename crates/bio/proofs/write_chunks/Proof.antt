@@ -8,7 +8,7 @@ use lib.ListN.{length}
 use borrow.Author.Needs.{needs}
 use Rattle.t800.specs.declared.Bio.{Bio}
 use Rattle.t800.specs.Bits.{bitsOf}
-use Rattle.bio.specs.Writing.{Output, output, makeRoom, putBits, FreeBitsClear}
+use Rattle.biobytes.specs.Writing.{Output, output, makeRoom, putBits, FreeBitsClear}
 use Rattle.bio.proofs.Laws.FreeBits.{makeRoom-clear}
 use Rattle.bio.proofs.Laws.WriteChunks.{holdBits-clear, write-turn}
 use Rattle.bio.proofs.write_chunks.Statement.{statement}

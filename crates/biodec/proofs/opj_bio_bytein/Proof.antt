@@ -9,7 +9,7 @@ use lib.ListN.{getD, List·getD-eq-default}
 use lib.Bits.{bitOr}
 use borrow.Author.Needs.{needs}
 use Rattle.t800.specs.Bits.{byteIn}
-use Rattle.bio.proofs.Laws.HeldWord.{bio≡, moved-is, or-byte}
+use Rattle.biobytes.proofs.Laws.HeldWord.{bio≡, moved-is, or-byte}
 use Rattle.biodec.proofs.opj_bio_bytein.Statement.{statement}
 use Rattle.biodec.proofs.opj_bio_bytein.Tie as tie
 

@@ -8,7 +8,7 @@ use borrow.Author.Needs.{needs}
 use Rattle.t800.specs.declared.Bio.{Bio}
 use Rattle.t800.specs.Bits.{Decoded, readBitsOnto, readBits}
 use Rattle.biodec.specs.Chunks.{refill}
-use Rattle.bio.proofs.Laws.HeldWord.{or-behind, behind-fits}
+use Rattle.biobytes.proofs.Laws.HeldWord.{or-behind, behind-fits}
 use Rattle.biodec.proofs.Laws.ReadChunks.{refill-ct, heldBits-below, heldBits-ct, read-turn}
 use Rattle.biodec.proofs.read_chunks.Statement.{statement}
 use Rattle.biodec.proofs.read_chunks.Tie as tie

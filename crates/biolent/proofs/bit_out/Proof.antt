@@ -42,7 +42,7 @@ use denote.Triple.Table.{entered, cited}
 use denote.Triple.Walked.{says, needs, Stays, stay-none, gave-slice, walkOf, AllGo, goes-none, goes-gave-slice, Walks, ends-at, walked, walk-meets}
 use denote.Exit.{yes}
 use borrow.Table.OneValue.{part-in, part-out}
-use Rattle.bio.specs.Writing.{FreeBitsClear, output, putBit}
+use Rattle.biobytes.specs.Writing.{FreeBitsClear, output, putBit}
 use Rattle.t800.specs.declared.Bio.{Bio}
 use Rattle.t800.proofs.Bio as T
 use Rattle.t800.proofs.Bio.Laws as T′

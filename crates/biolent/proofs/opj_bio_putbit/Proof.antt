@@ -39,7 +39,7 @@ use denote.Triple.Spec.{Meets, tripleOf}
 use denote.Triple.Table.{entered, cited}
 use denote.Triple.Walked.{says, needs, Stays, stay-ref, stay-none, gave-slice, walkOf, AllGo, goes-none, goes-gave-slice, goes-ref, Walks, ends-at, walked, walk-meets}
 use denote.Exit.{yes}
-use Rattle.bio.specs.Writing.{FreeBitsClear, output, putBit}
+use Rattle.biobytes.specs.Writing.{FreeBitsClear, output, putBit}
 use Rattle.t800.specs.declared.Bio.{Bio}
 use Rattle.t800.proofs.Bio as T
 use Rattle.t800.proofs.Bio.Laws as T′

@@ -5,7 +5,7 @@ use Prim.Native.Nat.{ℕ, min}
 use native.Mathlib.Omega.{arith}
 use lib.ListN.{length}
 use Rattle.t800.specs.declared.Bio.{Bio}
-use Rattle.bio.specs.Writing.{Output, output, flush, FreeBitsClear}
+use Rattle.biobytes.specs.Writing.{Output, output, flush, FreeBitsClear}
 use Rattle.bio.proofs.Laws.FreeBits.{emptyAt-clear}
 use Rattle.bitbench.specs.Steps.{steps}
 use Rattle.bitbench.specs.Numbers.{putNumber, written, writeAll}

@@ -4,7 +4,7 @@ use mathlib.Core.Path.{_≡_, ap, _∙_}
 use Prim.Native.Nat.{ℕ, min}
 use native.Mathlib.Omega.{arith}
 use Rattle.t800.specs.Bits.{bitsOf}
-use Rattle.bio.specs.Writing.{output, putBits}
+use Rattle.biobytes.specs.Writing.{output, putBits}
 use borrow.Author.Needs.{needs}
 use Rattle.bitbench.proofs.write_number.Statement.{statement}
 use Rattle.bitbench.proofs.write_number.Tie as tie

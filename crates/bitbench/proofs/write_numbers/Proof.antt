@@ -5,7 +5,7 @@ use Prim.Native.Nat.{_-_, _≤_}
 use native.Mathlib.Omega.{arith}
 use lib.ListN.{length, getD}
 use Rattle.t800.specs.Bits.{bitsOf}
-use Rattle.bio.specs.Writing.{Output, output, FreeBitsClear}
+use Rattle.biobytes.specs.Writing.{Output, output, FreeBitsClear}
 use Rattle.bio.proofs.Laws.FreeBits.{putBits-clear}
 use Rattle.bitbench.specs.Steps.{steps}
 use Rattle.bitbench.specs.Numbers.{widthAt, putNumber}

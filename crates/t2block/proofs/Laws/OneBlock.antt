@@ -16,11 +16,11 @@ use Rattle.t800.specs.TagTree.{Coded, codePath}
 use Rattle.t800.specs.WriteHeader.{isNew, codeInclusion, codeZeroPlanes, codePasses, codeBlock}
 use Rattle.t800.proofs.Laws.Paths.{All}
 use Rattle.t800.proofs.Laws.Tests.{either, if-eq, if-ne}
-use Rattle.bio.specs.Writing.{Output, putBits, FreeBitsClear}
+use Rattle.biobytes.specs.Writing.{Output, putBits, FreeBitsClear}
 use Rattle.bio.proofs.Laws.FreeBits.{putBits-append, putBits-clear}
 use Rattle.tgt.specs.Path.{nodesOver, pathOver, PathIn}
 use Rattle.tgtenc.specs.Coding.{LeafCoded, putCoded}
-use Rattle.t2block.specs.Blocks.{coded, PassesFit}
+use Rattle.t2lengths.specs.Blocks.{coded, PassesFit}
 
 -- ---- branches
 

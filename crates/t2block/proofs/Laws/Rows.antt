@@ -7,11 +7,11 @@ use lib.ListN.{getD, take, drop}
 use Rattle.t800.specs.Segments.{segmentsOf}
 use Rattle.t800.specs.State.{Block}
 use Rattle.t800.specs.WriteHeader.{codeBlock}
-use Rattle.bio.specs.Writing.{FreeBitsClear}
+use Rattle.biobytes.specs.Writing.{FreeBitsClear}
 use Rattle.bio.proofs.Laws.FreeBits.{putBits-clear}
 use Rattle.tgtenc.specs.Coding.{LeafCoded, putCoded}
-use Rattle.t2block.specs.declared.Place.{Place}
-use Rattle.t2block.specs.Blocks.{blockOver, BlockIn}
+use Rattle.t2lengths.specs.declared.Place.{Place}
+use Rattle.t2lengths.specs.Blocks.{blockOver, BlockIn}
 use Rattle.t2block.specs.Runs.{Running, codeNext, codeAll, placeAt, rowBlocks, NextFits, AllFit, RowIn, setNext, setAll}
 use Rattle.t2block.proofs.Laws.OneBlock.{path-before, path-wider, BlockBefore, block-keeps, still-fit}
 

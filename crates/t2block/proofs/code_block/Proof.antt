@@ -4,10 +4,10 @@ use Prim.Native.Nat.{ℕ, _+_, _<_}
 use native.Mathlib.Omega.{arith}
 use lib.ListN.{drop}
 use Rattle.t800.specs.Segments.{segmentsOf}
-use Rattle.bio.specs.Writing.{output}
+use Rattle.biobytes.specs.Writing.{output}
 use Rattle.tgtenc.specs.Coding.{LeafCoded, putCoded}
-use Rattle.t2block.specs.Blocks.{blockOver, BlockIn}
-use Rattle.t2block.proofs.Laws.Passes.{same-passes}
+use Rattle.t2lengths.specs.Blocks.{blockOver, BlockIn}
+use Rattle.t2lengths.proofs.Laws.Passes.{same-passes}
 use Rattle.t2block.proofs.Laws.OneBlock.{path-before, incl-keeps, planes-keep, still-fit, coded-clear, block-absent, block-is}
 use Rattle.t2block.proofs.code_block.Statement.{statement}
 use Rattle.t2block.proofs.code_block.Tie as tie

@@ -6,9 +6,9 @@ use lib.Dec.{ltb}
 use lib.ListN.{length}
 use borrow.Author.Needs.{needs}
 use Rattle.t800.proofs.Laws.Tests.{either}
-use Rattle.bio.specs.Writing.{output, putBit, putBits}
+use Rattle.biobytes.specs.Writing.{output, putBit, putBits}
 use Rattle.tgtenc.specs.Coding.{putCoded}
-use Rattle.t2block.specs.Blocks.{blockOver, coded}
+use Rattle.t2lengths.specs.Blocks.{blockOver, coded}
 use Rattle.t2block.proofs.Laws.OneBlock.{incl-new, incl-old, path-wider}
 use Rattle.t2block.proofs.code_inclusion.Statement.{statement}
 use Rattle.t2block.proofs.code_inclusion.Tie as tie

@@ -4,7 +4,7 @@ use Prim.Native.Nat.{ℕ, _+_, _-_}
 use native.Mathlib.Omega.{arith}
 use lib.ListN.{drop, take, getD}
 use borrow.Author.Needs.{needs}
-use Rattle.t2block.specs.Blocks.{blockOver, PassesFit}
+use Rattle.t2lengths.specs.Blocks.{blockOver, PassesFit}
 use Rattle.t2block.specs.Runs.{running}
 use Rattle.t2block.proofs.Laws.Rows.{next-is}
 use Rattle.t2block.proofs.code_next.Statement.{statement}

@@ -7,9 +7,9 @@ use lib.ListN.{length-set}
 use borrow.Author.Needs.{needs}
 use Rattle.t800.specs.Segments.{segmentsOf}
 use Rattle.t800.specs.WriteHeader.{isNew, lengthBitsBefore}
-use Rattle.bio.specs.Writing.{output}
+use Rattle.biobytes.specs.Writing.{output}
 use Rattle.t2segment.specs.Segments.{blockTooWide}
-use Rattle.t2block.proofs.Laws.Passes.{passes-are}
+use Rattle.t2lengths.proofs.Laws.Passes.{passes-are}
 use Rattle.t2block.proofs.code_passes.Statement.{statement}
 use Rattle.t2block.proofs.code_passes.Tie as tie
 

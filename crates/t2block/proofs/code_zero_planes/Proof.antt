@@ -3,9 +3,9 @@ use mathlib.Core.Path.{ap, _∙_}
 use native.Mathlib.Omega.{arith}
 use lib.ListN.{length}
 use borrow.Author.Needs.{needs}
-use Rattle.bio.specs.Writing.{output, putBits}
+use Rattle.biobytes.specs.Writing.{output, putBits}
 use Rattle.tgtenc.specs.Coding.{putCoded}
-use Rattle.t2block.specs.Blocks.{blockOver}
+use Rattle.t2lengths.specs.Blocks.{blockOver}
 use Rattle.t2block.proofs.Laws.OneBlock.{planes-new, planes-old, path-wider}
 use Rattle.t2block.proofs.code_zero_planes.Statement.{statement}
 use Rattle.t2block.proofs.code_zero_planes.Tie as tie

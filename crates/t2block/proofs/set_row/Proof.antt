@@ -5,8 +5,8 @@ use Prim.Native.Nat.{ℕ, _+_, _-_, _≤_}
 use native.Mathlib.Omega.{arith}
 use lib.ListN.{length, getD}
 use Rattle.t800.specs.State.{Block}
-use Rattle.t2block.specs.declared.Place.{Place}
-use Rattle.t2block.specs.Blocks.{blockOver, BlockIn}
+use Rattle.t2lengths.specs.declared.Place.{Place}
+use Rattle.t2lengths.specs.Blocks.{blockOver, BlockIn}
 use Rattle.t2block.specs.Runs.{rowBlocks, RowIn, setNext, setAll}
 use Rattle.t2block.proofs.Laws.Rows.{block-in, sets-then, row-end}
 use Rattle.t2block.proofs.set_row.Statement.{statement}

@@ -16,7 +16,7 @@ use Rattle.t800.specs.Packet.{wrongLists}
 use Rattle.t800.proofs.Laws.Tests.{or-left, or-right}
 use Rattle.tcd.specs.Geometry.{AllUpTo64}
 use Rattle.tcd.proofs.Laws.Bands.{blocks-up-to-12288}
-use Rattle.tcdstate.specs.Parts.{threeBands}
+use Rattle.tcdstart.specs.Parts.{threeBands}
 use Rattle.tcdstate.proofs.Laws.RangeParts.{first-bands}
 use Rattle.tcdstate.proofs.Laws.ValidStates.{valid-state, long-enough}
 use Rattle.t2wide.specs.Widths.{PassesLeft, segmentsRefusal}

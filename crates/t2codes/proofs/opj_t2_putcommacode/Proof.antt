@@ -7,7 +7,7 @@ use lib.ListN.{length}
 use lib.Pow.{pow-pos, shl-exact}
 use Rattle.t800.specs.Bits.{bitsOf}
 use Rattle.t800.specs.Segments.{commaBits}
-use Rattle.bio.specs.Writing.{Output, output, putBits, FreeBitsClear}
+use Rattle.biobytes.specs.Writing.{Output, output, putBits, FreeBitsClear}
 use Rattle.bio.proofs.Laws.FreeBits.{putBits-clear, putBits-append}
 use Rattle.t2codes.proofs.Laws.CommaCode.{comma-ones, comma-number}
 use Rattle.t2codes.proofs.opj_t2_putcommacode.Statement.{statement}

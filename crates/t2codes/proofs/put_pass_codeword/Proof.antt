@@ -2,7 +2,7 @@
 -- Assumes nothing.
 use mathlib.Core.Path.{ap, _∙_}
 use borrow.Author.Needs.{needs}
-use Rattle.bio.specs.Writing.{output, putBits}
+use Rattle.biobytes.specs.Writing.{output, putBits}
 use Rattle.t2codes.proofs.put_pass_codeword.Statement.{statement}
 use Rattle.t2codes.proofs.put_pass_codeword.Tie as tie
 

@@ -16,10 +16,10 @@ use Rattle.t800.proofs.Laws.Tests.{if-true, if-false, if-eq, if-ne}
 use Rattle.tcdlists.specs.Rows.{putRow}
 use Rattle.tgt.specs.Path.{pathOver, leafWord}
 use Rattle.tgtdec.specs.Reading.{LeafAfter, belowIn, ValueAfter, valueIn, leafOf}
-use Rattle.t2block.specs.declared.Place.{Place}
-use Rattle.t2dec.specs.declared.Run.{Run}
-use Rattle.t2block.specs.Blocks.{blockAt}
-use Rattle.t2dec.specs.Reading.{Reading, reading, movedOn, reported, nextSegment, nextSegments, passesRead, nextFirst, nextAgain, nextNew, nextOld, nextBlock, blockIn}
+use Rattle.t2lengths.specs.declared.Place.{Place}
+use Rattle.t2decsegs.specs.declared.Run.{Run}
+use Rattle.t2lengths.specs.Blocks.{blockAt}
+use Rattle.t2decsegs.specs.Reading.{Reading, reading, movedOn, reported, nextSegment, nextSegments, passesRead, nextFirst, nextAgain, nextNew, nextOld, nextBlock, blockIn}
 
 -- ---- of a block only its own words count for its segments, and only a tree and a leaf for its zero planes
 

@@ -28,8 +28,8 @@ use Rattle.t2codes.proofs.Laws.PassCount.{passes-between}
 use Rattle.t2codes.proofs.Laws.CommaCode.{comma-below, comma-value}
 use Rattle.t2block.proofs.Laws.OneBlock.{Before, same-word}
 use Rattle.t2block.proofs.Laws.Rows.{AllBlocks}
-use Rattle.t2dec.specs.Reading.{Reading, stopped, movedOn, reported, nextSegment, nextSegments, passesRead, segmentsAfter, nextFirst, nextAgain, nextNew, nextOld, nextBlock, nextBlocks, heldBy}
-use Rattle.t2dec.proofs.Laws.ManySegments.{no-segments}
+use Rattle.t2decsegs.specs.Reading.{Reading, stopped, movedOn, reported, nextSegment, nextSegments, passesRead, segmentsAfter, nextFirst, nextAgain, nextNew, nextOld, nextBlock, nextBlocks, heldBy}
+use Rattle.t2decsegs.proofs.Laws.ManySegments.{no-segments}
 use Rattle.t2dec.proofs.Laws.Kept.{path-keeps}
 
 -- ---- trees leave as many words

@@ -24,7 +24,7 @@ use Rattle.t2codes.proofs.Laws.PassCount.{passes-ct, passes-place, passes-betwe
 use Rattle.t2codes.proofs.Laws.CommaCode.{ones-ct, ones-place}
 use Rattle.t2block.proofs.Laws.OneBlock.{Before, BlockBefore}
 use Rattle.t2block.proofs.Laws.Rows.{AllBlocks}
-use Rattle.t2dec.specs.Reading.{Reading, stopped, nextSegment, nextSegments, passesRead, nextFirst, nextAgain, nextNew, nextOld, nextBlock, nextBlocks, BitsIn}
+use Rattle.t2decsegs.specs.Reading.{Reading, stopped, nextSegment, nextSegments, passesRead, nextFirst, nextAgain, nextNew, nextOld, nextBlock, nextBlocks, BitsIn}
 
 -- ---- trees
 

@@ -10,12 +10,12 @@ use lib.ListN.{length, drop}
 use lib.Seq.{drop-drop}
 use Rattle.t800.specs.State.{Block}
 use Rattle.t800.proofs.Laws.Tests.{if-eq, if-ne, on-eq}
-use Rattle.t2block.specs.declared.Place.{Place}
+use Rattle.t2lengths.specs.declared.Place.{Place}
 use Rattle.t2block.specs.Runs.{placeAt, RowIn}
 use Rattle.t2block.proofs.Laws.OneBlock.{BlockBefore, same-word}
 use Rattle.t2block.proofs.Laws.Rows.{before-next}
-use Rattle.t2dec.specs.Reading.{Reading, nextBlock, nextBlocks, blockIn, blocksOfRow, BlockFits}
-use Rattle.t2dec.proofs.Laws.ManySegments.{fits-same}
+use Rattle.t2decsegs.specs.Reading.{Reading, nextBlock, nextBlocks, blockIn, blocksOfRow, BlockFits}
+use Rattle.t2decsegs.proofs.Laws.ManySegments.{fits-same}
 use Rattle.t2dec.proofs.Laws.Kept.{Keeps, block-keeps}
 
 -- ---- what stays

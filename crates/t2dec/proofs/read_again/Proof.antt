@@ -4,9 +4,9 @@ use native.Mathlib.Omega.{arith}
 use Prim.Native.Nat.{_+_}
 use lib.ListN.{getD}
 use Rattle.tgtdec.specs.Reading.{valueAfter}
-use Rattle.t2dec.specs.declared.Run.{Run}
-use Rattle.t2dec.specs.Reading.{reading}
-use Rattle.t2dec.proofs.Laws.ManySegments.{fits-same}
+use Rattle.t2decsegs.specs.declared.Run.{Run}
+use Rattle.t2decsegs.specs.Reading.{reading}
+use Rattle.t2decsegs.proofs.Laws.ManySegments.{fits-same}
 use Rattle.t2dec.proofs.Laws.Kept.{passes-are}
 use Rattle.t2dec.proofs.Laws.BlockParts.{again-is}
 use borrow.Author.Needs.{needs}

@@ -1,5 +1,5 @@
 -- `t2dec::read_block` meets its contract.
-use Rattle.t2dec.specs.Reading.{reading, blockIn}
+use Rattle.t2decsegs.specs.Reading.{reading, blockIn}
 use Rattle.t2dec.proofs.Laws.BlockParts.{block-new, block-old}
 use borrow.Author.Needs.{needs}
 use Rattle.t2dec.proofs.read_block.Statement.{statement}

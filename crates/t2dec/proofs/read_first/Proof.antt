@@ -7,9 +7,9 @@ use Rattle.t800.specs.State.{notYetPlanes}
 use Rattle.tgtdec.specs.Reading.{ValueAfter, valueAfter, leafOf}
 use Rattle.tgtdec.proofs.Laws.Reading.{raising-ct}
 use Rattle.t2block.proofs.Laws.OneBlock.{path-wider, path-before}
-use Rattle.t2dec.specs.declared.Run.{Run}
-use Rattle.t2dec.specs.Reading.{reading}
-use Rattle.t2dec.proofs.Laws.ManySegments.{fits-same}
+use Rattle.t2decsegs.specs.declared.Run.{Run}
+use Rattle.t2decsegs.specs.Reading.{reading}
+use Rattle.t2decsegs.proofs.Laws.ManySegments.{fits-same}
 use Rattle.t2dec.proofs.Laws.Kept.{raising-keeps, passes-are}
 use Rattle.t2dec.proofs.Laws.BlockParts.{first-is}
 use borrow.Author.Needs.{needs}

@@ -7,11 +7,11 @@ use lib.ListN.{length, drop}
 use Rattle.tgt.specs.Path.{pathOver}
 use Rattle.tgtdec.specs.Reading.{LeafAfter, leafAfter}
 use Rattle.tgtdec.proofs.Laws.Reading.{readPath-ct}
-use Rattle.t2block.specs.Blocks.{BlockIn}
+use Rattle.t2lengths.specs.Blocks.{BlockIn}
 use Rattle.t2block.proofs.Laws.OneBlock.{path-wider, path-before}
-use Rattle.t2dec.specs.declared.Run.{Run}
-use Rattle.t2dec.specs.Reading.{reading}
-use Rattle.t2dec.proofs.Laws.ManySegments.{fits-same}
+use Rattle.t2decsegs.specs.declared.Run.{Run}
+use Rattle.t2decsegs.specs.Reading.{reading}
+use Rattle.t2decsegs.proofs.Laws.ManySegments.{fits-same}
 use Rattle.t2dec.proofs.Laws.Kept.{path-keeps}
 use Rattle.t2dec.proofs.Laws.BlockParts.{new-included, new-absent}
 use borrow.Author.Needs.{needs}

@@ -4,8 +4,8 @@ use native.Mathlib.Omega.{arith}
 use Rattle.t800.specs.Bits.{Decoded}
 use Rattle.biodec.specs.Reading.{decoded}
 use Rattle.biodec.proofs.Laws.ReadChunks.{getBit-ct}
-use Rattle.t2dec.specs.declared.Run.{Run}
-use Rattle.t2dec.specs.Reading.{reading}
+use Rattle.t2decsegs.specs.declared.Run.{Run}
+use Rattle.t2decsegs.specs.Reading.{reading}
 use Rattle.t2dec.proofs.Laws.BlockParts.{old-absent, old-included}
 use borrow.Author.Needs.{needs}
 use Rattle.t2dec.proofs.read_old.Statement.{statement}

@@ -5,11 +5,11 @@ use Prim.Native.Nat.{ℕ, _+_, _-_, _*_, _≤_}
 use native.Mathlib.Omega.{arith}
 use lib.ListN.{length}
 use Rattle.t800.specs.State.{Block}
-use Rattle.t2block.specs.declared.Place.{Place}
-use Rattle.t2block.specs.Blocks.{BlockIn}
+use Rattle.t2lengths.specs.declared.Place.{Place}
+use Rattle.t2lengths.specs.Blocks.{BlockIn}
 use Rattle.t2block.specs.Runs.{RowIn}
 use Rattle.t2block.proofs.Laws.Rows.{block-in}
-use Rattle.t2dec.specs.Reading.{reading, nextBlock, nextBlocks, blockIn, blocksOfRow, BlockFits}
+use Rattle.t2decsegs.specs.Reading.{reading, nextBlock, nextBlocks, blockIn, blocksOfRow, BlockFits}
 use Rattle.t2dec.proofs.Laws.Kept.{Keeps}
 use Rattle.t2dec.proofs.Laws.Rows.{block-fits, reads-then, reads-no-more, keeps-then, row-end}
 use Rattle.t2dec.proofs.read_row.Statement.{statement}

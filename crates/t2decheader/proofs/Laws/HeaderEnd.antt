@@ -18,8 +18,8 @@ use Rattle.t800.specs.ReadHeader.{HeaderRead, refused, readBlocks, readHeader}
 use Rattle.t800.proofs.Laws.Layout.{end-after}
 use Rattle.t800.proofs.Trip.Segments.{readSoFar}
 use Rattle.tcdstate.proofs.Laws.ValidStates.{ValidState}
-use Rattle.t2dec.specs.declared.Run.{Run}
-use Rattle.t2dec.specs.Reading.{Reading, reading, stopped, nextBlocks, heldBy, BitsIn, Follows}
+use Rattle.t2decsegs.specs.declared.Run.{Run}
+use Rattle.t2decsegs.specs.Reading.{Reading, reading, stopped, nextBlocks, heldBy, BitsIn, Follows}
 use Rattle.t2dec.proofs.Laws.Kept.{blocks-keep}
 use Rattle.t2dec.proofs.Laws.Follows.{Ends, blocks-end}
 use Rattle.t2decheader.specs.Header.{ReadsHeader}

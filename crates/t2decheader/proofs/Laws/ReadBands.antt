@@ -13,8 +13,8 @@ use Rattle.t800.proofs.Laws.Layout.{band-length}
 use Rattle.tcd.proofs.Laws.Bands.{length-from}
 use Rattle.tcdstate.proofs.Laws.RangeParts.{and-right}
 use Rattle.tcdstate.proofs.Laws.ValidStates.{block-known, block-bounds}
-use Rattle.t2enc.specs.Bands.{bandBlocks}
-use Rattle.t2dec.specs.Reading.{Reading, nextBlocks}
+use Rattle.t2grid.specs.Bands.{bandBlocks}
+use Rattle.t2decsegs.specs.Reading.{Reading, nextBlocks}
 use Rattle.t2dec.proofs.Laws.Kept.{Keeps, blocks-keep}
 use Rattle.t2dec.proofs.Laws.Rows.{block-fits, keeps-later, blocks-then, blocks-refused}
 use Rattle.t2decheader.specs.Bands.{BandFits, BandsFit}

@@ -12,11 +12,11 @@ use Rattle.tcd.specs.Geometry.{padded}
 use Rattle.tcd.proofs.Laws.Bands.{blocks-up-to-4096, length-from}
 use Rattle.tgt.specs.Path.{rowOver}
 use Rattle.tgt.proofs.Laws.Path.{leaf-word}
-use Rattle.t2block.specs.declared.Place.{Place}
+use Rattle.t2lengths.specs.declared.Place.{Place}
 use Rattle.t2block.specs.Runs.{placeAt}
-use Rattle.t2enc.specs.Bands.{gridOf, rowPlace, BandIn}
-use Rattle.t2enc.proofs.Laws.BandRows.{has-levels, row-counts, path-as, split-row}
-use Rattle.t2dec.specs.Reading.{Reading, nextBlocks, blockIn, blocksOfRow, BlockFits, BlocksFit}
+use Rattle.t2grid.specs.Bands.{gridOf, rowPlace, BandIn}
+use Rattle.t2grid.proofs.Laws.BandRows.{has-levels, row-counts, path-as, split-row}
+use Rattle.t2decsegs.specs.Reading.{Reading, nextBlocks, blockIn, blocksOfRow, BlockFits, BlocksFit}
 use Rattle.t2dec.proofs.Laws.Kept.{Keeps, blocks-keep}
 use Rattle.t2dec.proofs.Laws.Rows.{block-fits, keeps-later, blocks-then, blocks-refused}
 use Rattle.t2decheader.specs.Bands.{BandFits}

@@ -14,8 +14,8 @@ use Rattle.biodec.specs.declared.Aligned.{Aligned}
 use Rattle.biodec.specs.Reading.{alignedAt}
 use Rattle.tcdstate.proofs.Laws.RangeParts.{first-bands}
 use Rattle.tcdstate.proofs.Laws.ValidStates.{valid-state}
-use Rattle.t2dec.specs.declared.Run.{Run}
-use Rattle.t2dec.specs.Reading.{reading, nextBlocks}
+use Rattle.t2decsegs.specs.declared.Run.{Run}
+use Rattle.t2decsegs.specs.Reading.{reading, nextBlocks}
 use Rattle.t2decheader.specs.Bands.{BandsFit}
 use Rattle.t2decheader.proofs.Laws.ReadBands.{bands-fit}
 use Rattle.t2decheader.proofs.Laws.HeaderEnd.{bands-inside, thirteen-words, bits-in, header-refused, header-done, header-cut}

@@ -11,10 +11,10 @@ use Rattle.tcd.specs.Geometry.{padded}
 use Rattle.tcd.proofs.Laws.Bands.{blocks-up-to-4096}
 use Rattle.tgt.specs.Path.{rowOver, SmallLevels}
 use Rattle.t2block.specs.Runs.{RowIn}
-use Rattle.t2enc.specs.declared.Grid.{Grid}
-use Rattle.t2enc.specs.Bands.{rowPlace, bandBlocks, BandIn}
-use Rattle.t2enc.proofs.Laws.BandRows.{small, row-ends, row-counts, row-in, at-row, all-left, none-left}
-use Rattle.t2dec.specs.Reading.{reading, nextBlocks, blocksOfRow, BlocksFit}
+use Rattle.t2grid.specs.declared.Grid.{Grid}
+use Rattle.t2grid.specs.Bands.{rowPlace, bandBlocks, BandIn}
+use Rattle.t2grid.proofs.Laws.BandRows.{small, row-ends, row-counts, row-in, at-row, all-left, none-left}
+use Rattle.t2decsegs.specs.Reading.{reading, nextBlocks, blocksOfRow, BlocksFit}
 use Rattle.t2dec.proofs.Laws.Kept.{Keeps}
 use Rattle.t2decheader.proofs.Laws.ReadRows.{row-number, row-fits, rows-then, rows-refused, rows-keep}
 use borrow.Author.Needs.{needs}

@@ -10,10 +10,10 @@ use Rattle.t800.specs.State.{blocks, blocksAt, bandLength, endOf}
 use Rattle.t800.proofs.Laws.Layout.{end-after}
 use Rattle.tcd.specs.Geometry.{noBand, SidesUpTo64}
 use Rattle.tcd.proofs.Laws.Bands.{next-band, no-more-bands, sides-of-first, blocks-up-to-4096, band-levels-at, end-turn}
-use Rattle.t2dec.specs.Reading.{reading, nextBlocks}
+use Rattle.t2decsegs.specs.Reading.{reading, nextBlocks}
 use Rattle.t2dec.proofs.Laws.Kept.{Keeps}
-use Rattle.t2enc.specs.declared.Grid.{Grid}
-use Rattle.t2enc.specs.Bands.{gridOf, bandBlocks, BandIn}
+use Rattle.t2grid.specs.declared.Grid.{Grid}
+use Rattle.t2grid.specs.Bands.{gridOf, bandBlocks, BandIn}
 use Rattle.t2decheader.specs.Bands.{BandFits, BandsFit}
 use Rattle.t2decheader.proofs.Laws.ReadBands.{band-still-fits, bands-then, bands-refused, bands-keep}
 use borrow.Author.Needs.{needs}

@@ -17,17 +17,17 @@ use Rattle.t800.proofs.Laws.Layout.{band-length, end-after}
 use Rattle.t800.proofs.Laws.Paths.{AllBelow, leaf-path}
 use Rattle.t800.proofs.Laws.SetLeaf.{length-setValue}
 use Rattle.t800.proofs.Laws.Tests.{either}
-use Rattle.bio.specs.Writing.{output, FreeBitsClear}
+use Rattle.biobytes.specs.Writing.{output, FreeBitsClear}
 use Rattle.tcd.proofs.Laws.Bands.{length-from}
 use Rattle.tgtenc.specs.Coding.{putCoded}
-use Rattle.t2block.specs.Blocks.{coded}
+use Rattle.t2lengths.specs.Blocks.{coded}
 use Rattle.t2block.specs.Runs.{Running, codeNext, codeAll, AllFit, setNext, setAll}
 use Rattle.t2block.proofs.Laws.OneBlock.{Before, reversed-before, BlockBefore}
 use Rattle.t2block.proofs.Laws.Rows.{AllBlocks, From, all-still-fit}
-use Rattle.t2enc.specs.Bands.{bandBlocks, newSet, codeBand, codeBands}
-use Rattle.t2enc.proofs.Laws.BandRows.{code-append, set-append, all-clear, still-fit-behind, first-fit, blocks-from}
+use Rattle.t2grid.specs.Bands.{bandBlocks, newSet, codeBand, codeBands}
+use Rattle.t2grid.proofs.Laws.BandRows.{code-append, set-append, all-clear, still-fit-behind, first-fit, blocks-from}
 use Rattle.t2enc.proofs.Laws.TwoBands.{BlockBehind, next-length, code-then-set}
-use Rattle.t2enc.proofs.Laws.AllBlocks.{set-is-blocks, code-is-blocks}
+use Rattle.t2grid.proofs.Laws.AllBlocks.{set-is-blocks, code-is-blocks}
 
 -- ---- setting leaves the words from q on, and the length
 

@@ -18,7 +18,7 @@ use Rattle.t800.proofs.Laws.Tests.{either}
 use Rattle.t2block.specs.Runs.{Running, behindCoded, codeNext, codeAll, setNext, setAll}
 use Rattle.t2block.proofs.Laws.OneBlock.{Before, BlockBefore}
 use Rattle.t2block.proofs.Laws.Rows.{AllBlocks}
-use Rattle.t2enc.specs.Bands.{newSet}
+use Rattle.t2grid.specs.Bands.{newSet}
 
 -- ---- coding in the front part
 

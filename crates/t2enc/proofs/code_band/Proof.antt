@@ -4,7 +4,7 @@ use mathlib.Core.List.{List}
 use Prim.Native.Nat.{ℕ}
 use borrow.Author.Needs.{needs}
 use Rattle.t2block.specs.Runs.{running, codeAll, AllFit}
-use Rattle.t2enc.specs.Bands.{bandBlocks, BandIn, codeBand}
+use Rattle.t2grid.specs.Bands.{bandBlocks, BandIn, codeBand}
 use Rattle.t2enc.proofs.Laws.AllBands.{band-fits}
 use Rattle.t2enc.proofs.code_band.Statement.{statement}
 use Rattle.t2enc.proofs.code_band.Tie as tie

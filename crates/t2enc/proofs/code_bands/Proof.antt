@@ -9,12 +9,12 @@ use Rattle.t800.specs.declared.Band.{Band}
 use Rattle.t800.specs.declared.Level.{Level}
 use Rattle.t800.specs.State.{bandLength, blocksAt, blocks, endOf, stateLength}
 use Rattle.t800.proofs.Laws.Layout.{end-after}
-use Rattle.bio.specs.Writing.{FreeBitsClear}
+use Rattle.biobytes.specs.Writing.{FreeBitsClear}
 use Rattle.tcd.specs.Geometry.{noBand, SidesUpTo64}
 use Rattle.tcd.proofs.Laws.Bands.{next-band, no-more-bands, sides-of-first, end-turn, band-levels-at}
 use Rattle.t2block.specs.Runs.{running, AllFit}
-use Rattle.t2enc.specs.declared.Grid.{Grid}
-use Rattle.t2enc.specs.Bands.{gridOf, bandBlocks, BandIn, codeBand, codeBands}
+use Rattle.t2grid.specs.declared.Grid.{Grid}
+use Rattle.t2grid.specs.Bands.{gridOf, bandBlocks, BandIn, codeBand, codeBands}
 use Rattle.t2enc.proofs.Laws.AllBands.{first-band-fits, other-bands-fit, blocks-of-first, band-clear, band-blocks, bands-turn, bands-coded}
 use Rattle.t2enc.proofs.code_bands.Statement.{statement}
 use Rattle.t2enc.proofs.code_bands.Tie as tie

@@ -10,11 +10,11 @@ use Rattle.t800.specs.State.{Block, blocksFrom}
 use Rattle.t800.specs.TagTree.{levels}
 use Rattle.tcd.specs.Geometry.{padded}
 use Rattle.tgt.specs.Path.{rowOver, SmallLevels}
-use Rattle.t2enc.specs.declared.Grid.{Grid}
-use Rattle.t2enc.specs.Bands.{rowPlace, bandBlocks, BandIn}
-use Rattle.bio.specs.Writing.{FreeBitsClear}
+use Rattle.t2grid.specs.declared.Grid.{Grid}
+use Rattle.t2grid.specs.Bands.{rowPlace, bandBlocks, BandIn}
+use Rattle.biobytes.specs.Writing.{FreeBitsClear}
 use Rattle.t2block.specs.Runs.{Running, running, codeAll, rowBlocks, AllFit, RowIn}
-use Rattle.t2enc.proofs.Laws.BandRows.{all-clear, small, row-ends, row-in, at-row, row-fits, left-fit, left-coded, all-left, none-left}
+use Rattle.t2grid.proofs.Laws.BandRows.{all-clear, small, row-ends, row-in, at-row, row-fits, left-fit, left-coded, all-left, none-left}
 use Rattle.t2enc.proofs.code_blocks.Statement.{statement}
 use Rattle.t2enc.proofs.code_blocks.Tie as tie
 

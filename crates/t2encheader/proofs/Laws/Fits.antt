@@ -19,7 +19,7 @@ use Rattle.t2segment.specs.Segments.{blockTooWide}
 use Rattle.t2segment.proofs.Laws.Segments.{next-entry}
 use Rattle.t2wide.proofs.Laws.Lists.{sum-turn}
 use Rattle.t2check.proofs.Laws.NotRefused.{NotRefused, count-up-to-164, none-long-first, none-wide-first}
-use Rattle.t2block.specs.Blocks.{PassesFit}
+use Rattle.t2lengths.specs.Blocks.{PassesFit}
 use Rattle.t2block.specs.Runs.{AllFit}
 use Rattle.t2block.proofs.Laws.Rows.{AllBlocks}
 

@@ -11,7 +11,7 @@ use Rattle.t800.specs.PassCount.{passBits}
 use Rattle.t800.specs.declared.Band.{Band}
 use Rattle.t800.specs.declared.Bio.{Bio}
 use Rattle.t800.specs.State.{bands, blocks}
-use Rattle.bio.specs.Writing.{Output, output, emptyAt, lastPlace, putBit, FreeBitsClear}
+use Rattle.biobytes.specs.Writing.{Output, output, emptyAt, lastPlace, putBit, FreeBitsClear}
 use Rattle.bio.proofs.Laws.FreeBits.{emptyAt-clear, putBit-clear}
 use Rattle.t2codes.specs.PassTable.{sameBits, isCodeword, isPassTable}
 use Rattle.t2block.specs.Runs.{AllFit}

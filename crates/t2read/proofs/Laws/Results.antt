@@ -22,7 +22,7 @@ use Rattle.t800.specs.Packet.{ReadResult, refusedAnswer, readRefusal, readAbsen
 use Rattle.t800.proofs.Laws.Tests.{if-eq, if-ne, not-refused}
 use Rattle.tcdlists.proofs.Laws.Filled.{length-reports}
 use Rattle.tcdstate.proofs.Laws.ValidStates.{valid-state}
-use Rattle.t2dec.specs.Reading.{Reading, heldBy}
+use Rattle.t2decsegs.specs.Reading.{Reading, heldBy}
 use Rattle.t2decheader.specs.Header.{ReadsHeader}
 use Rattle.t2read.specs.Answers.{readResult, doneAnswer, presentOrBroken}
 

@@ -8,7 +8,7 @@ use lib.ListN.{length}
 use Rattle.t800.specs.State.{reader, layer, bands, blocks}
 use Rattle.t800.specs.Ranges.{validState}
 use Rattle.tcdstate.proofs.Laws.ValidStates.{valid-state}
-use Rattle.t2dec.specs.Reading.{reading}
+use Rattle.t2decsegs.specs.Reading.{reading}
 use Rattle.t2decheader.proofs.Laws.HeaderEnd.{thirteen-words}
 use Rattle.t2read.specs.Answers.{markerRead}
 use Rattle.t2read.proofs.Laws.Results.{broken-is, present-is}

@@ -1,6 +1,6 @@
 -- `t2start::begin` meets its contract.
 use mathlib.Core.Path.{_∙_, sym}
-use Rattle.t2start.proofs.Laws.Checks.{room, begun-refused, begun-fresh}
+use Rattle.t2startparts.proofs.Laws.Checks.{room, begun-refused, begun-fresh}
 use borrow.Author.Needs.{needs}
 use Rattle.t2start.proofs.begin.Statement.{statement}
 use Rattle.t2start.proofs.begin.Tie as tie

@@ -1,7 +1,7 @@
 -- `t2start::start_reader` meets its contract.
 use mathlib.Core.Path.{_∙_}
 use Rattle.t800.specs.State.{reader}
-use Rattle.t2start.proofs.Laws.Checks.{reader-begun}
+use Rattle.t2startparts.proofs.Laws.Checks.{reader-begun}
 use borrow.Author.Needs.{needs}
 use Rattle.t2start.proofs.start_reader.Statement.{statement}
 use Rattle.t2start.proofs.start_reader.Tie as tie

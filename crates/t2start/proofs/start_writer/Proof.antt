@@ -1,6 +1,6 @@
 -- `t2start::start_writer` meets its contract.
 use Rattle.t800.specs.State.{writer}
-use Rattle.t2start.proofs.Laws.Checks.{start-refused, start-set, writer-begun}
+use Rattle.t2startparts.proofs.Laws.Checks.{start-refused, start-set, writer-begun}
 use borrow.Author.Needs.{needs}
 use Rattle.t2start.proofs.start_writer.Statement.{statement}
 use Rattle.t2start.proofs.start_writer.Tie as tie

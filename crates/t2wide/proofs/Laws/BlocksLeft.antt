@@ -13,7 +13,7 @@ use Rattle.t800.specs.State.{Block, blocksIn, bandNodes, bandLength, blocksFrom
 use Rattle.t800.specs.WriteHeader.{isNew, lengthBitsBefore, segmentTooLong, fieldTooWide}
 use Rattle.t800.proofs.Laws.Tests.{or-left, or-right}
 use Rattle.tcd.proofs.Laws.Bands.{length-from}
-use Rattle.tcdstate.proofs.Laws.BlockPlanes.{or-group}
+use Rattle.tcdstart.proofs.Laws.BlockPlanes.{or-group}
 use Rattle.t2segment.specs.Segments.{bitsBefore, anyTooLong, anyTooWide, blockTooWide}
 use Rattle.t2segment.proofs.Laws.Segments.{next-entry}
 use Rattle.t2wide.specs.Widths.{wideFrom}

@@ -5,7 +5,7 @@ use mathlib.Core.Path.{_≡_, refl}
 use native.Mathlib.Omega.{arith}
 use Rattle.t800.specs.Base.{every}
 use Rattle.t800.specs.State.{lengthBits}
-use Rattle.tcdstate.specs.Parts.{fault}
+use Rattle.tcdstart.specs.Parts.{fault}
 use Rattle.tcdstate.proofs.Laws.Faults.{faults-end, faults-turn}
 use Rattle.t2wide.proofs.blocks_up_to_25_bits.Statement.{statement}
 use Rattle.t2wide.proofs.blocks_up_to_25_bits.Tie as tie

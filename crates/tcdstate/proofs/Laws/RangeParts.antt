@@ -16,8 +16,8 @@ use Rattle.t800.specs.Ranges.{badShape, badStyle, bandTooDeep, nodeInRange, blo
 use Rattle.t800.proofs.Laws.Tests.{on-eq}
 use Rattle.tcd.specs.Geometry.{AllUpTo64}
 use Rattle.tcd.proofs.Laws.Bands.{shape-not-refused}
-use Rattle.tcdstate.specs.declared.Limits.{Limits}
-use Rattle.tcdstate.specs.Parts.{threeBands, LimitsOf, isOneOf, lengthBitsInRange, segmentInRange, blockWordsInRange, shapeInRange, firstWordsInRange}
+use Rattle.tcdstart.specs.declared.Limits.{Limits}
+use Rattle.tcdstart.specs.Parts.{threeBands, LimitsOf, isOneOf, lengthBitsInRange, segmentInRange, blockWordsInRange, shapeInRange, firstWordsInRange}
 
 -- ---- blocks and bands
 

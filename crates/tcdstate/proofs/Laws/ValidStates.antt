@@ -17,7 +17,7 @@ use Rattle.t800.specs.Ranges.{badShape, badStyle, bandTooDeep, nodeInRange, blo
 use Rattle.t800.proofs.Laws.Tests.{on-eq}
 use Rattle.t800.proofs.Laws.Layout.{Tree, inclusion, zeroPlanes, notYet, treeFrom, NodeFrom, BlockFrom, end-after}
 use Rattle.tcd.specs.Geometry.{AllUpTo64}
-use Rattle.tcdstate.specs.Parts.{shapeInRange}
+use Rattle.tcdstart.specs.Parts.{shapeInRange}
 use Rattle.tcdstate.proofs.Laws.RangeParts.{and-left, and-right, shape-known}
 
 -- ---- the first words and the length

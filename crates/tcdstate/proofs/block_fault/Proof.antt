@@ -3,7 +3,7 @@ use Prim.Native.Nat.{_*_}
 use borrow.Author.Needs.{needs}
 use lib.Dec.{leb}
 use Rattle.tcdstate.proofs.Laws.Faults.{fault-three}
-use Rattle.tcdstate.specs.Parts.{blockWordsInRange, lengthBitsInRange, segmentInRange}
+use Rattle.tcdstart.specs.Parts.{blockWordsInRange, lengthBitsInRange, segmentInRange}
 use Rattle.tcdstate.proofs.block_fault.Statement.{statement}
 use Rattle.tcdstate.proofs.block_fault.Tie as tie
 

@@ -7,7 +7,7 @@ use Rattle.t800.specs.Ranges.{blockInRange}
 use Rattle.t800.specs.State.{layer, role}
 use Rattle.tcdstate.proofs.Laws.Faults.{faults-end, faults-turn}
 use Rattle.tcdstate.proofs.Laws.RangeParts.{block-words}
-use Rattle.tcdstate.specs.Parts.{fault}
+use Rattle.tcdstart.specs.Parts.{fault}
 use Rattle.tcdstate.proofs.blocks_in_range.Statement.{statement}
 use Rattle.tcdstate.proofs.blocks_in_range.Tie as tie
 

@@ -5,7 +5,7 @@ use lib.Dec.{leb}
 use mathlib.Core.Path.{_∙_, ap, ap₂}
 use Rattle.tcdstate.proofs.Laws.Faults.{fault-both}
 use Rattle.tcdstate.proofs.Laws.RangeParts.{length-bits-parts}
-use Rattle.tcdstate.specs.Parts.{fault}
+use Rattle.tcdstart.specs.Parts.{fault}
 use Rattle.tcdstate.proofs.length_bits_fault.Statement.{statement}
 use Rattle.tcdstate.proofs.length_bits_fault.Tie as tie
 

@@ -5,7 +5,7 @@ use lib.Dec.{eqb}
 use mathlib.Core.Bool.{_||_}
 use mathlib.Core.Path.{_∙_, ap₂}
 use Rattle.tcdstate.proofs.Laws.Faults.{fault-either}
-use Rattle.tcdstate.specs.Parts.{isOneOf}
+use Rattle.tcdstart.specs.Parts.{isOneOf}
 use Rattle.tcdstate.proofs.limit_fault.Statement.{statement}
 use Rattle.tcdstate.proofs.limit_fault.Tie as tie
 

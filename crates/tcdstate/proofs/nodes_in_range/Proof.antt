@@ -5,7 +5,7 @@ use native.Mathlib.Omega.{arith}
 use Rattle.t800.specs.Base.{every}
 use Rattle.t800.specs.Ranges.{nodeInRange}
 use Rattle.tcdstate.proofs.Laws.Faults.{faults-end, faults-turn}
-use Rattle.tcdstate.specs.Parts.{fault}
+use Rattle.tcdstart.specs.Parts.{fault}
 use Rattle.tcdstate.proofs.nodes_in_range.Statement.{statement}
 use Rattle.tcdstate.proofs.nodes_in_range.Tie as tie
 

@@ -5,7 +5,7 @@ use mathlib.Core.Bool.{cond}
 use mathlib.Core.Path.{_∙_, ap, ap₂}
 use Rattle.tcdstate.proofs.Laws.Faults.{chosen-fault, fault-three}
 use Rattle.tcdstate.proofs.Laws.RangeParts.{segment-parts}
-use Rattle.tcdstate.specs.Parts.{fault, isOneOf}
+use Rattle.tcdstart.specs.Parts.{fault, isOneOf}
 use Rattle.tcdstate.proofs.segment_fault.Statement.{statement}
 use Rattle.tcdstate.proofs.segment_fault.Tie as tie
 

@@ -7,7 +7,7 @@ use mathlib.Core.Path.{_≡_, refl}
 use native.Mathlib.Omega.{arith}
 use Rattle.t800.specs.Base.{every}
 use Rattle.tcdstate.proofs.Laws.Faults.{faults-end, faults-turn}
-use Rattle.tcdstate.specs.Parts.{fault}
+use Rattle.tcdstart.specs.Parts.{fault}
 use Rattle.tcdstate.proofs.unused_bands_zero.Statement.{statement}
 use Rattle.tcdstate.proofs.unused_bands_zero.Tie as tie
 

@@ -12,7 +12,7 @@ use borrow.Author.Tests.{lt-ltb, le-ltb, ltb-true, ltb-false, leb-true, eqb-true
 use Rattle.t800.specs.declared.Bio.{Bio}
 use Rattle.t800.specs.TagTree.{codePath, lowAfter, nodeBits, knownAfter, value, low, known}
 use Rattle.t800.proofs.Laws.Tests.{if-ne}
-use Rattle.bio.specs.Writing.{Output, output, byteOut, makeRoom, putBit, putBits, holdBit, FreeBitsClear}
+use Rattle.biobytes.specs.Writing.{Output, output, byteOut, makeRoom, putBit, putBits, holdBit, FreeBitsClear}
 use Rattle.bio.proofs.Laws.FreeBits.{byteOut-ct, putBits-append, putBits-clear}
 use Rattle.bio.proofs.Laws.WriteChunks.{bioOf, put-held}
 use Rattle.tgtenc.specs.Coding.{LeafCoded, putCoded, NodeCoded, codeFrom, codeNode, told}

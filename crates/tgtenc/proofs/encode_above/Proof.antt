@@ -6,7 +6,7 @@ use native.Mathlib.Omega.{arith}
 use lib.Dec.{eqb}
 use borrow.Author.Tests.{eqb-true}
 use Rattle.t800.specs.TagTree.{known}
-use Rattle.bio.specs.Writing.{output}
+use Rattle.biobytes.specs.Writing.{output}
 use Rattle.tgtenc.specs.Coding.{codeFrom}
 use Rattle.tgtenc.proofs.Laws.Coding.{both, code-told}
 use borrow.Author.Needs.{needs}

@@ -5,7 +5,7 @@ use Prim.Native.Nat.{ℕ, _+_, _-_, max, min}
 use lib.ListN.{set, replicate, length-set}
 use lib.Seq.{lt-length-set}
 use Rattle.t800.specs.TagTree.{value, lowAfter}
-use Rattle.bio.specs.Writing.{Output, output, FreeBitsClear}
+use Rattle.biobytes.specs.Writing.{Output, output, FreeBitsClear}
 use Rattle.bio.proofs.Laws.FreeBits.{putBits-clear}
 use Rattle.tgtenc.specs.Coding.{leafCoded, told}
 use Rattle.tgtenc.proofs.Laws.Coding.{code-to-threshold, code-to-value}

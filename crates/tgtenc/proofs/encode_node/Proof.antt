@@ -2,7 +2,7 @@
 -- Assumes nothing.
 use mathlib.Core.Path.{sym, ap, _∙_}
 use Prim.Native.Nat.{ℕ}
-use Rattle.bio.specs.Writing.{output}
+use Rattle.biobytes.specs.Writing.{output}
 use Rattle.tgtenc.specs.Coding.{codeFrom}
 use Rattle.tgtenc.proofs.Laws.Coding.{code-past}
 use borrow.Author.Needs.{needs}

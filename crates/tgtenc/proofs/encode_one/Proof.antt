@@ -6,7 +6,7 @@ use native.Mathlib.Omega.{arith}
 use lib.Dec.{ltb}
 use lib.ListN.{set}
 use Rattle.t800.specs.TagTree.{value}
-use Rattle.bio.specs.Writing.{Output, output}
+use Rattle.biobytes.specs.Writing.{Output, output}
 use Rattle.tgtenc.proofs.Laws.Coding.{bit-le, code-one}
 use borrow.Author.Needs.{needs}
 use Rattle.tgtenc.proofs.encode_one.Statement.{statement}

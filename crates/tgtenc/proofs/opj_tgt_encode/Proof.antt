@@ -6,7 +6,7 @@ use Prim.Native.Nat.{ℕ, _+_, _-_, _*_, _/_, _^_, _≤_, _<_, max}
 use native.Mathlib.Omega.{arith}
 use lib.ListN.{length, getD, take}
 use Rattle.t800.specs.TagTree.{codePath, low}
-use Rattle.bio.specs.Writing.{output, putBits, FreeBitsClear}
+use Rattle.biobytes.specs.Writing.{output, putBits, FreeBitsClear}
 use Rattle.tgt.specs.Path.{nodesOver}
 use Rattle.tgtenc.specs.Coding.{NodeCoded, nodeCoded, putCoded, codeNode}
 use Rattle.tgt.proofs.Laws.Path.{node-down}

@@ -3,7 +3,7 @@
 use mathlib.Core.Path.{_∙_}
 use lib.ListN.{set}
 use borrow.Author.Tests.{eq-eqb, ne-eqb}
-use Rattle.bio.specs.Writing.{putBits}
+use Rattle.biobytes.specs.Writing.{putBits}
 use Rattle.tgtenc.specs.Coding.{told}
 use borrow.Author.Needs.{needs}
 use Rattle.tgtenc.proofs.tell.Statement.{statement}

@@ -4,7 +4,7 @@ use mathlib.Core.Path.{_≡_, refl, sym, ap, _∙_, subst}
 use Prim.Native.Nat.{_-_, _*_}
 use native.Mathlib.Omega.{arith}
 use lib.ListN.{length, replicate}
-use Rattle.bio.specs.Writing.{Output, output, putBits, FreeBitsClear}
+use Rattle.biobytes.specs.Writing.{Output, output, putBits, FreeBitsClear}
 use Rattle.bio.proofs.Laws.FreeBits.{byteOut-ct, byteOut-clear}
 use Rattle.tgtenc.proofs.Laws.Coding.{zeros-end, zeros-turn}
 use borrow.Author.Needs.{needs}

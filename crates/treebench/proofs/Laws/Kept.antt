@@ -3,7 +3,7 @@ use mathlib.Core.List.{List, reverse}
 use Prim.Native.Nat.{ℕ, _+_, _≤_}
 use lib.ListN.{length}
 use Rattle.t800.specs.TagTree.{PathRead, pathToRoot, codePath}
-use Rattle.bio.specs.Writing.{FreeBitsClear}
+use Rattle.biobytes.specs.Writing.{FreeBitsClear}
 use Rattle.bio.proofs.Laws.FreeBits.{putBits-clear}
 use Rattle.tgt.specs.Path.{pathOver}
 use Rattle.tgtenc.specs.Coding.{LeafCoded}

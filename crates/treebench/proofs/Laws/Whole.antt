@@ -10,7 +10,7 @@ use Rattle.t800.specs.Bits.{bioAt}
 use Rattle.t800.specs.TagTree.{PathRead}
 use Rattle.t800.proofs.Laws.Tests.{if-true}
 use Rattle.biodec.specs.declared.Aligned.{Aligned}
-use Rattle.bio.specs.Writing.{Output, emptyAt, flush}
+use Rattle.biobytes.specs.Writing.{Output, emptyAt, flush}
 use Rattle.biodec.specs.Reading.{alignedAt}
 use Rattle.tgtenc.specs.Coding.{LeafCoded, leafCoded}
 use Rattle.tgtdec.specs.Reading.{pathRead}

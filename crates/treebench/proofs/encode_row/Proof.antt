@@ -6,7 +6,7 @@ use Prim.Native.Nat.{ℕ, _-_, _≤_}
 use native.Mathlib.Omega.{arith}
 use lib.ListN.{length}
 use Rattle.t800.specs.TagTree.{codePath}
-use Rattle.bio.specs.Writing.{output, FreeBitsClear}
+use Rattle.biobytes.specs.Writing.{output, FreeBitsClear}
 use Rattle.bio.proofs.Laws.FreeBits.{putBits-clear}
 use Rattle.tgt.specs.Path.{pathOver, PathIn}
 use Rattle.tgtenc.specs.Coding.{LeafCoded, leafCoded}

@@ -5,7 +5,7 @@ use mathlib.Core.List.{List}
 use Prim.Native.Nat.{ℕ, _-_, _*_, _≤_}
 use native.Mathlib.Omega.{arith}
 use lib.ListN.{length}
-use Rattle.bio.specs.Writing.{FreeBitsClear}
+use Rattle.biobytes.specs.Writing.{FreeBitsClear}
 use Rattle.tgt.specs.Path.{rowOver}
 use Rattle.tgtenc.specs.Coding.{LeafCoded, leafCoded}
 use Rattle.bitbench.specs.Steps.{steps}

@@ -5,7 +5,7 @@ use native.Mathlib.Omega.{arith}
 use borrow.Author.Tests.{not-true, not-false}
 use lib.ListN.{length}
 use Rattle.t800.proofs.Laws.Tests.{if-false}
-use Rattle.bio.specs.Writing.{output, FreeBitsClear}
+use Rattle.biobytes.specs.Writing.{output, FreeBitsClear}
 use Rattle.bio.proofs.Laws.FreeBits.{emptyAt-clear}
 use Rattle.tgtenc.specs.Coding.{leafCoded}
 use Rattle.treebench.specs.Trees.{isTree, codeTree}

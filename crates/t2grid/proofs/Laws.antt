@@ -1,0 +1,2 @@
+pub mod BandRows
+pub mod AllBlocks

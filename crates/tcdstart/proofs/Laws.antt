@@ -1,0 +1,2 @@
+pub mod AnyOf
+pub mod BlockPlanes
