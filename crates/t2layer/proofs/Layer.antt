@@ -16,7 +16,7 @@ use Rattle.t800.specs.Book.{BlockEntry, newBook, terminatedAsStyle}
 use Rattle.t800.specs.RoundTrip.{WriteCall, writeOf, Owed}
 use Rattle.t800.specs.RoundTrip as defs
 use Rattle.t800.proofs.Laws.Tests.{if-true, if-false}
-use Rattle.t800.proofs.Trip.Calls.{is-accepted}
+use Rattle.roundtrip.proofs.Trip.Calls.{is-accepted}
 use Rattle.t2.specs.Calls.{Started, Written, WasRead, written, Follows, wasAccepted, owedFor, owedOf, allTerminated, packetMade, ReadAsOwed, RoundTripOfCalls}
 use Rattle.t2layer.specs.Layer.{FirstLayer, Lent, startOf, writeOfLayer, layerResult, layerBy, writeAndRead, GivesEntry}
 use Rattle.t2.proofs.RoundTrip.{round-trip-of-calls}

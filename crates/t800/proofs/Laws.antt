@@ -1,7 +1,6 @@
 pub mod Computed
 pub mod Pack
 pub mod Levels
-pub mod PassCodes
 pub mod Tests
 pub mod Lists
 pub mod HeaderBits

@@ -1,4 +1,3 @@
 pub mod Laws
 pub mod Table
 pub mod Packets
-pub mod Trip

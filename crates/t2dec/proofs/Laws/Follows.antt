@@ -20,7 +20,7 @@ use Rattle.t800.specs.State.{Block, notYetPlanes, lengthBits}
 use Rattle.t800.specs.WriteHeader.{isNew, lengthBitsBefore}
 use Rattle.t800.specs.ReadHeader.{HeaderRead, refused, movedTo, withReport, opensSegment, currentLimit, currentPasses, passesTaken, readSegment, readSegments, readZeroPlanesFrom, readZeroPlanes, firstReport, againReport, readIncluded, readNewBlock, readOldBlock, readBlock, readBlocks}
 use Rattle.t800.proofs.Laws.Tests.{either, if-eq, if-ne, if-lt, if-ge, on-eq, on-lt}
-use Rattle.t800.proofs.Trip.Segments.{readSoFar}
+use Rattle.roundtrip.proofs.Trip.Segments.{readSoFar}
 use Rattle.tcdlists.proofs.Laws.Filled.{length-records, record-put, report-put}
 use Rattle.tcdlists.specs.Rows.{putRow}
 use Rattle.t2codes.specs.CommaCode.{mostOnes, readCommaLimited}

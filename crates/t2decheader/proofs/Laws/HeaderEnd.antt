@@ -16,7 +16,7 @@ use Rattle.t800.specs.Reports.{reportWords, recordWords}
 use Rattle.t800.specs.State.{reader, layer, bands, blocks, stateLength, endOf}
 use Rattle.t800.specs.ReadHeader.{HeaderRead, refused, readBlocks, readHeader}
 use Rattle.t800.proofs.Laws.Layout.{end-after}
-use Rattle.t800.proofs.Trip.Segments.{readSoFar}
+use Rattle.roundtrip.proofs.Trip.Segments.{readSoFar}
 use Rattle.tcdstate.proofs.Laws.ValidStates.{ValidState}
 use Rattle.t2decsegs.specs.declared.Run.{Run}
 use Rattle.t2decsegs.specs.Reading.{Reading, reading, stopped, nextBlocks, heldBy, BitsIn, Follows}

@@ -12,8 +12,8 @@ use Rattle.t800.specs.WriteHeader.{Contribution, setNewBlocks, codeHeader}
 use Rattle.t800.proofs.Laws.HeaderBits.{bits-blocks}
 use Rattle.t800.proofs.Laws.Layout.{layoutOf, blocks-placed}
 use Rattle.t800.proofs.Laws.Pack.{AreBits}
-use Rattle.t800.proofs.Trip.HeaderLength.{packed-up-to, header-up-to}
-use Rattle.t800.proofs.Trip.WriterState.{headerBlocks}
+use Rattle.roundtrip.proofs.Trip.HeaderLength.{packed-up-to, header-up-to}
+use Rattle.roundtrip.proofs.Trip.WriterState.{headerBlocks}
 use Rattle.biobytes.specs.Writing.{Output, output, emptyAt, lastPlace, putBit, putBits, flush}
 use Rattle.bio.proofs.Laws.Packed.{flushed-is-packed, packed-place}
 use Rattle.tcdstate.proofs.Laws.ValidStates.{valid-state, block-known, block-bounds}
