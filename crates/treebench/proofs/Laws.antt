@@ -1,4 +1,0 @@
-pub mod Levels
-pub mod Rows
-pub mod Kept
-pub mod Whole
