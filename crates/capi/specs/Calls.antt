@@ -11,9 +11,9 @@ use Rattle.t800.specs.State.{stateLength}
 use Rattle.t800.specs.Ranges.{badShape}
 use Rattle.t800.specs.WriteHeader.{Contribution}
 use Rattle.t800.specs.Packet.{MeasureResult, measure, WriteResult, write}
-use Rattle.tcdsegs.specs.declared.Segment.{Segment}
-use Rattle.tcdsegs.specs.Segments.{wordsOf}
-use Rattle.t2segs.specs.Reading.{StructsRead, readStructs}
+use Rattle.t2_records.specs.declared.Segment.{Segment}
+use Rattle.t2_records.specs.Segments.{wordsOf}
+use Rattle.t2_read_records.specs.Reading.{StructsRead, readStructs}
 
 -- across, down and planes of a band
 abbrev pub band : ℕ → ℕ → ℕ → Band

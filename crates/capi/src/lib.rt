@@ -4,15 +4,15 @@ ghost use mathlib.Core.List.{[], _∷_};
 ghost use lib.ListN.{length};
 ghost use Rattle.t800.specs.State.{writer, reader};
 ghost use Rattle.t800.specs.Start.{start};
-ghost use Rattle.t2check.specs.Refusals.{contribution};
-ghost use Rattle.t2read.specs.Answers.{readResult};
-ghost use Rattle.tcdsegs.specs.Segments.{wordsOf};
+ghost use Rattle.t2_refusals.specs.Refusals.{contribution};
+ghost use Rattle.t2_read_packet.specs.Answers.{readResult};
+ghost use Rattle.t2_records.specs.Segments.{wordsOf};
 ghost use Rattle.capi.specs.Calls.{band, threeBands, stateLengthOf, measureCall, writeCall, readCall};
 ghost use Rattle.capi.specs.Numbers.{numbersCall};
+use t2_records::Segment;
 use t800::Band;
 use t800::Markers;
 use t800::ReadAnswer;
-use tcdsegs::Segment;
 
 // ---- starts
 
@@ -50,10 +50,10 @@ fn three_bands(
 fn state_length_of(count: u32, bands: [Band; 3]) -> usize
     ensures { λ r. ⌜ r ≡ stateLengthOf count bands ⌝ }
 {
-    if tcdstart::bad_shape(count, bands) {
+    if tcd_shape::bad_shape(count, bands) {
         return 0;
     }
-    tcd::state_length(bands, count as usize)
+    tcd_layout::state_length(bands, count as usize)
 }
 
 // The length that a start asks of its state, or 0 where it would give 1.
@@ -264,7 +264,7 @@ fn read_words(
         };
     }
     let markers = Markers { sop, eph };
-    let r = t2segs::read_numbers(state, scratch, src, markers, reports, numbers, room);
+    let r = t2_read_records::read_numbers(state, scratch, src, markers, reports, numbers, room);
     put_five(
         answer,
         r.present as u64,
@@ -303,7 +303,7 @@ pub extern "C" fn tonkelvi_read(
         room,
         answer,
     );
-    let m = t2segs::to_fill(a, room);
-    tcdsegs::fill(records, numbers, m);
+    let m = t2_read_records::to_fill(a, room);
+    t2_records::fill(records, numbers, m);
     a.refusal
 }

@@ -12,7 +12,7 @@ use Rattle.t800.specs.Packet.{WriteResult, ReadResult}
 use Rattle.t800.specs.Book.{BlockEntry, newBook, entry, addCounts, terminatedAsStyle}
 use Rattle.t800.specs.RoundTrip as defs
 use Rattle.t800.specs.RoundTrip.{WriterCall, measuring, writing, writeOf, ReaderCall, refusedRead, packetRead, readOf, Owed, GivesEntry, owed, allTerminatedAsStyle, ReadsAsOwed, RoundTrip}
-use Rattle.roundtrip.proofs.Trip.RoundTrip.{round-trip}
+use Rattle.round_trip.proofs.Trip.RoundTrip.{round-trip}
 use Rattle.t2.specs.Calls.{Written, WasRead, WriterMade, measured, written, Follows, owedFor, owedOf, allTerminated, ReaderMade, refusedMade, packetMade, ReadAsOwed, RoundTripOfCalls}
 
 -- ---- the writer's calls

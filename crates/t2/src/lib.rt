@@ -1,10 +1,10 @@
 // The engine's calls: start, measure, write and read. Writing (opj_t2_encode_packet of t2.rs): check, copy the state, code, body, settle.
 ghost use mathlib.Core.Path.{_≡_};
 ghost use Rattle.t800.specs.Packet.{measure, write};
-ghost use Rattle.t2check.specs.Refusals.{contribution};
-pub use t2read::read;
-pub use t2start::start_reader;
-pub use t2start::start_writer;
+ghost use Rattle.t2_refusals.specs.Refusals.{contribution};
+pub use t2_read_packet::read;
+pub use t2_start::start_reader;
+pub use t2_start::start_writer;
 use t800::Markers;
 use t800::MeasureAnswer;
 use t800::WriteAnswer;
@@ -20,7 +20,7 @@ pub fn measure(
 ) -> MeasureAnswer
     ensures { λ r. ⌜ record { answer = r; scratch = now (scratch .exit) } ≡ measure (now (state .entry)) (now (scratch .entry)) (contribution (now (counts .entry)) (now (lengths .entry)) (now (marks .entry))) markers ⌝ }
 {
-    let refusal = t2check::measure_refusal(state, scratch.len(), counts, lengths, marks);
+    let refusal = t2_refusals::measure_refusal(state, scratch.len(), counts, lengths, marks);
     if refusal != 0 {
         return MeasureAnswer {
             refusal,
@@ -28,10 +28,10 @@ pub fn measure(
             body: 0,
         };
     }
-    tcdlists::copy(state, scratch);
+    lists::copy(state, scratch);
     let mut none: [u8; 1] = [0];
-    let end = t2front::put_front(scratch, &mut none, counts, lengths, marks, markers, 0);
-    let body = t2check::sum_lengths(lengths);
+    let end = t2_write_packet::put_front(scratch, &mut none, counts, lengths, marks, markers, 0);
+    let body = t2_refusals::sum_lengths(lengths);
     MeasureAnswer {
         refusal: 0,
         header: end as u64,
@@ -52,31 +52,31 @@ pub fn write(
 ) -> WriteAnswer
     ensures { λ r. ⌜ record { answer = r; state = now (state .exit); scratch = now (scratch .exit); output = now (output .exit) } ≡ write (now (state .entry)) (now (scratch .entry)) (contribution (now (counts .entry)) (now (lengths .entry)) (now (marks .entry))) (now (body .entry)) markers number (now (output .entry)) ⌝ }
 {
-    let why = t2check::measure_refusal(state, scratch.len(), counts, lengths, marks);
+    let why = t2_refusals::measure_refusal(state, scratch.len(), counts, lengths, marks);
     if why != 0 {
         return WriteAnswer {
             refusal: why,
             bytes: 0,
         };
     }
-    if body.len() as u64 != t2check::sum_lengths(lengths) {
+    if body.len() as u64 != t2_refusals::sum_lengths(lengths) {
         return WriteAnswer {
             refusal: 10,
             bytes: 0,
         };
     }
-    tcdlists::copy(state, scratch);
-    let end = t2front::put_front(scratch, output, counts, lengths, marks, markers, number);
-    if !t2front::has_room(output.len(), end, body.len()) {
-        tcdlists::wipe(scratch);
-        tcdlists::wipe_bytes(output);
+    lists::copy(state, scratch);
+    let end = t2_write_packet::put_front(scratch, output, counts, lengths, marks, markers, number);
+    if !t2_write_packet::has_room(output.len(), end, body.len()) {
+        lists::wipe(scratch);
+        lists::wipe_bytes(output);
         return WriteAnswer {
             refusal: 11,
             bytes: 0,
         };
     }
-    let bytes = t2front::put_body(output, end, body);
-    tcdlists::copy(scratch, state);
+    let bytes = t2_write_packet::put_body(output, end, body);
+    lists::copy(scratch, state);
     WriteAnswer {
         refusal: 0,
         bytes: bytes as u64,

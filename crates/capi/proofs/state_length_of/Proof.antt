@@ -1,7 +1,7 @@
 -- `capi::state_length_of` meets its contract.
 use mathlib.Core.Path.{_∙_, sym}
 use borrow.Author.Needs.{needs}
-use Rattle.tcd.proofs.Laws.Bands.{shape-not-refused}
+use Rattle.tcd_layout.proofs.Laws.Bands.{shape-not-refused}
 use Rattle.capi.proofs.Laws.{length-refused, length-given}
 use Rattle.capi.proofs.state_length_of.Statement.{statement}
 use Rattle.capi.proofs.state_length_of.Tie as tie

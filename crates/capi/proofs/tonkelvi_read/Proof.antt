@@ -43,20 +43,20 @@ use Rattle.t800.specs.declared.Markers.{Markers}
 use Rattle.t800.specs.declared.ReadAnswer.{ReadAnswer}
 use Rattle.t800.proofs.ReadAnswer as Q
 use Rattle.t800.proofs.ReadAnswer.Laws as Q′
-use Rattle.t2read.specs.Answers.{readResult}
-use Rattle.tcdsegs.specs.declared.Segment.{Segment}
-use Rattle.tcdsegs.specs.Segments.{wordsOf, filled}
-use Rattle.t2segs.specs.Reading.{toFill}
-use Rattle.tcdsegs.proofs.Lent.{LentAgain, Shared, lends-again, comes-back, shares-again, unshares}
-use Rattle.tcdsegs.proofs.Segment as T
-use Rattle.t2segs.proofs.to_fill as c
-use Rattle.t2segs.proofs.to_fill.Symbol as c-def
-use Rattle.t2segs.proofs.to_fill.Symbol.{name as #c}
-use Rattle.t2segs.proofs.to_fill.Met as c-thm
-use Rattle.tcdsegs.proofs.fill as p
-use Rattle.tcdsegs.proofs.fill.Symbol as p-def
-use Rattle.tcdsegs.proofs.fill.Symbol.{name as #p}
-use Rattle.tcdsegs.proofs.fill.Met as p-thm
+use Rattle.t2_read_packet.specs.Answers.{readResult}
+use Rattle.t2_records.specs.declared.Segment.{Segment}
+use Rattle.t2_records.specs.Segments.{wordsOf, filled}
+use Rattle.t2_read_records.specs.Reading.{toFill}
+use Rattle.t2_records.proofs.Lent.{LentAgain, Shared, lends-again, comes-back, shares-again, unshares}
+use Rattle.t2_records.proofs.Segment as T
+use Rattle.t2_read_records.proofs.to_fill as c
+use Rattle.t2_read_records.proofs.to_fill.Symbol as c-def
+use Rattle.t2_read_records.proofs.to_fill.Symbol.{name as #c}
+use Rattle.t2_read_records.proofs.to_fill.Met as c-thm
+use Rattle.t2_records.proofs.fill as p
+use Rattle.t2_records.proofs.fill.Symbol as p-def
+use Rattle.t2_records.proofs.fill.Symbol.{name as #p}
+use Rattle.t2_records.proofs.fill.Met as p-thm
 use Rattle.capi.specs.Calls.{ReadCall, readCall}
 use Rattle.capi.specs.Numbers.{numbersCall}
 use Rattle.capi.proofs.Laws.{filled-is-call}

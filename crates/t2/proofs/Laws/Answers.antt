@@ -16,13 +16,13 @@ use Rattle.t800.specs.Ranges.{validState}
 use Rattle.t800.specs.WriteHeader.{Contribution, codeHeader, segmentTooLong, fieldTooWide}
 use Rattle.t800.specs.Packet.{wrongLists, measureRefusal, front, packet, writeRefusal, MeasureResult, measure, WriteResult, write}
 use Rattle.t800.proofs.Laws.Tests.{if-true, if-false, if-eq, if-ne, either}
-use Rattle.t2check.specs.Refusals.{measureRefusalFor}
-use Rattle.tcdstate.proofs.Laws.ValidStates.{valid-state}
-use Rattle.t2check.proofs.Laws.NotRefused.{NotRefused, not-refused-for}
-use Rattle.t2check.proofs.Laws.ScratchLength.{refusal-by-scratch-length}
-use Rattle.t2encheader.specs.Header.{HeaderCoded}
-use Rattle.t2front.specs.Front.{BytesPut, bytesPut, putBytes, putFront}
-use Rattle.t2front.proofs.Laws.Front.{put-append}
+use Rattle.t2_refusals.specs.Refusals.{measureRefusalFor}
+use Rattle.tcd_state.proofs.Laws.ValidStates.{valid-state}
+use Rattle.t2_refusals.proofs.Laws.NotRefused.{NotRefused, not-refused-for}
+use Rattle.t2_refusals.proofs.Laws.ScratchLength.{refusal-by-scratch-length}
+use Rattle.t2_write_header.specs.Header.{HeaderCoded}
+use Rattle.t2_write_packet.specs.Front.{BytesPut, bytesPut, putBytes, putFront}
+use Rattle.t2_write_packet.proofs.Laws.Front.{put-append}
 
 -- ---- a packet that nothing refuses
 

@@ -4,8 +4,8 @@ use mathlib.Core.List.{List, [], _∷_}
 use Prim.Native.Nat.{ℕ}
 use native.Mathlib.Omega.{arith}
 use borrow.Author.Needs.{needs}
-use Rattle.t2check.specs.Refusals.{contribution}
-use Rattle.t2front.specs.Front.{putFront}
+use Rattle.t2_refusals.specs.Refusals.{contribution}
+use Rattle.t2_write_packet.specs.Front.{putFront}
 use Rattle.t2.proofs.Laws.Answers.{accepted, as-long, copy-accepted, measure-refused, measure-done}
 use Rattle.t2.proofs.measure.Statement.{statement}
 use Rattle.t2.proofs.measure.Tie as tie

@@ -5,8 +5,8 @@ use Prim.Native.Nat.{ℕ, _+_, _≤_}
 use native.Mathlib.Omega.{arith}
 use lib.ListN.{length}
 use borrow.Author.Needs.{needs}
-use Rattle.t2check.specs.Refusals.{contribution}
-use Rattle.t2front.specs.Front.{putFront}
+use Rattle.t2_refusals.specs.Refusals.{contribution}
+use Rattle.t2_write_packet.specs.Front.{putFront}
 use Rattle.t2.proofs.Laws.Answers.{accepted, as-long, copy-accepted, room-left, write-refused, write-body-refused, write-no-space, write-done}
 use Rattle.t2.proofs.write.Statement.{statement}
 use Rattle.t2.proofs.write.Tie as tie

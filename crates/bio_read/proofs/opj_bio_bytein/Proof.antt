@@ -1,0 +1,64 @@
+-- `bio_read::opj_bio_bytein` meets its contract.
+-- Assumes nothing.
+use mathlib.Core.Path.{ap, ap₂, _∙_}
+use mathlib.Core.Bool.{cond}
+use Prim.Native.Nat.{ℕ}
+use native.Mathlib.Omega.{arith}
+use lib.Dec.{eqb}
+use lib.ListN.{getD, List·getD-eq-default}
+use lib.Bits.{bitOr}
+use borrow.Author.Needs.{needs}
+use Rattle.t800.specs.Bits.{byteIn}
+use Rattle.bio_bytes.proofs.Laws.HeldWord.{bio≡, moved-is, or-byte}
+use Rattle.bio_read.proofs.opj_bio_bytein.Statement.{statement}
+use Rattle.bio_read.proofs.opj_bio_bytein.Tie as tie
+
+bits-behind-requires : tie.Need-bits-behind-requires
+bits-behind-requires c κs = search needs
+
+add-t9 : tie.Need-add-t9
+add-t9 c = search needs
+
+shared-slice-read-wide : tie.Need-shared-slice-read-wide
+shared-slice-read-wide c = search needs
+
+wide-requires : tie.Need-wide-requires
+wide-requires c κs = search needs
+
+returns : tie.Need-returns
+unfolding byteIn
+returns c =
+    let s = c .before .before .before .before .before .before in
+    let b = s .args .b in
+    let src = s .args .src .now in
+    let inside = c .before .before .if1 .taken in
+    bio≡ _ _
+    (omega arith)
+    (ap₂ bitOr (moved-is (b .buf)) (c .wide .ensures) ∙ or-byte (b .buf) (getD src (b .bp) 0) (omega (arith, c .before .shared-slice-known2 .given (b .bp))))
+    (c .before .before .before .bits-behind .ensures ∙ ap (λ (u : ℕ). cond (eqb u 0xff00) 7 8) (moved-is (b .buf)))
+
+add-t14 : tie.Need-add-t14
+add-t14 c = search needs
+
+returns-2 : tie.Need-returns-2
+unfolding byteIn
+returns-2 c =
+    let s = c .before .before .before .before in
+    let b = s .args .b in
+    let outside = c .if1 .left in
+    bio≡ _ _
+    (omega arith)
+    (moved-is (b .buf) ∙ omega (arith, List·getD-eq-default (s .args .src .now) 0 (c .if1 .left)))
+    (c .before .bits-behind .ensures ∙ ap (λ (u : ℕ). cond (eqb u 0xff00) 7 8) (moved-is (b .buf)))
+
+pub opj-bio-bytein-spec : {M : Type 1} → statement M
+opj-bio-bytein-spec =
+    tie.close
+    (tie.spec
+    bits-behind-requires
+    add-t9
+    shared-slice-read-wide
+    wide-requires
+    returns
+    add-t14
+    returns-2)

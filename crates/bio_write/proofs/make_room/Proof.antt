@@ -1,0 +1,25 @@
+-- `bio_write::make_room` meets its contract.
+-- Assumes nothing.
+use mathlib.Core.Path.{_∙_}
+use borrow.Author.Needs.{needs}
+use borrow.Author.Tests.{eq-eqb, ne-eqb}
+use Rattle.bio_bytes.specs.Writing.{makeRoom}
+use Rattle.bio_write.proofs.make_room.Statement.{statement}
+use Rattle.bio_write.proofs.make_room.Tie as tie
+
+opj-bio-byteout-requires : tie.Need-opj-bio-byteout-requires
+opj-bio-byteout-requires c κs = search needs
+
+same-length : tie.Need-same-length
+same-length c = search needs
+
+returns : tie.Need-returns
+unfolding makeRoom
+returns c = c .before .before .opj-bio-byteout .ensures ∙ simp (eq-eqb _ _ (c .before .before .before .before .if1 .taken))
+
+returns-2 : tie.Need-returns-2
+unfolding makeRoom
+returns-2 c = simp (ne-eqb _ _ (c .if1 .left))
+
+pub make-room-spec : {M : Type 1} → statement M
+make-room-spec = tie.close (tie.spec opj-bio-byteout-requires same-length returns returns-2)

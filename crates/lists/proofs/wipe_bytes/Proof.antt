@@ -1,0 +1,54 @@
+-- `lists::wipe_bytes` meets its contract.
+use Prim.Native.Nat.{_-_, _≤_}
+use lib.ListN.{length, length-set, take}
+use mathlib.Core.Path.{_≡_, refl}
+use native.Mathlib.Omega.{arith}
+use Rattle.t800.specs.Base.{wiped}
+use Rattle.lists.proofs.Laws.Lists.{wiped-all, wiped-turn}
+use Rattle.lists.proofs.wipe_bytes.Statement.{statement}
+use Rattle.lists.proofs.wipe_bytes.Tie as tie
+
+abbrev Inv-loop : tie.InvT-loop
+Inv-loop bytes₀ i₀ bytes i = (i ≤ length bytes₀) × (length bytes ≡ length bytes₀) × (take i bytes ≡ take i (wiped bytes₀))
+
+abbrev μ-loop : tie.MeasureT-loop
+μ-loop bytes₀ i₀ bytes i = length bytes₀ - i
+
+loop-holds : tie.Need-loop-holds Inv-loop μ-loop
+loop-holds c = (omega arith, refl, refl)
+
+slice-write-bytes : tie.Need-slice-write-bytes Inv-loop μ-loop
+slice-write-bytes c = omega arith
+
+add-i : tie.Need-add-i Inv-loop μ-loop
+add-i c = omega arith
+
+loop-less : tie.Need-loop-less Inv-loop μ-loop
+loop-less c = omega arith
+
+loop-again : tie.Need-loop-again Inv-loop μ-loop
+loop-again c =
+    let l = c .before .loop in
+    (omega arith, simp length-set (l .inv .1), wiped-turn (c .before .before .args .bytes .now) (l .bytes) (l .i) (omega arith) (l .inv .1) (l .inv .2))
+
+same-length : tie.Need-same-length Inv-loop μ-loop
+same-length c = c .before .loop .inv .1
+
+returns : tie.Need-returns Inv-loop μ-loop
+returns c =
+    let l = c .before .loop in
+    wiped-all (c .before .before .args .bytes .now) (l .bytes) (l .i) (omega arith) (l .inv .1) (l .inv .2)
+
+pub wipe-bytes-spec : {M : Type 1} → statement M
+wipe-bytes-spec =
+    tie.close
+    (tie.spec
+    Inv-loop
+    μ-loop
+    loop-holds
+    slice-write-bytes
+    add-i
+    loop-less
+    loop-again
+    same-length
+    returns)

@@ -1,0 +1,147 @@
+// The codes of a packet header: pass counts, and the run of ones that adds to the length bits (t2.rs).
+ghost use mathlib.Core.Path.{_≡_};
+ghost use Prim.Native.Nat.{_+_, _≤_};
+ghost use lib.Dec.{T};
+ghost use Rattle.t800.specs.PassCount.{passBits, readPasses};
+ghost use Rattle.t800.specs.Segments.{commaBits};
+ghost use Rattle.bio_bytes.specs.Writing.{output, putBits, FreeBitsClear};
+ghost use Rattle.bio_read.specs.Reading.{decoded};
+ghost use Rattle.t2_codes.specs.PassTable.{isPassTable, IsCodewordOf};
+ghost use Rattle.t2_codes.specs.PassCount.{counted, readFrom3};
+ghost use Rattle.t2_codes.specs.CommaCode.{onesLimit, readCommaLimited};
+
+pub mod pass_codes;
+
+use bio_read::Decoded;
+use pass_codes::PASS_CODES;
+use t800::Bio;
+
+// The low `len` bits of `value`.
+struct Codeword {
+    value: u32,
+    len: u32,
+}
+
+fn wide(n: u16) -> u32
+    ensures { λ r. ⌜ r ≡ n ⌝ }
+{
+    n as u32
+}
+
+fn codeword_of(codes: &[u16; 328], n: u32) -> Codeword
+    requires { ⌜ (T (isPassTable (now codes))) × (1 ≤ n) × (n ≤ 164) ⌝ }
+    ensures { λ r. ⌜ IsCodewordOf n r ⌝ }
+{
+    let i = (n - 1) as usize;
+    let j = i + 164;
+    let value = wide(codes[i]);
+    let len = wide(codes[j]);
+    Codeword { value, len }
+}
+
+// With the table lent: a caller that puts many makes it once, since a constant array is made anew wherever it is named.
+pub fn put_pass_codeword(codes: &[u16; 328], out: &mut [u8], b: Bio, n: u32) -> Bio
+    requires { ⌜ (T (isPassTable (now codes))) × (FreeBitsClear b) × (1 ≤ n) × (n ≤ 164) ⌝ }
+    ensures { λ r. ⌜ output (now (out .exit)) r ≡ putBits (output (now (out .entry)) b) (passBits n) ⌝ }
+{
+    let c = codeword_of(codes, n);
+    bio_write::opj_bio_write(out, b, c.value, c.len)
+}
+
+pub fn opj_t2_putnumpasses(out: &mut [u8], b: Bio, n: u32) -> Bio
+    requires { ⌜ (FreeBitsClear b) × (1 ≤ n) × (n ≤ 164) ⌝ }
+    ensures { λ r. ⌜ output (now (out .exit)) r ≡ putBits (output (now (out .entry)) b) (passBits n) ⌝ }
+{
+    let codes = PASS_CODES;
+    put_pass_codeword(&codes, out, b, n)
+}
+
+fn plus(k: u32, r: Decoded) -> Decoded
+    requires { ⌜ k + r .value ≤ 164 ⌝ }
+    ensures { λ s. ⌜ decoded s ≡ counted k (decoded r) ⌝ }
+{
+    let bio = r.bio;
+    Decoded {
+        value: k + r.value,
+        bio,
+    }
+}
+
+// Behind two ones.
+fn passes_from_3(src: &[u8], b: Bio) -> Decoded
+    requires { ⌜ b .ct ≤ 8 ⌝ }
+    ensures { λ r. ⌜ decoded r ≡ readFrom3 (now (src .entry)) b ⌝ }
+{
+    let two = bio_read::opj_bio_read(src, b, 2);
+    if two.value <= 2 {
+        return plus(3, two);
+    }
+    let five = bio_read::opj_bio_read(src, two.bio, 5);
+    if five.value <= 30 {
+        return plus(6, five);
+    }
+    plus(37, bio_read::opj_bio_read(src, five.bio, 7))
+}
+
+pub fn opj_t2_getnumpasses(src: &[u8], b: Bio) -> Decoded
+    requires { ⌜ b .ct ≤ 8 ⌝ }
+    ensures { λ r. ⌜ decoded r ≡ readPasses (now (src .entry)) b ⌝ }
+{
+    let first = bio_lent::bit_in(src, b);
+    if first.value == 0 {
+        let bio = first.bio;
+        return Decoded { value: 1, bio };
+    }
+    let second = bio_lent::bit_in(src, first.bio);
+    if second.value == 0 {
+        let bio = second.bio;
+        return Decoded { value: 2, bio };
+    }
+    passes_from_3(src, second.bio)
+}
+
+// Thirty ones at a time, and the rest with the zero as one number.
+pub fn opj_t2_putcommacode(out: &mut [u8], b: Bio, n: u32) -> Bio
+    requires { ⌜ FreeBitsClear b ⌝ }
+    ensures { λ r. ⌜ output (now (out .exit)) r ≡ putBits (output (now (out .entry)) b) (commaBits n) ⌝ }
+{
+    let mut bio = b;
+    let mut left = n;
+    while 30 < left {
+        bio = bio_write::opj_bio_write(out, bio, 0x3fff_ffff, 30);
+        left -= 30;
+    }
+    bio_write::opj_bio_write(out, bio, (2 << left) - 2, left + 1)
+}
+
+// A length field is at most 32 bits wide, so that a run of 30 ones or more is refused whatever follows, and isn't read to its end.
+const MOST_ONES: u32 = 64;
+
+// For inputs of fewer than 56 bits, the definition's own bound on the ones.
+fn ones_limit(src: &[u8]) -> u32
+    ensures { λ r. ⌜ r ≡ onesLimit (now (src .entry)) ⌝ }
+{
+    if src.len() < 7 {
+        return src.len() as u32 * 8 + 8;
+    }
+    MOST_ONES
+}
+
+pub fn opj_t2_getcommacode(src: &[u8], b: Bio) -> Decoded
+    requires { ⌜ b .ct ≤ 8 ⌝ }
+    ensures { λ r. ⌜ decoded r ≡ readCommaLimited (now (src .entry)) b ⌝ }
+{
+    let mut bio = b;
+    let mut value = 0;
+    let mut left = ones_limit(src);
+    while 0 < left {
+        let r = bio_lent::bit_in(src, bio);
+        bio = r.bio;
+        if r.value == 0 {
+            return Decoded { value, bio };
+        }
+        value += 1;
+        left -= 1;
+    }
+    Decoded { value, bio }
+}

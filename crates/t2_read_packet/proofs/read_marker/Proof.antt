@@ -1,0 +1,59 @@
+-- `t2_read_packet::read_marker` meets its contract.
+use mathlib.Core.Path.{subst}
+use Prim.Native.Nat.{ℕ, _≤_, _<_}
+use borrow.Author.Tests.{not-true, not-false}
+use Rattle.t2_read_packet.proofs.Laws.Markers.{not-used, too-few, first-differs, second-differs, both-there}
+use borrow.Author.Needs.{needs}
+use Rattle.t2_read_packet.proofs.read_marker.Statement.{statement}
+use Rattle.t2_read_packet.proofs.read_marker.Tie as tie
+
+returns : tie.Need-returns
+returns c =
+    let s = c .before .before in
+    not-used (s .args .used) (s .args .m .bytes) (s .args .m .second) (s .args .src .now) (s .args .p) (not-true _ (c .if1 .taken))
+
+bytes-from-requires : tie.Need-bytes-from-requires
+bytes-from-requires c κs = search needs
+
+returns-2 : tie.Need-returns-2
+returns-2 c =
+    let s = c .before .before .before .before .before in
+    too-few (s .args .used) (s .args .m .bytes) (s .args .m .second) (s .args .src .now) (s .args .p) (not-false _ (c .before .before .before .if1 .left)) (subst (λ (n : ℕ). n < s .args .m .bytes) (c .before .before .bytes-from .ensures) (c .if2 .taken))
+
+shared-slice-read-if3 : tie.Need-shared-slice-read-if3
+shared-slice-read-if3 c = search needs
+
+returns-3 : tie.Need-returns-3
+returns-3 c =
+    let s = c .before .before .before .before .before .before .before in
+    first-differs (s .args .used) (s .args .m .bytes) (s .args .m .second) (s .args .src .now) (s .args .p) (not-false _ (c .before .before .before .before .before .if1 .left)) (subst (λ (n : ℕ). s .args .m .bytes ≤ n) (c .before .before .before .before .bytes-from .ensures) (c .before .before .if2 .left)) (c .if3 .taken)
+
+add-if4 : tie.Need-add-if4
+add-if4 c = search needs
+
+shared-slice-read-if4 : tie.Need-shared-slice-read-if4
+shared-slice-read-if4 c = search needs
+
+returns-4 : tie.Need-returns-4
+returns-4 c =
+    let s = c .before .before .before .before .before .before .before .before .before .before in
+    second-differs (s .args .used) (s .args .m .bytes) (s .args .m .second) (s .args .src .now) (s .args .p) (not-false _ (c .before .before .before .before .before .before .before .before .if1 .left)) (subst (λ (n : ℕ). s .args .m .bytes ≤ n) (c .before .before .before .before .before .before .before .bytes-from .ensures) (c .before .before .before .before .before .if2 .left)) (c .before .before .before .if3 .left) (c .if4 .taken)
+
+returns-5 : tie.Need-returns-5
+returns-5 c =
+    let s = c .before .before .before .before .before .before .before .before .before .before in
+    both-there (s .args .used) (s .args .m .bytes) (s .args .m .second) (s .args .src .now) (s .args .p) (not-false _ (c .before .before .before .before .before .before .before .before .if1 .left)) (subst (λ (n : ℕ). s .args .m .bytes ≤ n) (c .before .before .before .before .before .before .before .bytes-from .ensures) (c .before .before .before .before .before .if2 .left)) (c .before .before .before .if3 .left) (c .if4 .left)
+
+pub read-marker-spec : {M : Type 1} → statement M
+read-marker-spec =
+    tie.close
+    (tie.spec
+    returns
+    bytes-from-requires
+    returns-2
+    shared-slice-read-if3
+    returns-3
+    add-if4
+    shared-slice-read-if4
+    returns-4
+    returns-5)

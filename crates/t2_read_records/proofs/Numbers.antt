@@ -1,0 +1,80 @@
+-- The read into numbers: what it gives where the work list has the length asked, and where not.
+use mathlib.Core.Path.{_≡_, sym, _∙_}
+use mathlib.Core.Logic.{_≢_}
+use mathlib.Core.Bool.{true, false}
+use mathlib.Core.List.{List}
+use Prim.Native.Nat.{ℕ, _*_, _/_, _%_}
+use native.Mathlib.Omega.{arith}
+use lib.ListN.{length}
+use lib.Dec.{eqb}
+use borrow.Author.Tests.{eq-eqb, ne-eqb}
+use Rattle.t800.specs.declared.Markers.{Markers}
+use Rattle.t800.specs.declared.ReadAnswer.{ReadAnswer}
+use Rattle.t800.specs.State.{reader, layer}
+use Rattle.t800.specs.Ranges.{validState}
+use Rattle.t800.specs.Packet.{read}
+use Rattle.t800.proofs.Laws.Tests.{on-eq}
+use Rattle.t2_read_records.specs.Reading.{wrongListNumber, wrongList, readNumbers, toFill}
+
+-- ---- four words for each record
+
+pub not-four-each : (words room : ℕ) → words / 4 ≢ room → false ≡ eqb words (4 * room)
+not-four-each words room n = sym (ne-eqb words (4 * room) (λ e. n (omega arith)))
+
+pub four-each : (words room : ℕ) → words / 4 ≡ room → eqb (words % 4) 0 ≡ eqb words (4 * room)
+four-each words room e = on-eq (words % 4) 0
+    (λ z. eq-eqb (words % 4) 0 z ∙ sym (eq-eqb words (4 * room) (omega arith)))
+    (λ z. ne-eqb (words % 4) 0 z ∙ sym (ne-eqb words (4 * room) (λ q. z (omega arith))))
+
+-- ---- the numbers before it
+
+module _ (ws scratch : List ℕ) where
+  pub wrong-5 : validState reader ws (length scratch) ≡ false → 5 ≡ wrongListNumber ws scratch
+  unfolding wrongListNumber
+  wrong-5 e = rw e
+
+  module _ (valid : validState reader ws (length scratch) ≡ true) where
+    pub wrong-6 : layer ws ≡ 999 → 6 ≡ wrongListNumber ws scratch
+    unfolding wrongListNumber
+    wrong-6 e = rw (valid, eq-eqb (layer ws) 999 e)
+
+    pub wrong-3 : layer ws ≢ 999 → 3 ≡ wrongListNumber ws scratch
+    unfolding wrongListNumber
+    wrong-3 e = rw (valid, ne-eqb (layer ws) 999 e)
+
+-- ---- the read
+
+module _ (ws scratch : List ℕ) (m : Markers) (src reports numbers : List ℕ) (room : ℕ) where
+  pub numbers-refused : eqb (length numbers) (4 * room) ≡ false → readNumbers ws scratch m src reports numbers room ≡ wrongList ws scratch reports numbers
+  unfolding readNumbers
+  numbers-refused e = rw e
+
+  pub numbers-read : eqb (length numbers) (4 * room) ≡ true → readNumbers ws scratch m src reports numbers room ≡ read ws scratch m src reports numbers
+  unfolding readNumbers
+  numbers-read e = rw e
+
+-- ---- how many records are stored
+
+module _ (a : ReadAnswer) (room : ℕ) where
+  pub fill-found : a .refusal ≡ 0 → a .segments ≡ toFill a room
+  unfolding toFill
+  fill-found e = rw (eq-eqb (a .refusal) 0 e)
+
+  module _ (some : a .refusal ≢ 0) where
+    pub fill-9 : a .refusal ≡ 9 → room ≡ toFill a room
+    unfolding toFill
+    fill-9 e = rw (ne-eqb (a .refusal) 0 some, eq-eqb (a .refusal) 9 e)
+
+    module _ (not-9 : a .refusal ≢ 9) where
+      pub fill-12 : a .refusal ≡ 12 → room ≡ toFill a room
+      unfolding toFill
+      fill-12 e = rw (ne-eqb (a .refusal) 0 some, ne-eqb (a .refusal) 9 not-9, eq-eqb (a .refusal) 12 e)
+
+      module _ (not-12 : a .refusal ≢ 12) where
+        pub fill-13 : a .refusal ≡ 13 → room ≡ toFill a room
+        unfolding toFill
+        fill-13 e = rw (ne-eqb (a .refusal) 0 some, ne-eqb (a .refusal) 9 not-9, ne-eqb (a .refusal) 12 not-12, eq-eqb (a .refusal) 13 e)
+
+        pub fill-none : a .refusal ≢ 13 → 0 ≡ toFill a room
+        unfolding toFill
+        fill-none e = rw (ne-eqb (a .refusal) 0 some, ne-eqb (a .refusal) 9 not-9, ne-eqb (a .refusal) 12 not-12, ne-eqb (a .refusal) 13 e)

@@ -1,0 +1,65 @@
+-- `t2_read_records::read_numbers` meets its contract.
+use mathlib.Core.Path.{sym, ap, _∙_}
+use Prim.Native.Nat.{ℕ}
+use borrow.Author.Tests.{not-true, not-false}
+use Rattle.t800.specs.Packet.{refusedAnswer}
+use Rattle.t2_read_packet.specs.Answers.{readResult}
+use Rattle.t2_read_records.proofs.Numbers.{numbers-refused, numbers-read}
+use borrow.Author.Needs.{needs}
+use Rattle.t2_read_records.proofs.read_numbers.Statement.{statement}
+use Rattle.t2_read_records.proofs.read_numbers.Tie as tie
+
+four-each-requires : tie.Need-four-each-requires
+four-each-requires c κs = search needs
+
+wrong-list-requires : tie.Need-wrong-list-requires
+wrong-list-requires c κs = search needs
+
+same-length : tie.Need-same-length
+same-length c = search needs
+
+same-length-2 : tie.Need-same-length-2
+same-length-2 c = search needs
+
+returns : tie.Need-returns
+returns c =
+    let a = c .before .before .before .before .before .before .before .before .before .before .args in
+    ap (λ (n : ℕ). readResult (a .state .now) (a .scratch .now) (a .reports .now) (a .numbers .now) (refusedAnswer n)) (c .wrong-list .ensures)
+    ∙ sym (numbers-refused (a .state .now) (a .scratch .now) (a .markers) (a .src .now) (a .reports .now) (a .numbers .now) (a .room) (sym (c .before .before .before .before .four-each .ensures) ∙ not-true _ (c .before .before .before .if1 .taken)))
+
+read-requires : tie.Need-read-requires
+read-requires c κs = search needs
+
+same-length-3 : tie.Need-same-length-3
+same-length-3 c = search needs
+
+same-length-4 : tie.Need-same-length-4
+same-length-4 c = search needs
+
+same-length-5 : tie.Need-same-length-5
+same-length-5 c = search needs
+
+same-length-6 : tie.Need-same-length-6
+same-length-6 c = search needs
+
+returns-2 : tie.Need-returns-2
+returns-2 c =
+    let a = c .before .before .before .before .before .before .before .before .before .before .before .before .before .before .before .before .before .before .before .before .args in
+    c .before .before .before .before .before .before .before .before .read .ensures
+    ∙ sym (numbers-read (a .state .now) (a .scratch .now) (a .markers) (a .src .now) (a .reports .now) (a .numbers .now) (a .room) (sym (c .before .before .before .before .before .before .before .before .before .before .before .before .before .before .four-each .ensures) ∙ not-false _ (c .before .before .before .before .before .before .before .before .before .before .before .before .before .if1 .left)))
+
+pub read-numbers-spec : {M : Type 1} → statement M
+read-numbers-spec =
+    tie.close
+    (tie.spec
+    four-each-requires
+    wrong-list-requires
+    same-length
+    same-length-2
+    returns
+    read-requires
+    same-length-3
+    same-length-4
+    same-length-5
+    same-length-6
+    returns-2)

@@ -1,0 +1,178 @@
+-- Blocks read one after another into lent lists: `Laws.Follows` says that this is t800's reading, where that ends without a refusal, and
+-- that the refusal is the same.
+use Prim.Native.Nat.{ℕ, zero, suc, _+_, _-_, _*_, _/_, _%_, _^_, _≤_, _<_}
+use mathlib.Core.Path.{_≡_}
+use mathlib.Core.Bool.{cond}
+use mathlib.Core.List.{List, [], _∷_, reverse}
+use lib.ListN.{length, getD, set}
+use lib.Dec.{ltb, leb, eqb}
+use Rattle.t800.specs.declared.Bio.{Bio}
+use Rattle.t800.specs.Base.{overwrite}
+use Rattle.t800.specs.Bits.{getBit, readBits}
+use Rattle.t800.specs.TagTree.{value, readPath}
+use Rattle.t800.specs.PassCount.{readPasses}
+use Rattle.t800.specs.Segments.{width}
+use Rattle.t800.specs.Reports.{reportWords, recordWords}
+use Rattle.t800.specs.State.{Block, notYetPlanes, lengthBits}
+use Rattle.t800.specs.WriteHeader.{isNew}
+use Rattle.t800.specs.ReadHeader.{HeaderRead, opensSegment, currentLimit, currentPasses, passesTaken, readZeroPlanesFrom}
+use Rattle.lists.specs.Rows.{putRow}
+use Rattle.tgt.specs.Path.{pathOver}
+use Rattle.tgt_read.specs.Reading.{ValueAfter}
+use Rattle.t2_codes.specs.CommaCode.{readCommaLimited}
+use Rattle.t2_write_lengths.specs.declared.Place.{Place}
+use Rattle.t2_write_block.specs.Runs.{placeAt}
+use Rattle.t2_read_segments.specs.declared.Run.{Run}
+
+-- the lent words, reports and records, where the bits stand, how many records there are, and the refusal, or 0
+pub record Reading : Type 0 where
+  pub words : List ℕ
+  pub reports : List ℕ
+  pub records : List ℕ
+  pub bio : Bio
+  pub count : ℕ
+  pub refusal : ℕ
+
+abbrev pub reading : List ℕ → List ℕ → List ℕ → Run → Reading
+reading ws reports records r = record { words = ws; reports = reports; records = records; bio = r .bio; count = r .count; refusal = r .refusal }
+
+-- segments leave the reports as they are, whatever these hold
+abbrev pub WithAnyReports : (List ℕ → Reading) → (List ℕ → Reading) → Type 0
+WithAnyReports a b = (reports : List ℕ) → a reports ≡ b reports
+
+-- ---- what the code does
+
+-- refused, or with other words and bits, or with a report or a record put
+abbrev pub stopped : ℕ → Reading → Reading
+stopped why a = record { words = a .words; reports = a .reports; records = a .records; bio = a .bio; count = a .count; refusal = why }
+
+abbrev pub movedOn : List ℕ → Bio → Reading → Reading
+movedOn ws b a = record { words = ws; reports = a .reports; records = a .records; bio = b; count = a .count; refusal = 0 }
+
+abbrev pub reported : ℕ → ℕ → ℕ → ℕ → ℕ → Reading → Reading
+reported i inclusion zeroPlanes planes passes a =
+    record { words = a .words; reports = putRow (a .reports) i inclusion zeroPlanes planes passes; records = a .records; bio = a .bio; count = a .count; refusal = a .refusal }
+
+abbrev pub recorded : ℕ → ℕ → ℕ → ℕ → Reading → Reading
+recorded i opens passes bytes a =
+    record { words = a .words; reports = a .reports; records = putRow (a .records) (a .count) i opens passes bytes; bio = a .bio; count = a .count + 1; refusal = a .refusal }
+
+-- one segment of block number i, with n passes
+unfoldable pub nextSegment : List ℕ → ℕ → Block → ℕ → Reading → Reading
+nextSegment src i k n a =
+    let ws = a .words in
+    let w = width (lengthBits ws (k .at)) n in
+    let len = readBits src w (a .bio) in
+    let after = set (set ws (k .at + 2) (currentLimit ws k)) (k .at + 3) (currentPasses ws k + n) in
+    let done = recorded i (cond (opensSegment ws k) 1 0) n (len .value) (movedOn after (len .bio) a) in
+    cond (ltb 32 w) (stopped 9 a) (cond (leb (length (a .records) / 4) (a .count)) (stopped 13 a) done)
+
+-- the segments of `left` more passes, if there are any; f bounds them
+unfoldable pub nextSegments : List ℕ → ℕ → Block → ℕ → ℕ → Reading → Reading
+nextSegments src i k zero left a = a
+nextSegments src i k (suc f) left a =
+    let n = passesTaken (a .words) k left in
+    let b = nextSegment src i k n a in
+    let more = nextSegments src i k f (left - n) b in
+    let some = cond (eqb (b .refusal) 0) more b in
+    cond (ltb 0 left) some a
+
+-- pass count and increment, behind so many passes with those length bits, of the block whose words begin at `at`
+unfoldable pub passesRead : List ℕ → ℕ → ℕ → ℕ → List ℕ → Bio → ValueAfter
+passesRead src at passes bits ws b =
+    let n = readPasses src b in
+    let more = readCommaLimited src (n .bio) in
+    record { words = set (set ws at (passes + n .value)) (at + 1) (bits + more .value); bio = more .bio; value = n .value }
+
+abbrev pub segmentsAfter : List ℕ → ℕ → Block → ValueAfter → Reading → Reading
+segmentsAfter src i k c a = nextSegments src i k (c .value) (c .value) (movedOn (c .words) (c .bio) a)
+
+-- an included block behind its inclusion: for the first time, or again
+unfoldable pub nextFirst : List ℕ → ℕ → Block → Reading → Reading
+nextFirst src i k a =
+    let z = readZeroPlanesFrom src k (notYetPlanes + 2) 0 (a .words) (a .bio) in
+    let v = value (z .words) (k .zeroTree + 3 * k .leaf) in
+    let c = passesRead src (k .at) 0 3 (z .words) (z .bio) in
+    segmentsAfter src i k c (reported i 1 v ((k .planes + 2 ^ 32 - v) % 2 ^ 32) (c .value) a)
+
+unfoldable pub nextAgain : List ℕ → ℕ → Block → Reading → Reading
+nextAgain src i k a =
+    let c = passesRead src (k .at) (getD (a .words) (k .at) 0) (getD (a .words) (k .at + 1) 0) (a .words) (a .bio) in
+    segmentsAfter src i k c (reported i 2 0 0 (c .value) a)
+
+-- a block without passes so far, in layer t, and one with passes
+unfoldable pub nextNew : List ℕ → ℕ → ℕ → Block → Reading → Reading
+nextNew src t i k a =
+    let w = readPath src (k .inclTree) (t + 1) (reverse (k .path)) 0 (a .words) (a .bio) in
+    let b = movedOn (w .words) (w .bio) a in
+    let included = nextFirst src i k b in
+    let notIncluded = reported i 0 0 0 0 b in
+    cond (ltb (value (w .words) (k .inclTree + 3 * k .leaf)) (t + 1)) included notIncluded
+
+unfoldable pub nextOld : List ℕ → ℕ → Block → Reading → Reading
+nextOld src i k a =
+    let bit = getBit src (a .bio) in
+    let b = movedOn (a .words) (bit .bio) a in
+    let included = nextAgain src i k b in
+    let notIncluded = reported i 0 0 0 0 b in
+    cond (eqb (bit .value) 0) notIncluded included
+
+unfoldable pub nextBlock : List ℕ → ℕ → ℕ → Block → Reading → Reading
+nextBlock src t i k a =
+    let new = nextNew src t i k a in
+    let old = nextOld src i k a in
+    cond (isNew (a .words) k) new old
+
+-- the blocks from number i on
+unfoldable pub nextBlocks : List ℕ → ℕ → ℕ → List Block → Reading → Reading
+nextBlocks src t i [] a = a
+nextBlocks src t i (k ∷ ks) a =
+    let b = nextBlock src t i k a in
+    let more = nextBlocks src t (i + 1) ks b in
+    cond (eqb (b .refusal) 0) more b
+
+-- ---- blocks of a row
+
+-- a block in a row that begins with these nodes on each level, in a band with so many planes
+abbrev pub blockIn : Place → List ℕ → ℕ → Block
+blockIn p row planes = record { inclTree = p .incl; zeroTree = p .zero; leaf = getD row 0 0 + p .x; path = pathOver row (p .depth) (p .x); at = p .at; planes = planes }
+
+-- n blocks from number i of the row on
+unfoldable pub blocksOfRow : Place → List ℕ → ℕ → ℕ → ℕ → List Block
+blocksOfRow p row planes zero i = []
+blocksOfRow p row planes (suc n) i = blockIn (placeAt p i) row planes ∷ blocksOfRow p row planes n (i + 1)
+
+-- ---- what reading asks for
+
+-- at most eight bits are held, and the place is at most one behind the input's end
+pub record BitsIn (src : List ℕ) (b : Bio) : Type 0 where
+  pub few : b .ct ≤ 8
+  pub place : b .bp ≤ length src + 1
+
+-- what refusal 5 establishes of a block's words
+
+-- the open segment isn't more than full
+pub record SegmentFits (ws : List ℕ) (at : ℕ) : Type 0 where
+  pub used : getD ws (at + 3) 0 ≤ getD ws (at + 2) 0
+  pub limit : getD ws (at + 2) 0 ≤ 109
+
+pub record BlockFits (ws : List ℕ) (at : ℕ) : Type 0 where
+  pub passes : getD ws at 0 + 164 < 2 ^ 32
+  pub bits : getD ws (at + 1) 0 ≤ 32
+  pub segment : SegmentFits ws at
+
+-- of n blocks, the first's words at `at`
+abbrev pub BlocksFit : List ℕ → ℕ → ℕ → Type 0
+BlocksFit ws at n = (i : ℕ) → i < n → BlockFits ws (at + 4 * i)
+
+-- ---- what is held in lent lists
+
+-- the reports and records of r over the lists as they were lent
+abbrev pub heldBy : List ℕ → List ℕ → HeaderRead → Reading
+heldBy reports records r =
+    record { words = r .words; reports = overwrite reports (reportWords (r .reports)); records = overwrite records (recordWords (r .records)); bio = r .bio; count = length (r .records); refusal = r .refusal }
+
+-- a ended as r did: the refusal is the same, and where there is none everything that was read is held
+pub record Follows (reports records : List ℕ) (a : Reading) (r : HeaderRead) : Type 0 where
+  pub refuses : a .refusal ≡ r .refusal
+  pub holds : r .refusal ≡ 0 → a ≡ heldBy reports records r

@@ -1,0 +1,22 @@
+-- Segment records as structs and as numbers, four to a record.
+use mathlib.Core.List.{List, [], _∷_}
+use Prim.Native.Nat.{ℕ, zero, suc, _+_, _*_}
+use lib.ListN.{getD, set}
+use Rattle.t2_records.specs.declared.Segment.{Segment}
+
+-- the order of t800's `recordWords`
+unfoldable pub wordsOf : List Segment → List ℕ
+wordsOf [] = []
+wordsOf (s ∷ ss) = s .block ∷ s .opens ∷ s .passes ∷ s .bytes ∷ wordsOf ss
+
+-- record i of the numbers; past the end they are 0
+unfoldable pub segmentAt : List ℕ → ℕ → Segment
+segmentAt ws i = record { block = getD ws (i * 4 + 0) 0; opens = getD ws (i * 4 + 1) 0; passes = getD ws (i * 4 + 2) 0; bytes = getD ws (i * 4 + 3) 0 }
+
+-- records f 0, f 1, .. stored at the first n places, in order
+unfoldable pub stored : (ℕ → Segment) → ℕ → List Segment → List Segment
+stored f zero rs = rs
+stored f (suc n) rs = set (stored f n rs) n (f n)
+
+abbrev pub filled : List ℕ → ℕ → List Segment → List Segment
+filled ws = stored (segmentAt ws)

@@ -1,0 +1,60 @@
+// The caller's list of segment records as structs, written one record at a time from numbers.
+ghost use mathlib.Core.Path.{_≡_};
+ghost use Prim.Native.Nat.{_≤_, _+_, _*_};
+ghost use lib.ListN.{set, getD};
+ghost use Rattle.t2_records.specs.Segments.{segmentAt, filled};
+
+// Block number; 1 if the record opens a segment, else 0; passes; length.
+#[repr(C)]
+pub struct Segment {
+    pub block: u32,
+    pub opens: u32,
+    pub passes: u32,
+    pub bytes: u32,
+}
+
+// A record is stored where there is room for it.
+pub fn put_segment(records: &mut [Segment], at: usize, s: Segment)
+    ensures { λ _. ⌜ now (records .exit) ≡ set (now (records .entry)) at s ⌝ }
+{
+    if at < records.len() {
+        records[at] = s;
+    }
+}
+
+// Word k of record i, and 0 past the end.
+fn word(words: &[u32], i: usize, k: usize) -> u32
+    requires { ⌜ k ≤ 3 ⌝ }
+    ensures { λ r. ⌜ r ≡ getD (now (words .entry)) (i * 4 + k) 0 ⌝ }
+{
+    if i < words.len() {
+        let at = i * 4 + k;
+        if at < words.len() {
+            return words[at];
+        }
+    }
+    0
+}
+
+pub fn segment_at(words: &[u32], i: usize) -> Segment
+    ensures { λ r. ⌜ r ≡ segmentAt (now (words .entry)) i ⌝ }
+{
+    Segment {
+        block: word(words, i, 0),
+        opens: word(words, i, 1),
+        passes: word(words, i, 2),
+        bytes: word(words, i, 3),
+    }
+}
+
+// The first n records are stored from the numbers.
+pub fn fill(records: &mut [Segment], words: &[u32], n: usize)
+    ensures { λ _. ⌜ now (records .exit) ≡ filled (now (words .entry)) n (now (records .entry)) ⌝ }
+{
+    let mut i = 0;
+    while i < n {
+        let s = segment_at(words, i);
+        put_segment(records, i, s);
+        i += 1;
+    }
+}

@@ -1,0 +1,72 @@
+-- `t2_widths::blocks_up_to_25_bits` meets its contract.
+use Prim.Native.Nat.{_*_, _+_, _-_, _≤_}
+use lib.Dec.{leb}
+use mathlib.Core.Path.{_≡_, refl}
+use native.Mathlib.Omega.{arith}
+use Rattle.t800.specs.Base.{every}
+use Rattle.t800.specs.State.{lengthBits}
+use Rattle.tcd_shape.specs.Parts.{fault}
+use Rattle.tcd_state.proofs.Laws.Faults.{faults-end, faults-turn}
+use Rattle.t2_widths.proofs.blocks_up_to_25_bits.Statement.{statement}
+use Rattle.t2_widths.proofs.blocks_up_to_25_bits.Tie as tie
+
+abbrev Inv-loop : tie.InvT-loop
+Inv-loop state at n faults₀ i₀ faults i = (i ≤ n) × (faults ≡ fault (every i (λ k. leb (lengthBits state (at + 4 * k)) 25)))
+
+abbrev μ-loop : tie.MeasureT-loop
+μ-loop state at n faults₀ i₀ faults i = n - i
+
+loop-holds : tie.Need-loop-holds Inv-loop μ-loop
+unfolding every
+loop-holds c = (omega arith, refl)
+
+mul-block : tie.Need-mul-block Inv-loop μ-loop
+mul-block c = omega arith
+
+add-block : tie.Need-add-block Inv-loop μ-loop
+add-block c = omega arith
+
+add-over : tie.Need-add-over Inv-loop μ-loop
+add-over c = omega arith
+
+mul-over : tie.Need-mul-over Inv-loop μ-loop
+mul-over c = omega arith
+
+shared-slice-read-over : tie.Need-shared-slice-read-over Inv-loop μ-loop
+shared-slice-read-over c = omega arith
+
+over-requires : tie.Need-over-requires Inv-loop μ-loop
+over-requires c κs = omega arith
+
+add-i : tie.Need-add-i Inv-loop μ-loop
+add-i c = omega arith
+
+loop-less : tie.Need-loop-less Inv-loop μ-loop
+loop-less c = omega arith
+
+loop-again : tie.Need-loop-again Inv-loop μ-loop
+loop-again c =
+    let l = c .before .before .before .loop in
+    let s = c .before .before .before .before .before .args in
+    (omega arith, faults-turn (λ k. leb (lengthBits (s .state .now) (s .at + 4 * k)) 25) (l .i) (l .faults) _ (l .inv .1) (c .over .ensures))
+
+returns : tie.Need-returns Inv-loop μ-loop
+returns c = let l = c .before .loop in let s = c .before .before .before .args in faults-end (λ k. leb (lengthBits (s .state .now) (s .at + 4 * k)) 25) (s .n) (l .i) (l .faults) (omega arith) (l .inv .1)
+
+pub blocks-up-to-25-bits-spec : {M : Type 1} → statement M
+blocks-up-to-25-bits-spec =
+    tie.close
+    (tie.spec
+    Inv-loop
+    μ-loop
+    loop-holds
+    mul-block
+    add-block
+    add-over
+    mul-over
+    shared-slice-read-over
+    over-requires
+    add-i
+    loop-less
+    loop-again
+    returns)

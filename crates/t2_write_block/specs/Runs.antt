@@ -1,0 +1,82 @@
+-- Blocks one after another, with the lists whole and the places in them running on: `Laws.Running` says that this is t800's coding and
+-- setting of what is left of the lists.
+use Prim.Native.Nat.{ℕ, zero, suc, _+_, _*_, _≤_, _<_}
+use mathlib.Core.Path.{_≡_}
+use mathlib.Core.Bool.{cond, _&&_}
+use mathlib.Core.List.{List, [], _∷_}
+use lib.Dec.{ltb}
+use lib.ListN.{length, getD, take, drop}
+use Rattle.t800.specs.Segments.{segmentsOf}
+use Rattle.t800.specs.State.{Block}
+use Rattle.t800.specs.TagTree.{Coded, setValue}
+use Rattle.t800.specs.WriteHeader.{isNew, codeBlock}
+use Rattle.bio_bytes.specs.Writing.{Output, output, putBits}
+use Rattle.tgt.specs.Path.{PathIn}
+use Rattle.t2_write_lengths.specs.declared.Place.{Place}
+use Rattle.t2_write_block.specs.declared.Run.{Run}
+use Rattle.t2_write_lengths.specs.Blocks.{blockOver, PassesFit}
+
+-- ---- coding
+
+-- words, output, and how many blocks and passes of the lists are behind
+pub record Running : Type 0 where
+  pub words : List ℕ
+  pub output : Output
+  pub block : ℕ
+  pub pass : ℕ
+
+abbrev pub running : List ℕ → List ℕ → Run → Running
+running ws bytes r = record { words = ws; output = output bytes (r .bio); block = r .block; pass = r .pass }
+
+abbrev pub behindCoded : Running → ℕ → Coded → Running
+behindCoded s c b = record { words = b .words; output = putBits (s .output) (b .bits); block = s .block + 1; pass = s .pass + c }
+
+-- in layer t, by counts, lengths and marks
+unfoldable pub codeNext : ℕ → List ℕ → List ℕ → List ℕ → Block → Running → Running
+codeNext t cs ls ms k s =
+    let c = getD cs (s .block) 0 in
+    behindCoded s c (codeBlock t k c (segmentsOf (take c (drop (s .pass) ls)) (take c (drop (s .pass) ms))) (s .words))
+
+unfoldable pub codeAll : ℕ → List ℕ → List ℕ → List ℕ → List Block → Running → Running
+codeAll t cs ls ms [] s = s
+codeAll t cs ls ms (k ∷ ks) s = codeAll t cs ls ms ks (codeNext t cs ls ms k s)
+
+-- ---- blocks of a row
+
+abbrev pub placeAt : Place → ℕ → Place
+placeAt p i = record { incl = p .incl; zero = p .zero; depth = p .depth; x = p .x + i; at = p .at + 4 * i }
+
+-- n blocks from number i of the row on
+unfoldable pub rowBlocks : Place → List ℕ → ℕ → ℕ → List Block
+rowBlocks p row zero i = []
+rowBlocks p row (suc n) i = blockOver (placeAt p i) row ∷ rowBlocks p row n (i + 1)
+
+-- ---- what the checks before coding establish
+
+-- the block at `at` has a count, its passes have lengths and marks, and they can be coded
+pub record NextFits (cs ls ms ws : List ℕ) (at block pass : ℕ) : Type 0 where
+  pub counted : block < length cs
+  pub many : pass + getD cs block 0 ≤ length ls
+  pub marked : length ms ≡ length ls
+  pub passes : PassesFit (getD ws at 0) (getD ws (at + 1) 0) (getD cs block 0) (take (getD cs block 0) (drop pass ls)) (take (getD cs block 0) (drop pass ms))
+
+abbrev pub AllFit : List ℕ → List ℕ → List ℕ → List ℕ → List Block → ℕ → ℕ → Type 0
+AllFit cs ls ms ws [] block pass = Unit {0}
+AllFit cs ls ms ws (k ∷ ks) block pass = NextFits cs ls ms ws (k .at) block pass × AllFit cs ls ms ws ks (block + 1) (pass + getD cs block 0)
+
+-- n blocks of a row: the trees lie before them, and they in a list of so many words
+pub record RowIn (size : ℕ) (p : Place) (row : List ℕ) (n : ℕ) : Type 0 where
+  pub incl : (i : ℕ) → i < n → PathIn (p .at) (p .incl) row (p .depth) (p .x + i)
+  pub zero : (i : ℕ) → i < n → PathIn (p .at) (p .zero) row (p .depth) (p .x + i)
+  pub inside : p .at + 4 * n ≤ size
+  pub small : p .x + n ≤ 64
+
+-- ---- setting
+
+-- a block that is new in layer t is set in its inclusion tree
+unfoldable pub setNext : ℕ → Block → ℕ → List ℕ → List ℕ
+setNext t k c ws = cond (isNew ws k && ltb 0 c) (setValue (k .inclTree) (k .path) t ws) ws
+
+unfoldable pub setAll : ℕ → List ℕ → List Block → ℕ → List ℕ → List ℕ
+setAll t cs [] block ws = ws
+setAll t cs (k ∷ ks) block ws = setAll t cs ks (block + 1) (setNext t k (getD cs block 0) ws)

@@ -1,0 +1,61 @@
+-- A header that nothing refuses: how long it is, and its parts together.
+use mathlib.Core.Path.{_≡_, ap, _∙_}
+use mathlib.Core.List.{List, _∷_}
+use Prim.Native.Nat.{ℕ, _+_, _*_, _≤_, _<_}
+use native.Mathlib.Omega.{arith}
+use lib.ListN.{length, set}
+use Rattle.t800.specs.declared.Band.{Band}
+use Rattle.t800.specs.Bits.{pack}
+use Rattle.t800.specs.State.{writer, layer, bands, blocks, stateLength}
+use Rattle.t800.specs.TagTree.{Coded}
+use Rattle.t800.specs.WriteHeader.{Contribution, setNewBlocks, codeHeader}
+use Rattle.t800.proofs.Laws.HeaderBits.{bits-blocks}
+use Rattle.t800.proofs.Laws.Layout.{layoutOf, blocks-placed}
+use Rattle.t800.proofs.Laws.Pack.{AreBits}
+use Rattle.round_trip.proofs.Trip.HeaderLength.{packed-up-to, header-up-to}
+use Rattle.round_trip.proofs.Trip.WriterState.{headerBlocks}
+use Rattle.bio_bytes.specs.Writing.{Output, output, emptyAt, lastPlace, putBit, putBits, flush}
+use Rattle.bio_write.proofs.Laws.Packed.{flushed-is-packed, packed-place}
+use Rattle.tcd_state.proofs.Laws.ValidStates.{valid-state, block-known, block-bounds}
+use Rattle.tgt_write.specs.Coding.{LeafCoded, putCoded}
+use Rattle.t2_refusals.proofs.Laws.NotRefused.{NotRefused}
+use Rattle.t2_refusals.proofs.Laws.RefusalParts.{blocks-of-valid}
+use Rattle.t2_write_header.specs.Header.{headerCoded, putHeader}
+
+module _ (ws : List ℕ) (n : ℕ) (p : Contribution) (r : NotRefused ws n p) where
+  abbrev all : Coded
+  all = headerBlocks (layer ws) (blocks (bands ws)) p ws
+
+  pub layer-left : layer ws < 999
+  layer-left = omega (arith, r .layer-left, valid-state writer ws n (r .valid) .layer-up-to)
+
+  bits-up-to : length (all .bits) ≤ 20000 * 12288
+  unfolding stateLength
+  bits-up-to =
+      let s = valid-state writer ws n (r .valid) in
+      let k = header-up-to (layoutOf (bands ws)) (layer ws) (bands ws) p ws layer-left (blocks-placed (bands ws)) (s .length-is)
+      (λ q b. block-bounds ws q (block-known ws 13 (bands ws) q (s .ranges) b) .0)
+      (record { counts = r .counts-are; lengths = r .lengths-are; marks = r .marks-are; few = r .few; fits = r .none-wide }) in
+      omega (arith, k, blocks-of-valid ws n (r .valid))
+
+  pub header-small : length (pack (codeHeader p ws .bits)) ≤ 250000000
+  unfolding codeHeader
+  header-small = omega (arith, packed-up-to (1 ∷ all .bits), bits-up-to)
+
+  are-bits : AreBits (1 ∷ all .bits)
+  are-bits = (omega arith, bits-blocks (layer ws) (blocks (bands ws)) (p .counts) (p .lengths) (p .marks) (setNewBlocks (layer ws) (blocks (bands ws)) (p .counts) ws))
+
+  -- the first bit, the blocks, the last byte, and the next layer
+  pub header-is : (start : ℕ) (bytes : List ℕ) (bs : List Band) (o e : Output) (x : LeafCoded) (vs : List ℕ) → start ≤ 6 → length bytes ≤ lastPlace → bs ≡ bands ws
+      → o ≡ putBit (output bytes (emptyAt start)) 1 → x ≡ putCoded o (headerBlocks (layer ws) (blocks bs) p ws) → e ≡ flush (x .output) → vs ≡ set (x .words) 3 (layer ws + 1)
+      → headerCoded vs (e .bytes) (e .bio .bp) ≡ putHeader p ws start bytes
+  unfolding putHeader codeHeader putBits
+  header-is start bytes bs o e x vs h l n a b′ c d =
+      let b : x ≡ putCoded o all = b′ ∙ ap (λ (z : List Band). putCoded o (headerBlocks (layer ws) (blocks z) p ws)) n in
+      let bits : List ℕ = 1 ∷ all .bits in
+      let done : Output = flush (putBits (output bytes (emptyAt start)) bits) in
+      let f : e ≡ done = c ∙ ap (λ (y : LeafCoded). flush (y .output)) b ∙ ap (λ (y : Output). flush (putBits y (all .bits))) a in
+      let g : vs ≡ set (all .words) 3 (layer ws + 1) = d ∙ ap (λ (y : LeafCoded). set (y .words) 3 (layer ws + 1)) b in
+      let q = flushed-is-packed bytes start bits are-bits l .stored in
+      let place = packed-place bytes start bits are-bits l (omega (arith, packed-up-to bits, bits-up-to)) in
+      (λ i. headerCoded (g i) (f i .bytes) (f i .bio .bp)) ∙ (λ i. headerCoded (set (all .words) 3 (layer ws + 1)) (q i) (place i))

@@ -1,0 +1,78 @@
+// The packet less its body, and the body behind it: stored where the output has room.
+ghost use mathlib.Core.Path.{_≡_};
+ghost use mathlib.Core.Bool.{cond};
+ghost use mathlib.Core.List.{[]};
+ghost use Prim.Native.Nat.{_+_, _^_, _≤_};
+ghost use lib.Dec.{leb};
+ghost use lib.ListN.{length};
+ghost use Rattle.t800.specs.MarkerSegments.{sopBytes, ephBytes};
+ghost use Rattle.t2_refusals.specs.Refusals.{contribution, measureRefusalFor};
+ghost use Rattle.t2_write_header.specs.Header.{headerCoded};
+ghost use Rattle.t2_write_packet.specs.Front.{bytesPut, putBytes, putFront};
+use t800::Markers;
+use tcd_style::Marker;
+
+// The place behind it.
+fn put_sop(out: &mut [u8], used: bool, number: u32) -> usize
+    ensures { λ r. ⌜ bytesPut (now (out .exit)) r ≡ putBytes (bytesPut (now (out .entry)) 0) (cond used (sopBytes number) []) ⌝ }
+{
+    if !used {
+        return 0;
+    }
+    bio_bytes::store(out, 0, Marker::FIRST);
+    bio_bytes::store(out, 1, Marker::SOP.second);
+    bio_bytes::store(out, 2, 0);
+    bio_bytes::store(out, 3, Marker::LSOP);
+    bio_bytes::store(out, 4, ((number >> 8) & 0xff) as u8);
+    bio_bytes::store(out, 5, (number & 0xff) as u8);
+    Marker::SOP.bytes
+}
+
+fn put_eph(out: &mut [u8], used: bool, at: usize) -> usize
+    requires { ⌜ at ≤ 2 ^ 32 ⌝ }
+    ensures { λ r. ⌜ bytesPut (now (out .exit)) r ≡ putBytes (bytesPut (now (out .entry)) at) (cond used ephBytes []) ⌝ }
+{
+    if !used {
+        return at;
+    }
+    bio_bytes::store(out, at, Marker::FIRST);
+    bio_bytes::store(out, at + 1, Marker::EPH.second);
+    at + Marker::EPH.bytes
+}
+
+// SOP, header and EPH. The scratch holds the state.
+pub fn put_front(
+    scratch: &mut [u32],
+    output: &mut [u8],
+    counts: &[u32],
+    lengths: &[u32],
+    marks: &[u8],
+    markers: Markers,
+    number: u32,
+) -> usize
+    requires { ⌜ measureRefusalFor (now scratch) (length (now scratch)) (contribution (now counts) (now lengths) (now marks)) ≡ 0 ⌝ }
+    ensures { λ r. ⌜ headerCoded (now (scratch .exit)) (now (output .exit)) r ≡ putFront (contribution (now (counts .entry)) (now (lengths .entry)) (now (marks .entry))) (now (scratch .entry)) markers number (now (output .entry)) ⌝ }
+{
+    let start = put_sop(output, markers.sop, number);
+    let end = t2_write_header::encode_header(scratch, output, start, counts, lengths, marks);
+    put_eph(output, markers.eph, end)
+}
+
+// An output of so many bytes, for both parts of a packet.
+pub fn has_room(bytes: usize, front: usize, body: usize) -> bool
+    ensures { λ r. ⌜ r ≡ leb (front + body) bytes ⌝ }
+{
+    if bytes < front {
+        return false;
+    }
+    body <= bytes - front
+}
+
+pub fn put_body(out: &mut [u8], at: usize, body: &[u8]) -> usize
+    requires { ⌜ at + length (now body) ≤ length (now out) ⌝ }
+    ensures { λ r. ⌜ bytesPut (now (out .exit)) r ≡ putBytes (bytesPut (now (out .entry)) at) (now (body .entry)) ⌝ }
+{
+    let end = at + body.len();
+    lists::copy_bytes(body, &mut out[at..end]);
+    end
+}

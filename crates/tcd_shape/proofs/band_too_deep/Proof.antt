@@ -1,0 +1,75 @@
+-- `tcd_shape::band_too_deep` meets its contract.
+use Prim.Native.Nat.{_-_, _≤_}
+use borrow.Author.Needs.{needs}
+use borrow.Author.Tests.{le-ltb, lt-ltb}
+use lib.Dec.{ltb}
+use lib.ListN.{drop, length, take}
+use mathlib.Core.Path.{_∙_, _≡_, refl, sym}
+use native.Mathlib.Omega.{arith}
+use Rattle.t800.specs.Base.{any}
+use Rattle.t800.specs.Ranges.{bandTooDeep}
+use Rattle.t800.specs.declared.Band.{Band}
+use Rattle.tcd_layout.proofs.Laws.Bands.{next-band, no-more-bands}
+use Rattle.tcd_shape.proofs.Laws.AnyOf.{any-here, any-later}
+use Rattle.tcd_shape.proofs.band_too_deep.Statement.{statement}
+use Rattle.tcd_shape.proofs.band_too_deep.Tie as tie
+
+abbrev Inv-loop : tie.InvT-loop
+Inv-loop n bands i₀ i = (i ≤ n) × (bandTooDeep (drop i (take n bands)) ≡ bandTooDeep (take n bands))
+
+abbrev μ-loop : tie.MeasureT-loop
+μ-loop n bands i₀ i = n - i
+
+loop-holds : tie.Need-loop-holds Inv-loop μ-loop
+loop-holds c = (omega arith, refl)
+
+mul-band : tie.Need-mul-band Inv-loop μ-loop
+mul-band c = omega arith
+
+array-copy-out-band : tie.Need-array-copy-out-band Inv-loop μ-loop
+array-copy-out-band c = omega arith
+
+returns : tie.Need-returns Inv-loop μ-loop
+unfolding bandTooDeep
+returns c =
+    let s = c .before .before .before .before .before in
+    let l = c .before .before .before .before .loop in
+    let g : length (s .args .t1) ≡ 3 = search needs in
+    sym (any-here (λ (b : Band). ltb 998 (b .planes)) _ _ _ (next-band (s .args .t1) (s .args .n) (l .i) (omega arith) (omega arith)) (lt-ltb _ _ (c .if1 .taken))) ∙ l .inv .1
+
+add-i : tie.Need-add-i Inv-loop μ-loop
+add-i c = omega arith
+
+loop-less : tie.Need-loop-less Inv-loop μ-loop
+loop-less c = omega arith
+
+loop-again : tie.Need-loop-again Inv-loop μ-loop
+unfolding bandTooDeep
+loop-again c =
+    let s = c .before .before .before .before .before in
+    let l = c .before .before .before .before .loop in
+    let g : length (s .args .t1) ≡ 3 = search needs in
+    (omega arith, sym (any-later (λ (b : Band). ltb 998 (b .planes)) _ _ _ (next-band (s .args .t1) (s .args .n) (l .i) (omega arith) (omega arith)) (le-ltb _ _ (c .if1 .left))) ∙ l .inv .1)
+
+returns-2 : tie.Need-returns-2 Inv-loop μ-loop
+unfolding any bandTooDeep
+returns-2 c =
+    let l = c .before .loop in
+    let s = c .before .before in
+    let z = no-more-bands (s .args .t1) (s .args .n) (l .i) (omega arith) in
+    rw z at (l .inv .1)
+
+pub band-too-deep-spec : {M : Type 1} → statement M
+band-too-deep-spec =
+    tie.close
+    (tie.spec
+    Inv-loop
+    μ-loop
+    loop-holds
+    mul-band
+    array-copy-out-band
+    returns
+    add-i
+    loop-less
+    loop-again
+    returns-2)

@@ -1,0 +1,33 @@
+-- `tcd_state::length_bits_fault` meets its contract.
+use borrow.Author.Needs.{needs}
+use lib.Bits.{bitOr}
+use lib.Dec.{leb}
+use mathlib.Core.Path.{_∙_, ap, ap₂}
+use Rattle.tcd_state.proofs.Laws.Faults.{fault-both}
+use Rattle.tcd_state.proofs.Laws.RangeParts.{length-bits-parts}
+use Rattle.tcd_shape.specs.Parts.{fault}
+use Rattle.tcd_state.proofs.length_bits_fault.Statement.{statement}
+use Rattle.tcd_state.proofs.length_bits_fault.Tie as tie
+
+chosen-requires : tie.Need-chosen-requires
+chosen-requires c κs = search needs
+
+chosen-requires-2 : tie.Need-chosen-requires-2
+chosen-requires-2 c κs = search needs
+
+over-requires : tie.Need-over-requires
+over-requires c κs = search needs
+
+over-requires-2 : tie.Need-over-requires-2
+over-requires-2 c κs = search needs
+
+returns : tie.Need-returns
+returns c =
+    let s = c .before .before .before .before .args in
+    let least = c .before .before .before .chosen .result in
+    let most = c .before .before .chosen2 .result in
+    ap₂ bitOr (c .before .over .ensures) (c .over2 .ensures) ∙ fault-both (leb least (s .bits)) (leb (s .bits) most) ∙ ap fault (length-bits-parts (s .passes) (s .bits) least most (c .before .before .before .chosen .ensures) (c .before .before .chosen2 .ensures))
+
+pub length-bits-fault-spec : {M : Type 1} → statement M
+length-bits-fault-spec =
+    tie.close (tie.spec chosen-requires chosen-requires-2 over-requires over-requires-2 returns)

@@ -1,0 +1,31 @@
+-- `tcd_state::limit_fault` meets its contract.
+use borrow.Author.Needs.{needs}
+use lib.Bits.{bitAnd}
+use lib.Dec.{eqb}
+use mathlib.Core.Bool.{_||_}
+use mathlib.Core.Path.{_∙_, ap₂}
+use Rattle.tcd_state.proofs.Laws.Faults.{fault-either}
+use Rattle.tcd_shape.specs.Parts.{isOneOf}
+use Rattle.tcd_state.proofs.limit_fault.Statement.{statement}
+use Rattle.tcd_state.proofs.limit_fault.Tie as tie
+
+differs-requires : tie.Need-differs-requires
+differs-requires c κs = search needs
+
+differs-requires-2 : tie.Need-differs-requires-2
+differs-requires-2 c κs = search needs
+
+differs-requires-3 : tie.Need-differs-requires-3
+differs-requires-3 c κs = search needs
+
+returns : tie.Need-returns
+unfolding isOneOf
+returns c =
+    let s = c .before .before .before .args in
+    let m = s .limit in
+    ap₂ bitAnd (ap₂ bitAnd (c .before .before .differs .ensures) (c .before .differs2 .ensures) ∙ fault-either (eqb m (s .limits .first)) (eqb m (s .limits .second))) (c .differs3 .ensures)
+    ∙ fault-either (eqb m (s .limits .first) || eqb m (s .limits .second)) (eqb m (s .limits .third))
+
+pub limit-fault-spec : {M : Type 1} → statement M
+limit-fault-spec =
+    tie.close (tie.spec differs-requires differs-requires-2 differs-requires-3 returns)

@@ -1,0 +1,92 @@
+-- `tcd_state::nodes_in_range` meets its contract.
+use Prim.Native.Nat.{_*_, _+_, _-_, _≤_}
+use mathlib.Core.Path.{_≡_, refl}
+use native.Mathlib.Omega.{arith}
+use Rattle.t800.specs.Base.{every}
+use Rattle.t800.specs.Ranges.{nodeInRange}
+use Rattle.tcd_state.proofs.Laws.Faults.{faults-end, faults-turn}
+use Rattle.tcd_shape.specs.Parts.{fault}
+use Rattle.tcd_state.proofs.nodes_in_range.Statement.{statement}
+use Rattle.tcd_state.proofs.nodes_in_range.Tie as tie
+
+abbrev Inv-loop : tie.InvT-loop
+Inv-loop state at n most faults₀ i₀ faults i = (i ≤ n) × (faults ≡ fault (every i (λ k. nodeInRange state most (at + 3 * k))))
+
+abbrev μ-loop : tie.MeasureT-loop
+μ-loop state at n most faults₀ i₀ faults i = n - i
+
+loop-holds : tie.Need-loop-holds Inv-loop μ-loop
+unfolding every
+loop-holds c = (omega arith, refl)
+
+mul-node : tie.Need-mul-node Inv-loop μ-loop
+mul-node c = omega arith
+
+add-node : tie.Need-add-node Inv-loop μ-loop
+add-node c = omega arith
+
+mul-node-fault : tie.Need-mul-node-fault Inv-loop μ-loop
+mul-node-fault c = omega arith
+
+shared-slice-read-node-fault : tie.Need-shared-slice-read-node-fault Inv-loop μ-loop
+shared-slice-read-node-fault c = omega arith
+
+add-node-fault : tie.Need-add-node-fault Inv-loop μ-loop
+add-node-fault c = omega arith
+
+mul-node-fault-2 : tie.Need-mul-node-fault-2 Inv-loop μ-loop
+mul-node-fault-2 c = omega arith
+
+shared-slice-read-node-fault-2 : tie.Need-shared-slice-read-node-fault-2 Inv-loop μ-loop
+shared-slice-read-node-fault-2 c = omega arith
+
+add-node-fault-2 : tie.Need-add-node-fault-2 Inv-loop μ-loop
+add-node-fault-2 c = omega arith
+
+mul-node-fault-3 : tie.Need-mul-node-fault-3 Inv-loop μ-loop
+mul-node-fault-3 c = omega arith
+
+shared-slice-read-node-fault-3 : tie.Need-shared-slice-read-node-fault-3 Inv-loop μ-loop
+shared-slice-read-node-fault-3 c = omega arith
+
+node-fault-requires : tie.Need-node-fault-requires Inv-loop μ-loop
+node-fault-requires c κs = omega arith
+
+add-i : tie.Need-add-i Inv-loop μ-loop
+add-i c = omega arith
+
+loop-less : tie.Need-loop-less Inv-loop μ-loop
+loop-less c = omega arith
+
+loop-again : tie.Need-loop-again Inv-loop μ-loop
+unfolding nodeInRange
+loop-again c =
+    let l = c .before .before .before .before .before .loop in
+    let s = c .before .before .before .before .before .before .before .args in
+    (omega arith, faults-turn (λ k. nodeInRange (s .state .now) (s .most) (s .at + 3 * k)) (l .i) (l .faults) _ (l .inv .1) (c .node-fault .ensures))
+
+returns : tie.Need-returns Inv-loop μ-loop
+returns c = let l = c .before .loop in let s = c .before .before .before .args in faults-end (λ k. nodeInRange (s .state .now) (s .most) (s .at + 3 * k)) (s .n) (l .i) (l .faults) (omega arith) (l .inv .1)
+
+pub nodes-in-range-spec : {M : Type 1} → statement M
+nodes-in-range-spec =
+    tie.close
+    (tie.spec
+    Inv-loop
+    μ-loop
+    loop-holds
+    mul-node
+    add-node
+    mul-node-fault
+    shared-slice-read-node-fault
+    add-node-fault
+    mul-node-fault-2
+    shared-slice-read-node-fault-2
+    add-node-fault-2
+    mul-node-fault-3
+    shared-slice-read-node-fault-3
+    node-fault-requires
+    add-i
+    loop-less
+    loop-again
+    returns)
