@@ -1,4 +1,4 @@
--- What the exported calls answer: t800's calls and t2segs's read, with the bands as nine numbers and the answer in a lent list of words.
+-- What the exported calls answer: t800's calls and t2_read_records's read, with the bands as nine numbers and the answer in a lent list of words.
 use Prim.Native.Nat.{ℕ}
 use mathlib.Core.Bool.{cond}
 use mathlib.Core.List.{List, [], _∷_}
