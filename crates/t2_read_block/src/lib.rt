@@ -3,13 +3,12 @@ ghost use mathlib.Core.Path.{_≡_};
 ghost use Prim.Native.Nat.{_+_, _^_, _<_, _≤_};
 ghost use lib.ListN.{length};
 ghost use Rattle.tgt_read.specs.Reading.{valueAfter};
-ghost use Rattle.t2_write_lengths.specs.Blocks.{blockAt, BlockIn};
-ghost use Rattle.t2_write_block.specs.Runs.{RowIn};
-ghost use Rattle.t2_read_segments.specs.Reading.{reading, passesRead, nextFirst, nextAgain, nextNew, nextOld, nextBlock, nextBlocks, blockIn, blocksOfRow, SegmentFits, BlockFits, BlocksFit, BitsIn};
+ghost use Rattle.t2_read_segments.specs.Reading.{reading, passesRead, nextFirst, nextAgain, nextNew, nextOld, nextBlock, nextBlocks, SegmentFits, BlockFits, BlocksFit, BitsIn};
+ghost use Rattle.tcd_places.specs.Places.{BlockIn, RowIn, blockAt, blockIn, rowBlocks};
 use bio_read::Decoded;
 use t2_read_segments::Run;
-use t2_write_lengths::Place;
 use t800::Bio;
+use tcd_places::Place;
 
 // ---- segments
 
@@ -179,12 +178,12 @@ pub fn read_row(
     block: usize,
 ) -> Run
     requires { ⌜ (BitsIn (now src) (r .bio)) × (r .refusal ≡ 0) × (RowIn (length (now words)) p (now row) n) × (layer < 999) × (block + n ≤ 2 ^ 32) × (BlocksFit (now words) (p .at) n) ⌝ }
-    ensures { λ o. ⌜ reading (now (words .exit)) (now (reports .exit)) (now (records .exit)) o ≡ nextBlocks (now (src .entry)) layer block (blocksOfRow p (now (row .entry)) planes n 0) (reading (now (words .entry)) (now (reports .entry)) (now (records .entry)) r) ⌝ }
+    ensures { λ o. ⌜ reading (now (words .exit)) (now (reports .exit)) (now (records .exit)) o ≡ nextBlocks (now (src .entry)) layer block (rowBlocks p (now (row .entry)) planes n 0) (reading (now (words .entry)) (now (reports .entry)) (now (records .entry)) r) ⌝ }
 {
     let mut run = r;
     let mut i: usize = 0;
     while i < n {
-        let place = t2_write_block::place_at(p, i);
+        let place = tcd_places::place_at(p, i);
         let number = block + i;
         run = read_block(
             words,

@@ -7,15 +7,15 @@ ghost use Rattle.t800.specs.TagTree.{levels};
 ghost use Rattle.t800.specs.State.{reader, layer, bands, blocks, endOf};
 ghost use Rattle.t800.specs.Ranges.{validState};
 ghost use Rattle.tcd_layout.specs.Geometry.{AllUpTo64, padded};
-ghost use Rattle.t2_write_new_blocks.specs.Bands.{gridOf, bandBlocks, BandIn};
 ghost use Rattle.t2_read_segments.specs.Reading.{reading, nextBlocks, BitsIn};
+ghost use Rattle.tcd_places.specs.Places.{BandIn, bandBlocks, gridOf};
 ghost use Rattle.t2_read_header.specs.Bands.{BandFits, BandsFit};
 ghost use Rattle.t2_read_header.specs.Header.{ReadsHeader};
 use t2_read_segments::Run;
-use t2_write_new_blocks::Grid;
 use t800::Band;
 use t800::Bio;
 use t800::Level;
+use tcd_places::Grid;
 
 // The refusal at a header's end.
 pub const HEADER_END: u32 = 12;
@@ -38,10 +38,10 @@ fn read_band(
 {
     let mut run = r;
     let mut y: usize = 0;
-    while y < t2_write_new_blocks::rows(band) {
+    while y < tcd_places::rows(band) {
         let mut row = [0usize; 7];
         tgt::opj_tgt_row(tree, g.depth, y, &mut row);
-        let place = t2_write_new_blocks::row_place(g, y);
+        let place = tcd_places::row_place(g, y);
         let before = y * g.w;
         let first = block + before;
         run = t2_read_block::read_row(
@@ -87,7 +87,7 @@ fn read_bands(
     while i < n {
         let band = bands[i];
         let tree = trees[i];
-        let g = t2_write_new_blocks::grid_of(band, start);
+        let g = tcd_places::grid_of(band, start);
         run = read_band(
             words,
             reports,
@@ -103,7 +103,7 @@ fn read_bands(
         if run.refusal != 0 {
             return run;
         }
-        start = t2_write_new_blocks::grid_end(band, g);
+        start = tcd_places::grid_end(band, g);
         block += tcd_layout::band_blocks(band);
         i += 1;
     }

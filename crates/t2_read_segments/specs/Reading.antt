@@ -17,11 +17,8 @@ use Rattle.t800.specs.State.{Block, notYetPlanes, lengthBits}
 use Rattle.t800.specs.WriteHeader.{isNew}
 use Rattle.t800.specs.ReadHeader.{HeaderRead, opensSegment, currentLimit, currentPasses, passesTaken, readZeroPlanesFrom}
 use Rattle.lists.specs.Rows.{putRow}
-use Rattle.tgt.specs.Path.{pathOver}
 use Rattle.tgt_read.specs.Reading.{ValueAfter}
 use Rattle.t2_codes.specs.CommaCode.{readCommaLimited}
-use Rattle.t2_write_lengths.specs.declared.Place.{Place}
-use Rattle.t2_write_block.specs.Runs.{placeAt}
 use Rattle.t2_read_segments.specs.declared.Run.{Run}
 
 -- the lent words, reports and records, where the bits stand, how many records there are, and the refusal, or 0
@@ -130,17 +127,6 @@ nextBlocks src t i (k ∷ ks) a =
     let b = nextBlock src t i k a in
     let more = nextBlocks src t (i + 1) ks b in
     cond (eqb (b .refusal) 0) more b
-
--- ---- blocks of a row
-
--- a block in a row that begins with these nodes on each level, in a band with so many planes
-abbrev pub blockIn : Place → List ℕ → ℕ → Block
-blockIn p row planes = record { inclTree = p .incl; zeroTree = p .zero; leaf = getD row 0 0 + p .x; path = pathOver row (p .depth) (p .x); at = p .at; planes = planes }
-
--- n blocks from number i of the row on
-unfoldable pub blocksOfRow : Place → List ℕ → ℕ → ℕ → ℕ → List Block
-blocksOfRow p row planes zero i = []
-blocksOfRow p row planes (suc n) i = blockIn (placeAt p i) row planes ∷ blocksOfRow p row planes n (i + 1)
 
 -- ---- what reading asks for
 

@@ -2,7 +2,7 @@
 ghost use mathlib.Core.Path.{_≡_};
 ghost use Prim.Native.Nat.{_+_, _^_, _<_, _≤_};
 ghost use lib.ListN.{length};
-ghost use Rattle.t2_write_lengths.specs.Blocks.{blockAt};
+ghost use Rattle.tcd_places.specs.Places.{blockAt};
 ghost use Rattle.t2_read_segments.specs.Segments.{limitBehind, currentSegment};
 ghost use Rattle.t2_read_segments.specs.Reading.{reading, WithAnyReports, nextSegment, nextSegments, SegmentFits};
 use t800::Bio;

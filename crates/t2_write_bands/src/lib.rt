@@ -11,12 +11,13 @@ ghost use Rattle.tgt_write.specs.Coding.{leafCoded, putCoded};
 ghost use Rattle.tcd_layout.specs.Geometry.{AllUpTo64, padded};
 ghost use Rattle.t2_codes.specs.PassTable.{isPassTable};
 ghost use Rattle.t2_write_block.specs.Runs.{running, codeAll, AllFit};
-ghost use Rattle.t2_write_new_blocks.specs.Bands.{gridOf, bandBlocks, BandIn, codeBand};
+ghost use Rattle.t2_write_new_blocks.specs.Bands.{codeBand};
+ghost use Rattle.tcd_places.specs.Places.{BandIn, bandBlocks, gridOf};
 use t2_write_block::Run;
-use t2_write_new_blocks::Grid;
 use t800::Band;
 use t800::Bio;
 use t800::Level;
+use tcd_places::Grid;
 
 fn code_blocks(
     codes: &[u16; 328],
@@ -36,10 +37,10 @@ fn code_blocks(
 {
     let mut run = r;
     let mut y: usize = 0;
-    while y < t2_write_new_blocks::rows(band) {
+    while y < tcd_places::rows(band) {
         let mut row = [0usize; 7];
         tgt::opj_tgt_row(tree, g.depth, y, &mut row);
-        let place = t2_write_new_blocks::row_place(g, y);
+        let place = tcd_places::row_place(g, y);
         run = t2_write_block::code_row(
             codes,
             words,
@@ -117,7 +118,7 @@ pub fn code_bands(
     let mut i: usize = 0;
     while i < n {
         let band = bands[i];
-        let g = t2_write_new_blocks::grid_of(band, start);
+        let g = tcd_places::grid_of(band, start);
         run = code_band(
             codes,
             words,
@@ -131,7 +132,7 @@ pub fn code_bands(
             lengths,
             marks,
         );
-        start = t2_write_new_blocks::grid_end(band, g);
+        start = tcd_places::grid_end(band, g);
         i += 1;
     }
     run.bio

@@ -1,6 +1,6 @@
 -- Blocks one after another, with the lists whole and the places in them running on: `Laws.Running` says that this is t800's coding and
 -- setting of what is left of the lists.
-use Prim.Native.Nat.{ℕ, zero, suc, _+_, _*_, _≤_, _<_}
+use Prim.Native.Nat.{ℕ, _+_, _≤_, _<_}
 use mathlib.Core.Path.{_≡_}
 use mathlib.Core.Bool.{cond, _&&_}
 use mathlib.Core.List.{List, [], _∷_}
@@ -11,10 +11,8 @@ use Rattle.t800.specs.State.{Block}
 use Rattle.t800.specs.TagTree.{Coded, setValue}
 use Rattle.t800.specs.WriteHeader.{isNew, codeBlock}
 use Rattle.bio_bytes.specs.Writing.{Output, output, putBits}
-use Rattle.tgt.specs.Path.{PathIn}
-use Rattle.t2_write_lengths.specs.declared.Place.{Place}
 use Rattle.t2_write_block.specs.declared.Run.{Run}
-use Rattle.t2_write_lengths.specs.Blocks.{blockOver, PassesFit}
+use Rattle.t2_write_lengths.specs.Blocks.{PassesFit}
 
 -- ---- coding
 
@@ -41,16 +39,6 @@ unfoldable pub codeAll : ℕ → List ℕ → List ℕ → List ℕ → List Blo
 codeAll t cs ls ms [] s = s
 codeAll t cs ls ms (k ∷ ks) s = codeAll t cs ls ms ks (codeNext t cs ls ms k s)
 
--- ---- blocks of a row
-
-abbrev pub placeAt : Place → ℕ → Place
-placeAt p i = record { incl = p .incl; zero = p .zero; depth = p .depth; x = p .x + i; at = p .at + 4 * i }
-
--- n blocks from number i of the row on
-unfoldable pub rowBlocks : Place → List ℕ → ℕ → ℕ → List Block
-rowBlocks p row zero i = []
-rowBlocks p row (suc n) i = blockOver (placeAt p i) row ∷ rowBlocks p row n (i + 1)
-
 -- ---- what the checks before coding establish
 
 -- the block at `at` has a count, its passes have lengths and marks, and they can be coded
@@ -63,13 +51,6 @@ pub record NextFits (cs ls ms ws : List ℕ) (at block pass : ℕ) : Type 0 wher
 abbrev pub AllFit : List ℕ → List ℕ → List ℕ → List ℕ → List Block → ℕ → ℕ → Type 0
 AllFit cs ls ms ws [] block pass = Unit {0}
 AllFit cs ls ms ws (k ∷ ks) block pass = NextFits cs ls ms ws (k .at) block pass × AllFit cs ls ms ws ks (block + 1) (pass + getD cs block 0)
-
--- n blocks of a row: the trees lie before them, and they in a list of so many words
-pub record RowIn (size : ℕ) (p : Place) (row : List ℕ) (n : ℕ) : Type 0 where
-  pub incl : (i : ℕ) → i < n → PathIn (p .at) (p .incl) row (p .depth) (p .x + i)
-  pub zero : (i : ℕ) → i < n → PathIn (p .at) (p .zero) row (p .depth) (p .x + i)
-  pub inside : p .at + 4 * n ≤ size
-  pub small : p .x + n ≤ 64
 
 -- ---- setting
 

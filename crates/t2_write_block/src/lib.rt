@@ -1,7 +1,7 @@
 // The coding of blocks in a packet header (opj_t2_encode_packet of t2.rs): a block's lengths, its passes, the block, a row of them.
 ghost use mathlib.Core.Path.{_≡_};
 ghost use mathlib.Core.Bool.{cond};
-ghost use Prim.Native.Nat.{_+_, _*_, _^_, _<_, _≤_};
+ghost use Prim.Native.Nat.{_+_, _<_, _≤_};
 ghost use lib.Dec.{T, ltb};
 ghost use lib.ListN.{length, getD};
 ghost use Rattle.t800.specs.WriteHeader.{codeInclusion, codeZeroPlanes, codePasses, codeBlock};
@@ -9,10 +9,11 @@ ghost use Rattle.t800.specs.Segments.{segmentsOf};
 ghost use Rattle.bio_bytes.specs.Writing.{output, FreeBitsClear};
 ghost use Rattle.t2_codes.specs.PassTable.{isPassTable};
 ghost use Rattle.tgt_write.specs.Coding.{leafCoded, putCoded};
-ghost use Rattle.t2_write_lengths.specs.Blocks.{blockAt, blockOver, PassesFit, BlockIn};
-ghost use Rattle.t2_write_block.specs.Runs.{running, codeNext, codeAll, placeAt, rowBlocks, NextFits, AllFit, RowIn, setNext, setAll};
-use t2_write_lengths::Place;
+ghost use Rattle.t2_write_lengths.specs.Blocks.{PassesFit};
+ghost use Rattle.tcd_places.specs.Places.{BlockIn, RowIn, blockAt, blockIn, rowBlocks};
+ghost use Rattle.t2_write_block.specs.Runs.{running, codeNext, codeAll, NextFits, AllFit, setNext, setAll};
 use t800::Bio;
+use tcd_places::Place;
 
 // Where the bits stand, and how many blocks and passes of the caller's lists are behind.
 pub struct Run {
@@ -20,8 +21,6 @@ pub struct Run {
     pub block: usize,
     pub pass: usize,
 }
-
-// ---- lengths
 
 // ---- one block
 
@@ -63,7 +62,7 @@ fn code_inclusion(
     count: u32,
 ) -> Bio
     requires { ⌜ (FreeBitsClear b) × (BlockIn (length (now words)) p (now row)) × (layer < 999) ⌝ }
-    ensures { λ r. ⌜ leafCoded (now (words .exit)) (now (out .exit)) r ≡ putCoded (output (now (out .entry)) b) (codeInclusion layer (blockOver p (now (row .entry))) count (now (words .entry))) ⌝ }
+    ensures { λ r. ⌜ leafCoded (now (words .exit)) (now (out .exit)) r ≡ putCoded (output (now (out .entry)) b) (codeInclusion layer (blockIn p (now (row .entry)) 0) count (now (words .entry))) ⌝ }
 {
     let at = p.at;
     if words[at] == 0 {
@@ -76,7 +75,7 @@ fn code_inclusion(
 // At first inclusion.
 fn code_zero_planes(words: &mut [u32], out: &mut [u8], b: Bio, p: Place, row: &[usize; 7]) -> Bio
     requires { ⌜ (FreeBitsClear b) × (BlockIn (length (now words)) p (now row)) ⌝ }
-    ensures { λ r. ⌜ leafCoded (now (words .exit)) (now (out .exit)) r ≡ putCoded (output (now (out .entry)) b) (codeZeroPlanes (blockOver p (now (row .entry))) (now (words .entry))) ⌝ }
+    ensures { λ r. ⌜ leafCoded (now (words .exit)) (now (out .exit)) r ≡ putCoded (output (now (out .entry)) b) (codeZeroPlanes (blockIn p (now (row .entry)) 0) (now (words .entry))) ⌝ }
 {
     let at = p.at;
     if words[at] == 0 {
@@ -107,7 +106,7 @@ fn code_block(
     marks: &[u8],
 ) -> Bio
     requires { ⌜ (T (isPassTable (now codes))) × (FreeBitsClear b) × (BlockIn (length (now words)) p (now row)) × (layer < 999) × (PassesFit (getD (now words) (p .at) 0) (getD (now words) (p .at + 1) 0) count (now lengths) (now marks)) ⌝ }
-    ensures { λ r. ⌜ leafCoded (now (words .exit)) (now (out .exit)) r ≡ putCoded (output (now (out .entry)) b) (codeBlock layer (blockOver p (now (row .entry))) count (segmentsOf (now (lengths .entry)) (now (marks .entry))) (now (words .entry))) ⌝ }
+    ensures { λ r. ⌜ leafCoded (now (words .exit)) (now (out .exit)) r ≡ putCoded (output (now (out .entry)) b) (codeBlock layer (blockIn p (now (row .entry)) 0) count (segmentsOf (now (lengths .entry)) (now (marks .entry))) (now (words .entry))) ⌝ }
 {
     let told = code_inclusion(words, out, b, p, row, layer, count);
     if count == 0 {
@@ -118,19 +117,6 @@ fn code_block(
 }
 
 // ---- a row of blocks
-
-pub fn place_at(p: Place, i: usize) -> Place
-    requires { ⌜ (p .x + i < 2 ^ 32) × (p .at + 4 * i < 2 ^ 63) ⌝ }
-    ensures { λ r. ⌜ r ≡ placeAt p i ⌝ }
-{
-    Place {
-        incl: p.incl,
-        zero: p.zero,
-        depth: p.depth,
-        x: p.x + i,
-        at: p.at + 4 * i,
-    }
-}
 
 fn code_next(
     codes: &[u16; 328],
@@ -145,7 +131,7 @@ fn code_next(
     marks: &[u8],
 ) -> Run
     requires { ⌜ (T (isPassTable (now codes))) × (FreeBitsClear (r .bio)) × (BlockIn (length (now words)) p (now row)) × (layer < 999) × (NextFits (now counts) (now lengths) (now marks) (now words) (p .at) (r .block) (r .pass)) ⌝ }
-    ensures { λ s. ⌜ running (now (words .exit)) (now (out .exit)) s ≡ codeNext layer (now (counts .entry)) (now (lengths .entry)) (now (marks .entry)) (blockOver p (now (row .entry))) (running (now (words .entry)) (now (out .entry)) r) ⌝ }
+    ensures { λ s. ⌜ running (now (words .exit)) (now (out .exit)) s ≡ codeNext layer (now (counts .entry)) (now (lengths .entry)) (now (marks .entry)) (blockIn p (now (row .entry)) 0) (running (now (words .entry)) (now (out .entry)) r) ⌝ }
 {
     let block = r.block;
     let next = block + 1;
@@ -185,13 +171,13 @@ pub fn code_row(
     lengths: &[u32],
     marks: &[u8],
 ) -> Run
-    requires { ⌜ (T (isPassTable (now codes))) × (FreeBitsClear (r .bio)) × (RowIn (length (now words)) p (now row) n) × (layer < 999) × (AllFit (now counts) (now lengths) (now marks) (now words) (rowBlocks p (now row) n 0) (r .block) (r .pass)) ⌝ }
-    ensures { λ s. ⌜ running (now (words .exit)) (now (out .exit)) s ≡ codeAll layer (now (counts .entry)) (now (lengths .entry)) (now (marks .entry)) (rowBlocks p (now (row .entry)) n 0) (running (now (words .entry)) (now (out .entry)) r) ⌝ }
+    requires { ⌜ (T (isPassTable (now codes))) × (FreeBitsClear (r .bio)) × (RowIn (length (now words)) p (now row) n) × (layer < 999) × (AllFit (now counts) (now lengths) (now marks) (now words) (rowBlocks p (now row) 0 n 0) (r .block) (r .pass)) ⌝ }
+    ensures { λ s. ⌜ running (now (words .exit)) (now (out .exit)) s ≡ codeAll layer (now (counts .entry)) (now (lengths .entry)) (now (marks .entry)) (rowBlocks p (now (row .entry)) 0 n 0) (running (now (words .entry)) (now (out .entry)) r) ⌝ }
 {
     let mut run = r;
     let mut i: usize = 0;
     while i < n {
-        let place = place_at(p, i);
+        let place = tcd_places::place_at(p, i);
         run = code_next(
             codes,
             words,
@@ -211,7 +197,7 @@ pub fn code_row(
 
 fn set_next(words: &mut [u32], p: Place, row: &[usize; 7], layer: u32, count: u32)
     requires { ⌜ BlockIn (length (now words)) p (now row) ⌝ }
-    ensures { λ _. ⌜ now (words .exit) ≡ setNext layer (blockOver p (now (row .entry))) count (now (words .entry)) ⌝ }
+    ensures { λ _. ⌜ now (words .exit) ≡ setNext layer (blockIn p (now (row .entry)) 0) count (now (words .entry)) ⌝ }
 {
     let at = p.at;
     if words[at] != 0 {
@@ -234,11 +220,11 @@ pub fn set_row(
     block: usize,
 )
     requires { ⌜ (RowIn (length (now words)) p (now row) n) × (block + n ≤ length (now counts)) ⌝ }
-    ensures { λ _. ⌜ now (words .exit) ≡ setAll layer (now (counts .entry)) (rowBlocks p (now (row .entry)) n 0) block (now (words .entry)) ⌝ }
+    ensures { λ _. ⌜ now (words .exit) ≡ setAll layer (now (counts .entry)) (rowBlocks p (now (row .entry)) 0 n 0) block (now (words .entry)) ⌝ }
 {
     let mut i: usize = 0;
     while i < n {
-        let place = place_at(p, i);
+        let place = tcd_places::place_at(p, i);
         set_next(words, place, row, layer, counts[block + i]);
         i += 1;
     }

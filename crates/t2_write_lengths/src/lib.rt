@@ -19,15 +19,6 @@ pub struct LengthsPut {
     pub bio: Bio,
 }
 
-// Where a block stands: its two trees, their depth, its column in them, its own words.
-pub struct Place {
-    pub incl: usize,
-    pub zero: usize,
-    pub depth: usize,
-    pub x: usize,
-    pub at: usize,
-}
-
 // One length per segment.
 fn code_lengths(out: &mut [u8], b: Bio, lengths: &[u32], marks: &[u8], lenbits: u32) -> Bio
     requires { ⌜ (FreeBitsClear b) × (BlockPasses (now lengths) (now marks)) × (anyTooWide lenbits (segmentsOf (now lengths) (now marks)) ≡ false) ⌝ }

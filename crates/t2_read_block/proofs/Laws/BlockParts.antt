@@ -16,10 +16,10 @@ use Rattle.t800.proofs.Laws.Tests.{if-true, if-false, if-eq, if-ne}
 use Rattle.lists.specs.Rows.{putRow}
 use Rattle.tgt.specs.Path.{pathOver, leafWord}
 use Rattle.tgt_read.specs.Reading.{LeafAfter, belowIn, ValueAfter, valueIn, leafOf}
-use Rattle.t2_write_lengths.specs.declared.Place.{Place}
+use Rattle.tcd_places.specs.declared.Place.{Place}
 use Rattle.t2_read_segments.specs.declared.Run.{Run}
-use Rattle.t2_write_lengths.specs.Blocks.{blockAt}
-use Rattle.t2_read_segments.specs.Reading.{Reading, reading, movedOn, reported, nextSegment, nextSegments, passesRead, nextFirst, nextAgain, nextNew, nextOld, nextBlock, blockIn}
+use Rattle.t2_read_segments.specs.Reading.{Reading, reading, movedOn, reported, nextSegment, nextSegments, passesRead, nextFirst, nextAgain, nextNew, nextOld, nextBlock}
+use Rattle.tcd_places.specs.Places.{blockAt, blockIn}
 
 -- ---- of a block only its own words count for its segments, and only a tree and a leaf for its zero planes
 

@@ -22,9 +22,8 @@ use Rattle.tgt_read.proofs.Laws.Reading.{readPath-ct, readPath-place, raising-c
 use Rattle.t2_codes.specs.CommaCode.{onesLimit, readCommaLimited}
 use Rattle.t2_codes.proofs.Laws.PassCount.{passes-ct, passes-place, passes-between}
 use Rattle.t2_codes.proofs.Laws.CommaCode.{ones-ct, ones-place}
-use Rattle.t2_write_block.proofs.Laws.OneBlock.{Before, BlockBefore}
-use Rattle.t2_write_block.proofs.Laws.Rows.{AllBlocks}
 use Rattle.t2_read_segments.specs.Reading.{Reading, stopped, nextSegment, nextSegments, passesRead, nextFirst, nextAgain, nextNew, nextOld, nextBlock, nextBlocks, BitsIn}
+use Rattle.tcd_places.proofs.Laws.Before.{AllBlocks, Before, BlockBefore}
 
 -- ---- trees
 

@@ -7,15 +7,14 @@ use Prim.Native.Nat.{ℕ, suc, _+_, _-_, _*_, _≤_, _<_}
 use native.Mathlib.Omega.{arith}
 use lib.Dec.{eqb}
 use lib.ListN.{length, drop}
-use lib.Seq.{drop-drop}
 use Rattle.t800.specs.State.{Block}
 use Rattle.t800.proofs.Laws.Tests.{if-eq, if-ne, on-eq}
-use Rattle.t2_write_lengths.specs.declared.Place.{Place}
-use Rattle.t2_write_block.specs.Runs.{placeAt, RowIn}
-use Rattle.t2_write_block.proofs.Laws.OneBlock.{BlockBefore, same-word}
-use Rattle.t2_write_block.proofs.Laws.Rows.{before-next}
-use Rattle.t2_read_segments.specs.Reading.{Reading, nextBlock, nextBlocks, blockIn, blocksOfRow, BlockFits}
+use Rattle.tcd_places.specs.declared.Place.{Place}
+use Rattle.t2_read_segments.specs.Reading.{Reading, nextBlock, nextBlocks, BlockFits}
 use Rattle.t2_read_segments.proofs.Laws.ManySegments.{fits-same}
+use Rattle.tcd_places.specs.Places.{RowIn, blockIn, placeAt, rowBlocks}
+use Rattle.tcd_places.proofs.Laws.Before.{same-word, drop-later}
+use Rattle.tcd_places.proofs.Laws.Rows.{before-next, row-turn}
 use Rattle.t2_read_block.proofs.Laws.Kept.{Keeps, block-keeps}
 
 -- ---- what stays
@@ -27,11 +26,6 @@ block-fits q at ws vs e h f =
       bits = omega (arith, same-word q (at + 1) ws vs e (omega arith), f .bits);
       segment = fits-same q at ws vs e (omega arith) (f .segment);
     }
-
-drop-later : (q r : ℕ) (ws vs : List ℕ) → q ≤ r → drop q ws ≡ drop q vs → drop r ws ≡ drop r vs
-drop-later q r ws vs h e =
-    let s : q + (r - q) ≡ r = omega arith in
-    subst (λ (n : ℕ). drop n ws ≡ drop n vs) s (sym (drop-drop (r - q) q ws) ∙ ap (drop (r - q)) e ∙ drop-drop (r - q) q vs)
 
 pub keeps-later : (src : List ℕ) (q r : ℕ) (vs : List ℕ) (a : Reading) → q ≤ r → Keeps src q vs a → Keeps src r vs a
 keeps-later src q r vs a h k = record { bits = k .bits; behind = drop-later q r (a .words) vs h (k .behind) }
@@ -73,31 +67,21 @@ module _ (src : List ℕ) (t : ℕ) (js : List Block) (b : Reading) where
 
 -- ---- along a row
 
-row-turn : (p : Place) (row : List ℕ) (planes n i : ℕ) → i < n → blocksOfRow p row planes (n - i) i ≡ blockIn (placeAt p i) row planes ∷ blocksOfRow p row planes (n - (i + 1)) (i + 1)
-unfolding blocksOfRow
-row-turn p row planes n i h = let e : n - i ≡ suc (n - (i + 1)) = omega arith in rw e
-
-pub row-end : (p : Place) (row : List ℕ) (planes n i : ℕ) → n ≤ i → blocksOfRow p row planes (n - i) i ≡ []
-unfolding blocksOfRow
-row-end p row planes n i h = let e : n - i ≡ 0 = omega arith in rw e
-
 module _ (src : List ℕ) (t block : ℕ) (p : Place) (row : List ℕ) (planes n i : ℕ) (h : i < n) (a b : Reading) (is : b ≡ nextBlock src t (block + i) (blockIn (placeAt p i) row planes) a) where
   abbrev rest : List Block
-  rest = blocksOfRow p row planes (n - (i + 1)) (i + 1)
+  rest = rowBlocks p row planes (n - (i + 1)) (i + 1)
 
-  pub reads-then : b .refusal ≡ 0 → nextBlocks src t (block + (i + 1)) rest b ≡ nextBlocks src t (block + i) (blocksOfRow p row planes (n - i) i) a
+  pub reads-then : b .refusal ≡ 0 → nextBlocks src t (block + (i + 1)) rest b ≡ nextBlocks src t (block + i) (rowBlocks p row planes (n - i) i) a
   reads-then z =
       let e : block + (i + 1) ≡ block + i + 1 = omega arith in
       ap (λ (m : ℕ). nextBlocks src t m rest b) e
       ∙ blocks-turn src t (block + i) (blockIn (placeAt p i) row planes) rest a b is z
       ∙ sym (ap (λ (ks : List Block). nextBlocks src t (block + i) ks a) (row-turn p row planes n i h))
 
-  pub reads-no-more : b .refusal ≢ 0 → b ≡ nextBlocks src t (block + i) (blocksOfRow p row planes (n - i) i) a
+  pub reads-no-more : b .refusal ≢ 0 → b ≡ nextBlocks src t (block + i) (rowBlocks p row planes (n - i) i) a
   reads-no-more z = blocks-stop src t (block + i) (blockIn (placeAt p i) row planes) rest a b is z ∙ sym (ap (λ (ks : List Block). nextBlocks src t (block + i) ks a) (row-turn p row planes n i h))
 
   pub keeps-then : (size : ℕ) (vs : List ℕ) → RowIn size p row n → Keeps src (p .at + 4 * i) vs a → Keeps src (p .at + 4 * (i + 1)) vs b
   keeps-then size vs r k =
       let q : ℕ = p .at + 4 * (i + 1) in
-      let l = before-next size n i p row h r in
-      let m : BlockBefore q (blockIn (placeAt p i) row planes) = record { incl = l .incl; zero = l .zero; own = l .own } in
-      subst (Keeps src q vs) (sym is) (block-keeps src q vs (blockIn (placeAt p i) row planes) m t (block + i) a (keeps-later src (p .at + 4 * i) q vs a (omega arith) k))
+      subst (Keeps src q vs) (sym is) (block-keeps src q vs (blockIn (placeAt p i) row planes) (before-next size n i p row h r planes) t (block + i) a (keeps-later src (p .at + 4 * i) q vs a (omega arith) k))

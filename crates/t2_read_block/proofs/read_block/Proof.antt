@@ -1,5 +1,6 @@
 -- `t2_read_block::read_block` meets its contract.
-use Rattle.t2_read_segments.specs.Reading.{reading, blockIn}
+use Rattle.t2_read_segments.specs.Reading.{reading}
+use Rattle.tcd_places.specs.Places.{blockIn}
 use Rattle.t2_read_block.proofs.Laws.BlockParts.{block-new, block-old}
 use borrow.Author.Needs.{needs}
 use Rattle.t2_read_block.proofs.read_block.Statement.{statement}

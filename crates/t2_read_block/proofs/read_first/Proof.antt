@@ -6,10 +6,10 @@ use lib.ListN.{length, drop}
 use Rattle.t800.specs.State.{notYetPlanes}
 use Rattle.tgt_read.specs.Reading.{ValueAfter, valueAfter, leafOf}
 use Rattle.tgt_read.proofs.Laws.Reading.{raising-ct}
-use Rattle.t2_write_block.proofs.Laws.OneBlock.{path-wider, path-before}
 use Rattle.t2_read_segments.specs.declared.Run.{Run}
 use Rattle.t2_read_segments.specs.Reading.{reading}
 use Rattle.t2_read_segments.proofs.Laws.ManySegments.{fits-same}
+use Rattle.tcd_places.proofs.Laws.Before.{path-before, path-wider}
 use Rattle.t2_read_block.proofs.Laws.Kept.{raising-keeps, passes-are}
 use Rattle.t2_read_block.proofs.Laws.BlockParts.{first-is}
 use borrow.Author.Needs.{needs}

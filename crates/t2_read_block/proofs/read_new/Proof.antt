@@ -7,11 +7,11 @@ use lib.ListN.{length, drop}
 use Rattle.tgt.specs.Path.{pathOver}
 use Rattle.tgt_read.specs.Reading.{LeafAfter, leafAfter}
 use Rattle.tgt_read.proofs.Laws.Reading.{readPath-ct}
-use Rattle.t2_write_lengths.specs.Blocks.{BlockIn}
-use Rattle.t2_write_block.proofs.Laws.OneBlock.{path-wider, path-before}
 use Rattle.t2_read_segments.specs.declared.Run.{Run}
 use Rattle.t2_read_segments.specs.Reading.{reading}
 use Rattle.t2_read_segments.proofs.Laws.ManySegments.{fits-same}
+use Rattle.tcd_places.specs.Places.{BlockIn}
+use Rattle.tcd_places.proofs.Laws.Before.{path-before, path-wider}
 use Rattle.t2_read_block.proofs.Laws.Kept.{path-keeps}
 use Rattle.t2_read_block.proofs.Laws.BlockParts.{new-included, new-absent}
 use borrow.Author.Needs.{needs}

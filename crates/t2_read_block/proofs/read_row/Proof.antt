@@ -5,13 +5,12 @@ use Prim.Native.Nat.{ℕ, _+_, _-_, _*_, _≤_}
 use native.Mathlib.Omega.{arith}
 use lib.ListN.{length}
 use Rattle.t800.specs.State.{Block}
-use Rattle.t2_write_lengths.specs.declared.Place.{Place}
-use Rattle.t2_write_lengths.specs.Blocks.{BlockIn}
-use Rattle.t2_write_block.specs.Runs.{RowIn}
-use Rattle.t2_write_block.proofs.Laws.Rows.{block-in}
-use Rattle.t2_read_segments.specs.Reading.{reading, nextBlock, nextBlocks, blockIn, blocksOfRow, BlockFits}
+use Rattle.tcd_places.specs.declared.Place.{Place}
+use Rattle.t2_read_segments.specs.Reading.{reading, nextBlock, nextBlocks, BlockFits}
+use Rattle.tcd_places.specs.Places.{BlockIn, RowIn, blockIn, rowBlocks}
+use Rattle.tcd_places.proofs.Laws.Rows.{block-in, row-end}
 use Rattle.t2_read_block.proofs.Laws.Kept.{Keeps}
-use Rattle.t2_read_block.proofs.Laws.Rows.{block-fits, reads-then, reads-no-more, keeps-then, row-end}
+use Rattle.t2_read_block.proofs.Laws.Rows.{block-fits, reads-then, reads-no-more, keeps-then}
 use Rattle.t2_read_block.proofs.read_row.Statement.{statement}
 use Rattle.t2_read_block.proofs.read_row.Tie as tie
 
@@ -23,7 +22,7 @@ Inv-loop words₀ reports₀ records₀ src p n row layer planes block run₀ i�
     × (length records ≡ length records₀)
     × (i ≤ n)
     × (run .refusal ≡ 0)
-    × (nextBlocks src layer (block + i) (blocksOfRow p row planes (n - i) i) (reading words reports records run) ≡ nextBlocks src layer block (blocksOfRow p row planes n 0) (reading words₀ reports₀ records₀ run₀))
+    × (nextBlocks src layer (block + i) (rowBlocks p row planes (n - i) i) (reading words reports records run) ≡ nextBlocks src layer block (rowBlocks p row planes n 0) (reading words₀ reports₀ records₀ run₀))
 
 abbrev μ-loop : tie.MeasureT-loop
 μ-loop words₀ reports₀ records₀ src p n row layer planes block run₀ i₀ words reports records run i = n - i
@@ -40,7 +39,7 @@ loop-holds c =
       refl,
       omega arith,
       s .pre .1,
-      (λ j. nextBlocks (a .src .now) (a .layer) (z j) (blocksOfRow (a .p) (a .row .now) (a .planes) (e j) 0) (reading (a .words .now) (a .reports .now) (a .records .now) (a .r))),
+      (λ j. nextBlocks (a .src .now) (a .layer) (z j) (rowBlocks (a .p) (a .row .now) (a .planes) (e j) 0) (reading (a .words .now) (a .reports .now) (a .records .now) (a .r))),
     )
 
 place-at-requires : tie.Need-place-at-requires Inv-loop μ-loop

@@ -22,8 +22,9 @@ use Rattle.t2_read_segments.specs.declared.Run.{Run}
 use Rattle.t2_read_segments.specs.Reading.{Reading, reading, stopped, nextBlocks, heldBy, BitsIn, Follows}
 use Rattle.t2_read_block.proofs.Laws.Kept.{blocks-keep}
 use Rattle.t2_read_block.proofs.Laws.Follows.{Ends, blocks-end}
+use Rattle.tcd_places.proofs.Laws.BandBlocks.{bands-before}
 use Rattle.t2_read_header.specs.Header.{ReadsHeader}
-use Rattle.t2_read_header.proofs.Laws.BandBlocks.{bands-before, bands-apart}
+use Rattle.t2_read_header.proofs.Laws.BandBlocks.{bands-apart}
 
 -- a state that refusal 5 lets pass is as long as its bands ask for
 module _ (ws : List ℕ) (n : ℕ) (valid : ValidState reader ws n) where

@@ -13,12 +13,12 @@ use Rattle.t800.proofs.Laws.Layout.{band-length}
 use Rattle.tcd_layout.proofs.Laws.Bands.{length-from}
 use Rattle.tcd_state.proofs.Laws.RangeParts.{and-right}
 use Rattle.tcd_state.proofs.Laws.ValidStates.{block-known, block-bounds}
-use Rattle.t2_write_new_blocks.specs.Bands.{bandBlocks}
 use Rattle.t2_read_segments.specs.Reading.{Reading, nextBlocks}
 use Rattle.t2_read_block.proofs.Laws.Kept.{Keeps, blocks-keep}
 use Rattle.t2_read_block.proofs.Laws.Rows.{block-fits, keeps-later, blocks-then, blocks-refused}
+use Rattle.tcd_places.specs.Places.{bandBlocks}
+use Rattle.tcd_places.proofs.Laws.BandBlocks.{from-before}
 use Rattle.t2_read_header.specs.Bands.{BandFits, BandsFit}
-use Rattle.t2_read_header.proofs.Laws.BandBlocks.{from-before}
 
 -- ---- what refusal 5 establishes
 

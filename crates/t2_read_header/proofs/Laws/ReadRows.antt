@@ -1,26 +1,24 @@
 -- A band row by row: its blocks are t800's, and what is left behind a row.
-use mathlib.Core.Path.{_≡_, refl, sym, ap, _∙_, subst}
+use mathlib.Core.Path.{_≡_, sym, ap, _∙_, subst}
 use mathlib.Core.Logic.{_≢_}
-use mathlib.Core.List.{List, _∷_}
-use Prim.Native.Nat.{ℕ, zero, suc, _+_, _-_, _*_, _^_, _≤_, _<_}
+use mathlib.Core.List.{List}
+use Prim.Native.Nat.{ℕ, _+_, _-_, _*_, _^_, _≤_, _<_}
 use native.Mathlib.Omega.{arith}
-use lib.ListN.{length, getD, drop}
+use lib.ListN.{length, drop}
 use Rattle.t800.specs.declared.Band.{Band}
 use Rattle.t800.specs.TagTree.{levels}
-use Rattle.t800.specs.State.{Block, blockOf, bandNodes, blocksFrom}
+use Rattle.t800.specs.State.{Block, bandNodes, blocksFrom}
 use Rattle.tcd_layout.specs.Geometry.{padded}
 use Rattle.tcd_layout.proofs.Laws.Bands.{blocks-up-to-4096, length-from}
 use Rattle.tgt.specs.Path.{rowOver}
-use Rattle.tgt.proofs.Laws.Path.{leaf-word}
-use Rattle.t2_write_lengths.specs.declared.Place.{Place}
-use Rattle.t2_write_block.specs.Runs.{placeAt}
-use Rattle.t2_write_new_blocks.specs.Bands.{gridOf, rowPlace, BandIn}
-use Rattle.t2_write_new_blocks.proofs.Laws.BandRows.{has-levels, row-counts, path-as, split-row}
-use Rattle.t2_read_segments.specs.Reading.{Reading, nextBlocks, blockIn, blocksOfRow, BlockFits, BlocksFit}
+use Rattle.tcd_places.specs.declared.Place.{Place}
+use Rattle.t2_read_segments.specs.Reading.{Reading, nextBlocks, BlockFits, BlocksFit}
 use Rattle.t2_read_block.proofs.Laws.Kept.{Keeps, blocks-keep}
 use Rattle.t2_read_block.proofs.Laws.Rows.{block-fits, keeps-later, blocks-then, blocks-refused}
+use Rattle.tcd_places.specs.Places.{BandIn, gridOf, rowBlocks, rowPlace}
+use Rattle.tcd_places.proofs.Laws.BandBlocks.{from-before}
+use Rattle.tcd_places.proofs.Laws.BandRows.{row-counts, split-row, row-is}
 use Rattle.t2_read_header.specs.Bands.{BandFits}
-use Rattle.t2_read_header.proofs.Laws.BandBlocks.{from-before}
 
 module _ (size start : ℕ) (b : Band) (h : BandIn size start b) (y : ℕ) (l : y < b .down) where
   abbrev place : Place
@@ -28,21 +26,6 @@ module _ (size start : ℕ) (b : Band) (h : BandIn size start b) (y : ℕ) (l : 
 
   abbrev row : List ℕ
   row = rowOver (padded (levels (b .across) (b .down))) (length (levels (b .across) (b .down))) y
-
-  same-block : (x : ℕ) → x < b .across → blockIn (placeAt place x) row (b .planes) ≡ blockOf start b (y * b .across + x)
-  same-block x k =
-      let e : place .at + 4 * x ≡ start + 6 * bandNodes b + 4 * (y * b .across + x) = omega arith in
-      let w : 0 + 3 * (getD row 0 0 + x) ≡ 0 + 3 * (y * b .across + x) = leaf-word (b .across) (b .down) _ _ (has-levels size start b h) x y k l 0 in
-      let f : getD row 0 0 + (0 + x) ≡ y * b .across + x = omega arith in
-      λ i. record { inclTree = start; zeroTree = start + 3 * bandNodes b; leaf = f i; path = path-as size start b h y l x k i; at = e i; planes = b .planes }
-
-  row-is : (n x : ℕ) → x + n ≤ b .across → blocksOfRow place row (b .planes) n x ≡ blocksFrom start b n (y * b .across + x)
-  unfolding blocksOfRow blocksFrom
-  row-is zero x k = refl
-  row-is (suc n) x k =
-      let a : y * b .across + (x + 1) ≡ y * b .across + x + 1 = omega arith in
-      let r = row-is n (x + 1) (omega arith) ∙ ap (blocksFrom start b n) a in
-      λ i. same-block x (omega arith) i ∷ r i
 
   -- the rows that are left
   abbrev left : ℕ → List Block
@@ -59,9 +42,9 @@ module _ (size start : ℕ) (b : Band) (h : BandIn size start b) (y : ℕ) (l : 
       let a : start + 6 * bandNodes b + 4 * (y * b .across + i) ≡ place .at + 4 * i = omega arith in
       block-fits (place .at) (place .at + 4 * i) ws vs e (omega arith) (subst (BlockFits vs) a (f (y * b .across + i) (omega (arith, row-counts size start b h y l))))
 
-  module _ (src : List ℕ) (t block : ℕ) (a c : Reading) (is : c ≡ nextBlocks src t (block + y * b .across) (blocksOfRow place row (b .planes) (b .across) 0) a) where
+  module _ (src : List ℕ) (t block : ℕ) (a c : Reading) (is : c ≡ nextBlocks src t (block + y * b .across) (rowBlocks place row (b .planes) (b .across) 0) a) where
     is-first : c ≡ nextBlocks src t (block + y * b .across) first a
-    is-first = is ∙ ap (λ (ks : List Block). nextBlocks src t (block + y * b .across) ks a) (row-is (b .across) 0 (omega arith))
+    is-first = is ∙ ap (λ (ks : List Block). nextBlocks src t (block + y * b .across) ks a) (row-is size start b h y l (b .across) 0 (omega arith))
 
     abbrev here : List Block → Reading
     here ks = nextBlocks src t (block + y * b .across) ks a

@@ -10,12 +10,11 @@ use Rattle.t800.specs.TagTree.{levels}
 use Rattle.tcd_layout.specs.Geometry.{padded}
 use Rattle.tcd_layout.proofs.Laws.Bands.{blocks-up-to-4096}
 use Rattle.tgt.specs.Path.{rowOver, SmallLevels}
-use Rattle.t2_write_block.specs.Runs.{RowIn}
-use Rattle.t2_write_new_blocks.specs.declared.Grid.{Grid}
-use Rattle.t2_write_new_blocks.specs.Bands.{rowPlace, bandBlocks, BandIn}
-use Rattle.t2_write_new_blocks.proofs.Laws.BandRows.{small, row-ends, row-counts, row-in, at-row, all-left, none-left}
-use Rattle.t2_read_segments.specs.Reading.{reading, nextBlocks, blocksOfRow, BlocksFit}
+use Rattle.tcd_places.specs.declared.Grid.{Grid}
+use Rattle.t2_read_segments.specs.Reading.{reading, nextBlocks, BlocksFit}
 use Rattle.t2_read_block.proofs.Laws.Kept.{Keeps}
+use Rattle.tcd_places.specs.Places.{BandIn, RowIn, bandBlocks, rowBlocks, rowPlace}
+use Rattle.tcd_places.proofs.Laws.BandRows.{all-left, at-row, none-left, row-counts, row-ends, row-in, small}
 use Rattle.t2_read_header.proofs.Laws.ReadRows.{row-number, row-fits, rows-then, rows-refused, rows-keep}
 use borrow.Author.Needs.{needs}
 use Rattle.t2_read_header.proofs.read_band.Statement.{statement}
@@ -135,7 +134,7 @@ returns c =
     let b = subst (λ (k : ℕ). BandIn k (a .g .start) (a .band)) (sym (l .inv .1)) (s .pre .2) in
     let u = reading (l .words) (l .reports) (l .records) (l .run) in
     let g = c .before .before .before .before .before .before .before .before .read-row in
-    let e = g .ensures ∙ (λ i. nextBlocks (a .src .now) (a .layer) (a .block + l .y * ew i) (blocksOfRow (ep i) (er i) (a .band .planes) (ew i) 0) u) in
+    let e = g .ensures ∙ (λ i. nextBlocks (a .src .now) (a .layer) (a .block + l .y * ew i) (rowBlocks (ep i) (er i) (a .band .planes) (ew i) 0) u) in
     rows-refused (length (l .words)) (a .g .start) (a .band) b (l .y) t (a .src .now) (a .layer) (a .block) u _ e (l .inv .5) (c .if2 .taken) ∙ l .inv .6
 
 add-y : tie.Need-add-y Inv-loop μ-loop
@@ -157,7 +156,7 @@ loop-again c =
     let b = subst (λ (k : ℕ). BandIn k (a .g .start) (a .band)) (sym (l .inv .1)) (s .pre .2) in
     let u = reading (l .words) (l .reports) (l .records) (l .run) in
     let g = c .before .before .before .before .before .before .before .before .read-row in
-    let e = g .ensures ∙ (λ i. nextBlocks (a .src .now) (a .layer) (a .block + l .y * ew i) (blocksOfRow (ep i) (er i) (a .band .planes) (ew i) 0) u) in (
+    let e = g .ensures ∙ (λ i. nextBlocks (a .src .now) (a .layer) (a .block + l .y * ew i) (rowBlocks (ep i) (er i) (a .band .planes) (ew i) 0) u) in (
       rows-keep (length (l .words)) (a .g .start) (a .band) b (l .y) t (a .src .now) (a .layer) (a .block) u _ e (a .words .now) (l .inv .0),
       g .kept .0 ∙ l .inv .1,
       g .kept .1 .0 ∙ l .inv .2,

@@ -12,8 +12,8 @@ use Rattle.tcd_layout.specs.Geometry.{noBand, SidesUpTo64}
 use Rattle.tcd_layout.proofs.Laws.Bands.{next-band, no-more-bands, sides-of-first, blocks-up-to-4096, band-levels-at, end-turn}
 use Rattle.t2_read_segments.specs.Reading.{reading, nextBlocks}
 use Rattle.t2_read_block.proofs.Laws.Kept.{Keeps}
-use Rattle.t2_write_new_blocks.specs.declared.Grid.{Grid}
-use Rattle.t2_write_new_blocks.specs.Bands.{gridOf, bandBlocks, BandIn}
+use Rattle.tcd_places.specs.declared.Grid.{Grid}
+use Rattle.tcd_places.specs.Places.{BandIn, bandBlocks, gridOf}
 use Rattle.t2_read_header.specs.Bands.{BandFits, BandsFit}
 use Rattle.t2_read_header.proofs.Laws.ReadBands.{band-still-fits, bands-then, bands-refused, bands-keep}
 use borrow.Author.Needs.{needs}

@@ -13,10 +13,10 @@ use Rattle.t800.specs.State.{Block}
 use Rattle.t800.specs.ReadHeader.{currentLimit, currentPasses, passesTaken}
 use Rattle.t800.proofs.Laws.Tests.{either, if-lt, if-ge, if-eq, if-ne, on-eq}
 use Rattle.bio_read.proofs.Laws.ReadChunks.{readBits-ct}
-use Rattle.t2_write_block.proofs.Laws.OneBlock.{same-word}
+use Rattle.tcd_places.specs.Places.{blockAt}
+use Rattle.tcd_places.proofs.Laws.Before.{same-word}
 use Rattle.t2_read_segments.specs.declared.Segment.{Segment}
 use Rattle.t2_read_segments.specs.Segments.{limitBehind, currentSegment}
-use Rattle.t2_write_lengths.specs.Blocks.{blockAt}
 use Rattle.t2_read_segments.specs.Reading.{Reading, stopped, nextSegment, nextSegments, SegmentFits}
 use Rattle.t2_read_segments.proofs.Laws.OneSegment.{segment-opens, segment-open}
 

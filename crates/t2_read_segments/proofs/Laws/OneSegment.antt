@@ -14,9 +14,9 @@ use Rattle.t800.proofs.Laws.Tests.{if-lt, if-ge, if-le, if-gt}
 use Rattle.lists.specs.Rows.{putRow}
 use Rattle.tgt_read.specs.Reading.{ValueAfter}
 use Rattle.t2_codes.specs.CommaCode.{readCommaLimited}
+use Rattle.tcd_places.specs.Places.{blockAt}
 use Rattle.t2_read_segments.specs.declared.Segment.{Segment}
 use Rattle.t2_read_segments.specs.Segments.{limitBehind, currentSegment}
-use Rattle.t2_write_lengths.specs.Blocks.{blockAt}
 use Rattle.t2_read_segments.specs.Reading.{Reading, stopped, nextSegment, passesRead}
 
 -- ---- the segment that the next passes go into

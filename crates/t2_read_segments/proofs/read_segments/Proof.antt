@@ -4,7 +4,7 @@ use mathlib.Core.List.{[]}
 use Prim.Native.Nat.{ℕ, _-_, _≤_}
 use native.Mathlib.Omega.{arith}
 use lib.ListN.{length}
-use Rattle.t2_write_lengths.specs.Blocks.{blockAt}
+use Rattle.tcd_places.specs.Places.{blockAt}
 use Rattle.t2_read_segments.specs.Reading.{reading, WithAnyReports, nextSegments, SegmentFits}
 use Rattle.t2_read_segments.proofs.Laws.ManySegments.{has-room, taken-is, segment-leaves, segments-turn, segments-stop, no-segments}
 use borrow.Author.Needs.{needs}

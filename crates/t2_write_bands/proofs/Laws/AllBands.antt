@@ -3,18 +3,17 @@
 use mathlib.Core.Path.{_≡_, refl, sym, ap, _∙_, subst}
 use mathlib.Core.Bool.{_&&_}
 use mathlib.Core.List.{List, [], _∷_, _++_}
-use Prim.Native.Nat.{ℕ, zero, suc, _+_, _*_, _≤_, _<_}
+use Prim.Native.Nat.{ℕ, zero, suc, _+_, _*_, _≤_}
 use native.Mathlib.Omega.{arith}
 use lib.Dec.{ltb}
 use lib.ListN.{length, getD, drop, length-append}
 use lib.Seq.{drop-set-lt}
 use Rattle.t800.specs.declared.Band.{Band}
 use Rattle.t800.specs.declared.Bio.{Bio}
-use Rattle.t800.specs.TagTree.{nodes, pathToRoot, setValue}
+use Rattle.t800.specs.TagTree.{setValue}
 use Rattle.t800.specs.State.{Block, blocksIn, bandNodes, bandLength, blocksFrom, blocksAt, blocks, endOf}
 use Rattle.t800.specs.WriteHeader.{isNew, setNewBlocks, codeBlocks}
 use Rattle.t800.proofs.Laws.Layout.{band-length, end-after}
-use Rattle.t800.proofs.Laws.Paths.{AllBelow, leaf-path}
 use Rattle.t800.proofs.Laws.SetLeaf.{length-setValue}
 use Rattle.t800.proofs.Laws.Tests.{either}
 use Rattle.bio_bytes.specs.Writing.{output, FreeBitsClear}
@@ -22,10 +21,12 @@ use Rattle.tcd_layout.proofs.Laws.Bands.{length-from}
 use Rattle.tgt_write.specs.Coding.{putCoded}
 use Rattle.t2_write_lengths.specs.Blocks.{coded}
 use Rattle.t2_write_block.specs.Runs.{Running, codeNext, codeAll, AllFit, setNext, setAll}
-use Rattle.t2_write_block.proofs.Laws.OneBlock.{Before, reversed-before, BlockBefore}
-use Rattle.t2_write_block.proofs.Laws.Rows.{AllBlocks, From, all-still-fit}
-use Rattle.t2_write_new_blocks.specs.Bands.{bandBlocks, newSet, codeBand, codeBands}
-use Rattle.t2_write_new_blocks.proofs.Laws.BandRows.{code-append, set-append, all-clear, still-fit-behind, first-fit, blocks-from}
+use Rattle.t2_write_block.proofs.Laws.Rows.{all-still-fit}
+use Rattle.t2_write_new_blocks.specs.Bands.{newSet, codeBand, codeBands}
+use Rattle.t2_write_new_blocks.proofs.Laws.BandRows.{code-append, set-append, all-clear, still-fit-after, first-fit}
+use Rattle.tcd_places.specs.Places.{bandBlocks}
+use Rattle.tcd_places.proofs.Laws.Before.{AllBlocks, Before, From, all-append}
+use Rattle.tcd_places.proofs.Laws.BandBlocks.{blocks-from, leaf-before, band-before}
 use Rattle.t2_write_bands.proofs.Laws.TwoBands.{BlockBehind, next-length, code-then-set}
 use Rattle.t2_write_new_blocks.proofs.Laws.AllBlocks.{set-is-blocks, code-is-blocks}
 
@@ -68,41 +69,12 @@ coded-blocks t cs ls ms (k ∷ ks) s = let r = coded-blocks t cs ls ms ks (codeN
 
 -- ---- where a band's blocks stand
 
-pub all-append : (P : Block → Type 0) (ks js : List Block) → AllBlocks P ks → AllBlocks P js → AllBlocks P (ks ++ js)
-all-append P [] js a b = b
-all-append P (k ∷ ks) js a b = (a .0, all-append P ks js (a .1) b)
-
-pub nodes-before : (q base m : ℕ) (ns : List ℕ) → base + 3 * m ≤ q → AllBelow m ns → Before q base ns
-nodes-before q base m [] h a = tt
-nodes-before q base m (n ∷ ns) h a = (omega (arith, a .0), nodes-before q base m ns h (a .1))
-
 module _ (at : ℕ) (b : Band) where
-  path-below : (i : ℕ) → i < blocksIn b → AllBelow (bandNodes b) (pathToRoot (b .across) (b .down) i)
-  unfolding blocksIn bandNodes
-  path-below i h = let p = leaf-path (b .across) (b .down) i h in subst (AllBelow (nodes (b .across) (b .down))) (sym (p .is)) (p .below)
-
-  -- both trees and all blocks lie before the band's end
-  blocks-before : (n i : ℕ) → i + n ≤ blocksIn b → AllBlocks (BlockBefore (at + bandLength b)) (blocksFrom at b n i)
-  unfolding blocksFrom
-  blocks-before zero i h = tt
-  blocks-before (suc n) i h =
-      let l = band-length b in
-      let q : ℕ = at + bandLength b in
-      let path : List ℕ = pathToRoot (b .across) (b .down) i in
-      let p = path-below i (omega arith) in (
-        record {
-          incl = reversed-before q at path (nodes-before q at (bandNodes b) path (omega arith) p);
-          zero = reversed-before q (at + 3 * bandNodes b) path (nodes-before q (at + 3 * bandNodes b) (bandNodes b) path (omega arith) p);
-          own = omega arith;
-        },
-        blocks-before n (i + 1) (omega arith),
-      )
-
   -- the inclusion tree lies before the blocks
   trees-before : (n i : ℕ) → i + n ≤ blocksIn b → AllBlocks (InclBefore (at + 6 * bandNodes b)) (blocksFrom at b n i)
-  unfolding blocksFrom
+  unfolding blocksFrom bandNodes blocksIn
   trees-before zero i h = tt
-  trees-before (suc n) i h = (nodes-before (at + 6 * bandNodes b) at (bandNodes b) (pathToRoot (b .across) (b .down) i) (omega arith) (path-below i (omega arith)), trees-before n (i + 1) (omega arith))
+  trees-before (suc n) i h = (leaf-before (at + 6 * bandNodes b) at (b .across) (b .down) i (omega arith) (omega arith), trees-before n (i + 1) (omega arith))
 
   blocks-behind : (q n i : ℕ) → q ≤ at → AllBlocks (BlockBehind q) (blocksFrom at b n i)
   unfolding blocksFrom
@@ -146,7 +118,7 @@ module _ (at : ℕ) (b : Band) (t : ℕ) (cs : List ℕ) where
         let a : AllBlocks (From six) (js ++ ks) = all-append (From six) js ks (blocks-from six at b (blocksIn b) 0 (omega arith)) (all-from six q bs (omega arith)) in
         subst (λ (z : ℕ). AllFit cs ls ms (u .words) (blocksAt z bs) (u .block) (u .pass)) (sym n)
         (subst (λ (v : Running). AllFit cs ls ms (v .words) ks (v .block) (v .pass)) (sym e)
-        (still-fit-behind q t cs ls ms js ks (newSet t cs js (s .block) s) (blocks-before at b (blocksIn b) 0 (omega arith)) (all-from q q bs (omega arith))
+        (still-fit-after q t cs ls ms js ks (newSet t cs js (s .block) s) (band-before at b) (all-from q q bs (omega arith))
         (set-still-fit ls ms (js ++ ks) (s .words) (s .block) (s .block) (s .pass) a f)))
 
 -- ---- all bands
@@ -183,7 +155,7 @@ bands-are-blocks t cs ls ms at (b ∷ bs) s h =
     let i : ℕ = s .block + length js in
     bands-are-blocks t cs ls ms q bs u (omega arith)
     ∙ ap (λ (z : ℕ). codeAll t cs ls ms ks (newSet t cs ks z u)) (coded-blocks t cs ls ms js v)
-    ∙ ap (codeAll t cs ls ms ks) (sym (code-then-set q t i cs ls ms js ks v (omega (arith, end-after q bs)) (blocks-before at b (blocksIn b) 0 (omega arith)) (all-behind q q bs (omega arith))))
+    ∙ ap (codeAll t cs ls ms ks) (sym (code-then-set q t i cs ls ms js ks v (omega (arith, end-after q bs)) (band-before at b) (all-behind q q bs (omega arith))))
     ∙ sym (code-append t cs ls ms js ks (newSet t cs ks i v))
     ∙ ap (λ (ws : List ℕ). codeAll t cs ls ms (js ++ ks) (record { words = ws; output = s .output; block = s .block; pass = s .pass })) (sym (set-append t cs js ks (s .block) (s .words)))
 

@@ -16,9 +16,8 @@ use Rattle.t800.specs.TagTree.{Coded, codePath, setValue, lowAfter, nodeBits, k
 use Rattle.t800.specs.WriteHeader.{isNew, lengthBitsBefore, codeInclusion, codeZeroPlanes, codePasses, codeBlock}
 use Rattle.t800.proofs.Laws.Tests.{either}
 use Rattle.t2_write_block.specs.Runs.{Running, behindCoded, codeNext, codeAll, setNext, setAll}
-use Rattle.t2_write_block.proofs.Laws.OneBlock.{Before, BlockBefore}
-use Rattle.t2_write_block.proofs.Laws.Rows.{AllBlocks}
 use Rattle.t2_write_new_blocks.specs.Bands.{newSet}
+use Rattle.tcd_places.proofs.Laws.Before.{AllBlocks, Before, BlockBefore}
 
 -- ---- coding in the front part
 

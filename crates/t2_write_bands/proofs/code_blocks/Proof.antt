@@ -10,11 +10,12 @@ use Rattle.t800.specs.State.{Block, blocksFrom}
 use Rattle.t800.specs.TagTree.{levels}
 use Rattle.tcd_layout.specs.Geometry.{padded}
 use Rattle.tgt.specs.Path.{rowOver, SmallLevels}
-use Rattle.t2_write_new_blocks.specs.declared.Grid.{Grid}
-use Rattle.t2_write_new_blocks.specs.Bands.{rowPlace, bandBlocks, BandIn}
+use Rattle.tcd_places.specs.declared.Grid.{Grid}
 use Rattle.bio_bytes.specs.Writing.{FreeBitsClear}
-use Rattle.t2_write_block.specs.Runs.{Running, running, codeAll, rowBlocks, AllFit, RowIn}
-use Rattle.t2_write_new_blocks.proofs.Laws.BandRows.{all-clear, small, row-ends, row-in, at-row, row-fits, left-fit, left-coded, all-left, none-left}
+use Rattle.t2_write_block.specs.Runs.{Running, running, codeAll, AllFit}
+use Rattle.t2_write_new_blocks.proofs.Laws.BandRows.{all-clear, row-fits, left-fit, left-coded}
+use Rattle.tcd_places.specs.Places.{BandIn, RowIn, bandBlocks, rowBlocks, rowPlace}
+use Rattle.tcd_places.proofs.Laws.BandRows.{all-left, at-row, none-left, row-ends, row-in, small}
 use Rattle.t2_write_bands.proofs.code_blocks.Statement.{statement}
 use Rattle.t2_write_bands.proofs.code_blocks.Tie as tie
 
@@ -83,7 +84,7 @@ code-row-requires c κs =
       l .inv .0,
       at-row (length (l .words)) (a .g .start) (a .band) b (l .y) t (RowIn (length (l .words))) _ _ _ ep er ew (row-in (length (l .words)) (a .g .start) (a .band) b (l .y) t),
       s .pre .5,
-      at-row (length (l .words)) (a .g .start) (a .band) b (l .y) t (λ p r n. AllFit (a .counts .now) (a .lengths .now) (a .marks .now) (l .words) (rowBlocks p r n 0) (l .run .block) (l .run .pass)) _ _ _ ep er ew
+      at-row (length (l .words)) (a .g .start) (a .band) b (l .y) t (λ p r n. AllFit (a .counts .now) (a .lengths .now) (a .marks .now) (l .words) (rowBlocks p r 0 n 0) (l .run .block) (l .run .pass)) _ _ _ ep er ew
           (row-fits (length (l .words)) (a .g .start) (a .band) b (l .y) t (a .layer) (a .counts .now) (a .lengths .now) (a .marks .now) u (l .inv .4)),
     )
 
@@ -106,7 +107,7 @@ loop-again c =
     let b = subst (λ (k : ℕ). BandIn k (a .g .start) (a .band)) (sym (l .inv .1)) (s .pre .2) in
     let u = running (l .words) (l .out) (l .run) in
     let g = c .before .before .before .before .code-row in
-    let e = g .ensures ∙ (λ i. codeAll (a .layer) (a .counts .now) (a .lengths .now) (a .marks .now) (rowBlocks (ep i) (er i) (ew i) 0) u) in (
+    let e = g .ensures ∙ (λ i. codeAll (a .layer) (a .counts .now) (a .lengths .now) (a .marks .now) (rowBlocks (ep i) (er i) 0 (ew i) 0) u) in (
       subst FreeBitsClear (sym (ap (λ (x : Running). x .output .bio) (g .ensures))) (all-clear (a .layer) (a .counts .now) (a .lengths .now) (a .marks .now) _ u (l .inv .0)),
       g .kept .1 .0 ∙ l .inv .1,
       g .kept .1 .1 .0 ∙ l .inv .2,

@@ -2,25 +2,22 @@
 use mathlib.Core.Path.{_≡_, refl, sym, ap, _∙_, subst}
 use mathlib.Core.Logic.{_≢_}
 use mathlib.Core.Bool.{cond}
-use mathlib.Core.List.{List, [], _∷_, _++_, reverse, reverseAux}
-use Prim.Native.Nat.{ℕ, zero, suc, _+_, _-_, _*_, _/_, _^_, _≤_, _<_}
-use native.Mathlib.Nat.{zero-add, suc-add}
+use mathlib.Core.List.{List, [], _∷_, _++_, reverse}
+use Prim.Native.Nat.{ℕ, zero, _+_, _*_, _≤_}
 use native.Mathlib.Omega.{arith}
 use lib.Dec.{eqb, ltb}
-use lib.ListN.{getD, take, drop}
-use lib.Pow.{shr-shr}
+use lib.ListN.{getD, drop}
 use lib.Seq.{drop-set-lt}
 use Rattle.t800.specs.Segments.{Segment}
 use Rattle.t800.specs.State.{Block, notYetPlanes}
 use Rattle.t800.specs.TagTree.{Coded, codePath}
 use Rattle.t800.specs.WriteHeader.{isNew, codeInclusion, codeZeroPlanes, codePasses, codeBlock}
-use Rattle.t800.proofs.Laws.Paths.{All}
 use Rattle.t800.proofs.Laws.Tests.{either, if-eq, if-ne}
 use Rattle.bio_bytes.specs.Writing.{Output, putBits, FreeBitsClear}
 use Rattle.bio_write.proofs.Laws.FreeBits.{putBits-append, putBits-clear}
-use Rattle.tgt.specs.Path.{nodesOver, pathOver, PathIn}
 use Rattle.tgt_write.specs.Coding.{LeafCoded, putCoded}
 use Rattle.t2_write_lengths.specs.Blocks.{coded, PassesFit}
+use Rattle.tcd_places.proofs.Laws.Before.{Before, BlockBefore, same-word}
 
 -- ---- branches
 
@@ -41,30 +38,7 @@ module _ (ws : List ℕ) (k : Block) where
   unfolding codeZeroPlanes isNew
   planes-old e = sym (if-ne (getD ws (k .at) 0) 0 _ _ e)
 
--- ---- a path's words lie before place q
-
-pub path-wider : (m n base : ℕ) (row : List ℕ) (depth x : ℕ) → m ≤ n → PathIn m base row depth x → PathIn n base row depth x
-path-wider m n base row depth x h p = record { some = p .some; atMostSeven = p .atMostSeven; long = p .long; inside = λ i l. omega (arith, p .inside i l) }
-
-abbrev pub Before : ℕ → ℕ → List ℕ → Type 0
-Before q base ns = All (λ n. base + 3 * n + 2 < q) ns
-
-nodes-before : (q base : ℕ) (row : List ℕ) (depth x : ℕ) → ((i : ℕ) → i < depth → base + 3 * (getD row i 0 + x / 2 ^ i) + 2 < q) → Before q base (nodesOver (take depth row) x)
-unfolding nodesOver
-nodes-before q base row zero x h = tt
-nodes-before q base [] (suc d) x h = tt
-nodes-before q base (n ∷ ns) (suc d) x h =
-    (omega (arith, h 0 (omega arith)), nodes-before q base ns d (x / 2) (λ i l. subst (λ (z : ℕ). base + 3 * (getD ns i 0 + z) + 2 < q) (sym (shr-shr x 1 i ∙ ap (λ (z : ℕ). x / 2 ^ z) (omega arith))) (h (suc i) (omega arith))))
-
-pub onto-before : (q base : ℕ) (js ks : List ℕ) → Before q base js → Before q base ks → Before q base (reverseAux js ks)
-onto-before q base [] ks h g = g
-onto-before q base (j ∷ js) ks h g = onto-before q base js (j ∷ ks) (h .1) (h .0, g)
-
-pub reversed-before : (q base : ℕ) (js : List ℕ) → Before q base js → Before q base (reverse js)
-reversed-before q base js h = onto-before q base js [] h tt
-
-pub path-before : (q base : ℕ) (row : List ℕ) (depth x : ℕ) → PathIn q base row depth x → Before q base (reverse (pathOver row depth x))
-path-before q base row depth x p = reversed-before q base (pathOver row depth x) (nodes-before q base row depth x (p .inside))
+-- ---- words that stay
 
 -- coding it leaves what stands from q on
 path-keeps : (q base t : ℕ) (ns : List ℕ) (l : ℕ) (ws : List ℕ) → Before q base ns → drop q (codePath base t ns l ws .words) ≡ drop q ws
@@ -72,12 +46,6 @@ unfolding codePath
 path-keeps q base t [] l ws h = refl
 path-keeps q base t (n ∷ ns) l ws h =
     path-keeps q base t ns _ _ (h .1) ∙ drop-set-lt q _ (base + 3 * n + 2) _ (h .0) ∙ drop-set-lt q ws (base + 3 * n + 1) _ (omega (arith, h .0))
-
--- both trees' paths, and the block's own words
-pub record BlockBefore (q : ℕ) (k : Block) : Type 0 where
-  pub incl : Before q (k .inclTree) (reverse (k .path))
-  pub zero : Before q (k .zeroTree) (reverse (k .path))
-  pub own : k .at + 4 ≤ q
 
 module _ (q : ℕ) (k : Block) (ws : List ℕ) where
   pub incl-keeps : (t c : ℕ) → Before q (k .inclTree) (reverse (k .path)) → drop q (codeInclusion t k c ws .words) ≡ drop q ws
@@ -101,16 +69,6 @@ block-keeps q t c k segments ws b =
     either (λ (d : Coded). drop q (d .words) ≡ drop q ws) (eqb c 0) _ _ e (passes-keep q k (z .words) c segments (b .own) ∙ planes-keep q k (i .words) (b .zero) ∙ e)
 
 -- ---- the words of the block itself
-
-getD-drop : (q j : ℕ) (l : List ℕ) → getD (drop q l) j 0 ≡ getD l (q + j) 0
-getD-drop zero j l = ap (λ (k : ℕ). getD l k 0) (sym (zero-add j))
-getD-drop (suc q) j [] = refl
-getD-drop (suc q) j (x ∷ xs) = getD-drop q j xs ∙ ap (λ (k : ℕ). getD (x ∷ xs) k 0) (sym (suc-add q j))
-
-pub same-word : (q i : ℕ) (ws vs : List ℕ) → drop q ws ≡ drop q vs → q ≤ i → getD ws i 0 ≡ getD vs i 0
-same-word q i ws vs e h =
-    let s : q + (i - q) ≡ i = omega arith in
-    subst (λ (k : ℕ). getD ws k 0 ≡ getD vs k 0) s (sym (getD-drop q (i - q) ws) ∙ ap (λ (l : List ℕ). getD l (i - q) 0) e ∙ getD-drop q (i - q) vs)
 
 pub still-fit : (q at c : ℕ) (ws vs ls ms : List ℕ) → drop q ws ≡ drop q vs → q ≤ at → PassesFit (getD vs at 0) (getD vs (at + 1) 0) c ls ms → PassesFit (getD ws at 0) (getD ws (at + 1) 0) c ls ms
 still-fit q at c ws vs ls ms e h f = rw (same-word q at ws vs e h, same-word q (at + 1) ws vs e (omega arith)) f

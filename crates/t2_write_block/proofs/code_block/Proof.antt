@@ -6,9 +6,10 @@ use lib.ListN.{drop}
 use Rattle.t800.specs.Segments.{segmentsOf}
 use Rattle.bio_bytes.specs.Writing.{output}
 use Rattle.tgt_write.specs.Coding.{LeafCoded, putCoded}
-use Rattle.t2_write_lengths.specs.Blocks.{blockOver, BlockIn}
 use Rattle.t2_write_lengths.proofs.Laws.Passes.{same-passes}
-use Rattle.t2_write_block.proofs.Laws.OneBlock.{path-before, incl-keeps, planes-keep, still-fit, coded-clear, block-absent, block-is}
+use Rattle.tcd_places.specs.Places.{BlockIn, blockIn}
+use Rattle.tcd_places.proofs.Laws.Before.{path-before}
+use Rattle.t2_write_block.proofs.Laws.OneBlock.{incl-keeps, planes-keep, still-fit, coded-clear, block-absent, block-is}
 use Rattle.t2_write_block.proofs.code_block.Statement.{statement}
 use Rattle.t2_write_block.proofs.code_block.Tie as tie
 
@@ -24,7 +25,7 @@ same-length-2 c = c .before .before .before .before .before .code-inclusion .kep
 returns : tie.Need-returns
 returns c =
     let s = c .before .before .before .before .before .before .before .before .before .before .before .before in
-    block-absent (s .args .layer) (s .args .count) (blockOver (s .args .p) (s .args .row .now)) (segmentsOf (s .args .lengths .now) (s .args .marks .now)) (s .args .words .now) (output (s .args .out .now) (s .args .b)) _ (c .if1 .taken) (c .before .before .before .before .before .code-inclusion .ensures)
+    block-absent (s .args .layer) (s .args .count) (blockIn (s .args .p) (s .args .row .now) 0) (segmentsOf (s .args .lengths .now) (s .args .marks .now)) (s .args .words .now) (output (s .args .out .now) (s .args .b)) _ (c .if1 .taken) (c .before .before .before .before .before .code-inclusion .ensures)
 
 code-zero-planes-requires : tie.Need-code-zero-planes-requires
 code-zero-planes-requires c κs =
@@ -39,7 +40,7 @@ code-passes-requires c κs =
     let row = s .args .row .now in
     let i = c .before .before .before .before .before .before .before .before .before .before .before .before .before .before .code-inclusion in
     let z = c .before .before .before .before .before .before .code-zero-planes in
-    let k = blockOver p row in
+    let k = blockIn p row 0 in
     let e = ap (λ (x : LeafCoded). drop (p .at) (x .words)) (z .ensures)
     ∙ planes-keep (p .at) k (i .last .0) (path-before (p .at) (p .zero) row (p .depth) (p .x) (s .pre .2 .zero))
     ∙ ap (λ (x : LeafCoded). drop (p .at) (x .words)) (i .ensures)
@@ -60,7 +61,7 @@ same-length-4 c = c .before .before .before .before .code-passes .kept .1 .1 .0 
 returns-2 : tie.Need-returns-2
 returns-2 c =
     let s = c .before .before .before .before .before .before .before .before .before .before .before .before .before .before .before .before .before .before .before .before .before .before .before .before .before .before in
-    let k = blockOver (s .args .p) (s .args .row .now) in
+    let k = blockIn (s .args .p) (s .args .row .now) 0 in
     let z = c .before .before .before .before .before .before .before .before .before .before .before .code-zero-planes in
     block-is (s .args .layer) (s .args .count) k (segmentsOf (s .args .lengths .now) (s .args .marks .now)) (s .args .words .now) (output (s .args .out .now) (s .args .b)) _ _ _ (c .before .before .before .before .before .before .before .before .before .before .before .before .before .before .if1 .left) (c .before .before .before .before .before .before .before .before .before .before .before .before .before .before .before .before .before .before .before .code-inclusion .ensures) (z .ensures)
     (c .before .before .before .before .code-passes .ensures ∙ ap (putCoded (output (z .last .1 .0) (z .result))) (same-passes k (s .args .count) (segmentsOf (s .args .lengths .now) (s .args .marks .now)) (z .last .0)))

@@ -8,8 +8,10 @@ use borrow.Author.Needs.{needs}
 use Rattle.t800.proofs.Laws.Tests.{either}
 use Rattle.bio_bytes.specs.Writing.{output, putBit, putBits}
 use Rattle.tgt_write.specs.Coding.{putCoded}
-use Rattle.t2_write_lengths.specs.Blocks.{blockOver, coded}
-use Rattle.t2_write_block.proofs.Laws.OneBlock.{incl-new, incl-old, path-wider}
+use Rattle.t2_write_lengths.specs.Blocks.{coded}
+use Rattle.tcd_places.specs.Places.{blockIn}
+use Rattle.tcd_places.proofs.Laws.Before.{path-wider}
+use Rattle.t2_write_block.proofs.Laws.OneBlock.{incl-new, incl-old}
 use Rattle.t2_write_block.proofs.code_inclusion.Statement.{statement}
 use Rattle.t2_write_block.proofs.code_inclusion.Tie as tie
 
@@ -34,7 +36,7 @@ same-length-2 c = c .before .before .before .before .opj-tgt-encode .kept .1 .0
 returns : tie.Need-returns
 returns c =
     let s = c .before .before .before .before .before .before .before .before .before .before .before in
-    c .before .before .before .before .opj-tgt-encode .ensures ∙ ap (putCoded (output (s .args .out .now) (s .args .b))) (incl-new (s .args .words .now) (blockOver (s .args .p) (s .args .row .now)) (s .args .layer) (s .args .count) (c .before .before .before .before .before .before .before .if1 .taken))
+    c .before .before .before .before .opj-tgt-encode .ensures ∙ ap (putCoded (output (s .args .out .now) (s .args .b))) (incl-new (s .args .words .now) (blockIn (s .args .p) (s .args .row .now) 0) (s .args .layer) (s .args .count) (c .before .before .before .before .before .before .before .if1 .taken))
 
 included-requires : tie.Need-included-requires
 included-requires c κs = search needs
@@ -53,7 +55,7 @@ returns-2 c =
     let s = c .before .before .before .before .before .before .before .before .before in
     let o = output (s .args .out .now) (s .args .b) in
     ap (coded (s .args .words .now)) (c .before .before .bit-out .ensures ∙ ap (putBit o) (c .before .before .before .before .included .ensures))
-    ∙ ap (putCoded o) (incl-old (s .args .words .now) (blockOver (s .args .p) (s .args .row .now)) (s .args .layer) (s .args .count) (c .before .before .before .before .before .if1 .left))
+    ∙ ap (putCoded o) (incl-old (s .args .words .now) (blockIn (s .args .p) (s .args .row .now) 0) (s .args .layer) (s .args .count) (c .before .before .before .before .before .if1 .left))
 
 pub code-inclusion-spec : {M : Type 1} → statement M
 code-inclusion-spec =

@@ -4,7 +4,8 @@ use Prim.Native.Nat.{ℕ, _+_, _-_}
 use native.Mathlib.Omega.{arith}
 use lib.ListN.{drop, take, getD}
 use borrow.Author.Needs.{needs}
-use Rattle.t2_write_lengths.specs.Blocks.{blockOver, PassesFit}
+use Rattle.t2_write_lengths.specs.Blocks.{PassesFit}
+use Rattle.tcd_places.specs.Places.{blockIn}
 use Rattle.t2_write_block.specs.Runs.{running}
 use Rattle.t2_write_block.proofs.Laws.Rows.{next-is}
 use Rattle.t2_write_block.proofs.code_next.Statement.{statement}
@@ -65,7 +66,7 @@ returns c =
     let s = c .before .before .before .before .before .before .before .before .before .before .before .before .before .before .before in
     let n = getD (s .args .counts .now) (s .args .r .block) 0 in
     let e : s .args .r .pass + n - s .args .r .pass ≡ n = omega arith in
-    next-is (s .args .layer) _ (s .args .counts .now) (s .args .lengths .now) (s .args .marks .now) (blockOver (s .args .p) (s .args .row .now)) (running (s .args .words .now) (s .args .out .now) (s .args .r)) _ e (c .before .before .before .before .code-block .ensures)
+    next-is (s .args .layer) _ (s .args .counts .now) (s .args .lengths .now) (s .args .marks .now) (blockIn (s .args .p) (s .args .row .now) 0) (running (s .args .words .now) (s .args .out .now) (s .args .r)) _ e (c .before .before .before .before .code-block .ensures)
 
 pub code-next-spec : {M : Type 1} → statement M
 code-next-spec =

@@ -6,10 +6,11 @@ use native.Mathlib.Omega.{arith}
 use lib.ListN.{length}
 use Rattle.t800.specs.State.{Block}
 use Rattle.bio_bytes.specs.Writing.{FreeBitsClear}
-use Rattle.t2_write_lengths.specs.declared.Place.{Place}
-use Rattle.t2_write_lengths.specs.Blocks.{blockOver, BlockIn}
-use Rattle.t2_write_block.specs.Runs.{Running, running, codeNext, codeAll, rowBlocks, NextFits, AllFit, RowIn}
-use Rattle.t2_write_block.proofs.Laws.Rows.{next-clear, block-in, fits-now, fits-then, codes-then, row-end}
+use Rattle.tcd_places.specs.declared.Place.{Place}
+use Rattle.tcd_places.specs.Places.{BlockIn, RowIn, blockIn, rowBlocks}
+use Rattle.tcd_places.proofs.Laws.Rows.{block-in, row-end}
+use Rattle.t2_write_block.specs.Runs.{Running, running, codeNext, codeAll, NextFits, AllFit}
+use Rattle.t2_write_block.proofs.Laws.Rows.{next-clear, fits-now, fits-then, codes-then}
 use Rattle.t2_write_block.proofs.code_row.Statement.{statement}
 use Rattle.t2_write_block.proofs.code_row.Tie as tie
 
@@ -19,8 +20,8 @@ Inv-loop codes words₀ out₀ p n row layer counts lengths marks run₀ i₀ wo
     × (length words ≡ length words₀)
     × (length out ≡ length out₀)
     × (i ≤ n)
-    × (AllFit counts lengths marks words (rowBlocks p row (n - i) i) (run .block) (run .pass))
-    × (codeAll layer counts lengths marks (rowBlocks p row (n - i) i) (running words out run) ≡ codeAll layer counts lengths marks (rowBlocks p row n 0) (running words₀ out₀ run₀))
+    × (AllFit counts lengths marks words (rowBlocks p row 0 (n - i) i) (run .block) (run .pass))
+    × (codeAll layer counts lengths marks (rowBlocks p row 0 (n - i) i) (running words out run) ≡ codeAll layer counts lengths marks (rowBlocks p row 0 n 0) (running words₀ out₀ run₀))
 
 abbrev μ-loop : tie.MeasureT-loop
 μ-loop codes words₀ out₀ p n row layer counts lengths marks run₀ i₀ words out run i = n - i
@@ -34,8 +35,8 @@ loop-holds c =
       refl,
       refl,
       omega arith,
-      subst (λ (k : ℕ). AllFit (a .counts .now) (a .lengths .now) (a .marks .now) (a .words .now) (rowBlocks (a .p) (a .row .now) k 0) (a .r .block) (a .r .pass)) (sym e) (s .pre .4),
-      ap (λ (k : ℕ). codeAll (a .layer) (a .counts .now) (a .lengths .now) (a .marks .now) (rowBlocks (a .p) (a .row .now) k 0) (running (a .words .now) (a .out .now) (a .r))) e,
+      subst (λ (k : ℕ). AllFit (a .counts .now) (a .lengths .now) (a .marks .now) (a .words .now) (rowBlocks (a .p) (a .row .now) 0 k 0) (a .r .block) (a .r .pass)) (sym e) (s .pre .4),
+      ap (λ (k : ℕ). codeAll (a .layer) (a .counts .now) (a .lengths .now) (a .marks .now) (rowBlocks (a .p) (a .row .now) 0 k 0) (running (a .words .now) (a .out .now) (a .r))) e,
     )
 
 place-at-requires : tie.Need-place-at-requires Inv-loop μ-loop
@@ -72,7 +73,7 @@ loop-again c =
     let g = c .before .before .before .before .code-next in
     let u = running (l .words) (l .out) (l .run) in
     let r = subst (λ (k : ℕ). RowIn k (a .p) (a .row .now) (a .n)) (sym (l .inv .1)) (s .pre .2) in
-    let e = g .ensures ∙ ap (λ (k : Place). codeNext (a .layer) (a .counts .now) (a .lengths .now) (a .marks .now) (blockOver k (a .row .now)) u) (c .before .before .before .before .before .before .before .place-at .ensures) in (
+    let e = g .ensures ∙ ap (λ (k : Place). codeNext (a .layer) (a .counts .now) (a .lengths .now) (a .marks .now) (blockIn k (a .row .now) 0) u) (c .before .before .before .before .before .before .before .place-at .ensures) in (
       subst FreeBitsClear (sym (ap (λ (x : Running). x .output .bio) (g .ensures))) (next-clear (a .layer) (a .counts .now) (a .lengths .now) (a .marks .now) _ u (l .inv .0)),
       g .kept .1 .0 ∙ l .inv .1,
       g .kept .1 .1 .0 ∙ l .inv .2,
@@ -92,7 +93,7 @@ unfolding codeAll
 returns c =
     let a = c .before .before .before .before .before .before .before .args in
     let l = c .before .loop in
-    sym (ap (λ (ks : List Block). codeAll (a .layer) (a .counts .now) (a .lengths .now) (a .marks .now) ks (running (l .words) (l .out) (l .run))) (row-end (a .p) (a .row .now) (a .n) (l .i) (c .loop-test .left))) ∙ l .inv .5
+    sym (ap (λ (ks : List Block). codeAll (a .layer) (a .counts .now) (a .lengths .now) (a .marks .now) ks (running (l .words) (l .out) (l .run))) (row-end (a .p) (a .row .now) 0 (a .n) (l .i) (c .loop-test .left))) ∙ l .inv .5
 
 pub code-row-spec : {M : Type 1} → statement M
 code-row-spec =

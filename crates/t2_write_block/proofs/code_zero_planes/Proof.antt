@@ -5,8 +5,9 @@ use lib.ListN.{length}
 use borrow.Author.Needs.{needs}
 use Rattle.bio_bytes.specs.Writing.{output, putBits}
 use Rattle.tgt_write.specs.Coding.{putCoded}
-use Rattle.t2_write_lengths.specs.Blocks.{blockOver}
-use Rattle.t2_write_block.proofs.Laws.OneBlock.{planes-new, planes-old, path-wider}
+use Rattle.tcd_places.specs.Places.{blockIn}
+use Rattle.tcd_places.proofs.Laws.Before.{path-wider}
+use Rattle.t2_write_block.proofs.Laws.OneBlock.{planes-new, planes-old}
 use Rattle.t2_write_block.proofs.code_zero_planes.Statement.{statement}
 use Rattle.t2_write_block.proofs.code_zero_planes.Tie as tie
 
@@ -28,11 +29,11 @@ same-length-2 c = c .before .before .before .before .opj-tgt-encode .kept .1 .0
 returns : tie.Need-returns
 returns c =
     let s = c .before .before .before .before .before .before .before .before .before .before .before in
-    c .before .before .before .before .opj-tgt-encode .ensures ∙ ap (putCoded (output (s .args .out .now) (s .args .b))) (planes-new (s .args .words .now) (blockOver (s .args .p) (s .args .row .now)) (c .before .before .before .before .before .before .before .if1 .taken))
+    c .before .before .before .before .opj-tgt-encode .ensures ∙ ap (putCoded (output (s .args .out .now) (s .args .b))) (planes-new (s .args .words .now) (blockIn (s .args .p) (s .args .row .now) 0) (c .before .before .before .before .before .before .before .if1 .taken))
 
 returns-2 : tie.Need-returns-2
 unfolding putBits
-returns-2 c = let s = c .before .before .before .before in ap (putCoded (output (s .args .out .now) (s .args .b))) (planes-old (s .args .words .now) (blockOver (s .args .p) (s .args .row .now)) (c .if1 .left))
+returns-2 c = let s = c .before .before .before .before in ap (putCoded (output (s .args .out .now) (s .args .b))) (planes-old (s .args .words .now) (blockIn (s .args .p) (s .args .row .now) 0) (c .if1 .left))
 
 pub code-zero-planes-spec : {M : Type 1} → statement M
 code-zero-planes-spec =

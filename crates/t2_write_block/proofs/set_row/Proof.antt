@@ -5,10 +5,11 @@ use Prim.Native.Nat.{ℕ, _+_, _-_, _≤_}
 use native.Mathlib.Omega.{arith}
 use lib.ListN.{length, getD}
 use Rattle.t800.specs.State.{Block}
-use Rattle.t2_write_lengths.specs.declared.Place.{Place}
-use Rattle.t2_write_lengths.specs.Blocks.{blockOver, BlockIn}
-use Rattle.t2_write_block.specs.Runs.{rowBlocks, RowIn, setNext, setAll}
-use Rattle.t2_write_block.proofs.Laws.Rows.{block-in, sets-then, row-end}
+use Rattle.tcd_places.specs.declared.Place.{Place}
+use Rattle.tcd_places.specs.Places.{BlockIn, RowIn, blockIn, rowBlocks}
+use Rattle.tcd_places.proofs.Laws.Rows.{block-in, row-end}
+use Rattle.t2_write_block.specs.Runs.{setNext, setAll}
+use Rattle.t2_write_block.proofs.Laws.Rows.{sets-then}
 use Rattle.t2_write_block.proofs.set_row.Statement.{statement}
 use Rattle.t2_write_block.proofs.set_row.Tie as tie
 
@@ -16,7 +17,7 @@ abbrev Inv-loop : tie.InvT-loop
 Inv-loop words₀ p n row layer counts block i₀ words i =
     (length words ≡ length words₀)
     × (i ≤ n)
-    × (setAll layer counts (rowBlocks p row (n - i) i) (block + i) words ≡ setAll layer counts (rowBlocks p row n 0) block words₀)
+    × (setAll layer counts (rowBlocks p row 0 (n - i) i) (block + i) words ≡ setAll layer counts (rowBlocks p row 0 n 0) block words₀)
 
 abbrev μ-loop : tie.MeasureT-loop
 μ-loop words₀ p n row layer counts block i₀ words i = n - i
@@ -26,7 +27,7 @@ loop-holds c =
     let a = c .before .before .args in
     let e : a .n - 0 ≡ a .n = omega arith in
     let f : a .block + 0 ≡ a .block = omega arith in
-    (refl, omega arith, λ j. setAll (a .layer) (a .counts .now) (rowBlocks (a .p) (a .row .now) (e j) 0) (f j) (a .words .now))
+    (refl, omega arith, λ j. setAll (a .layer) (a .counts .now) (rowBlocks (a .p) (a .row .now) 0 (e j) 0) (f j) (a .words .now))
 
 place-at-requires : tie.Need-place-at-requires Inv-loop μ-loop
 place-at-requires c κs = let s = c .before .before .before .before in (omega (arith, s .pre .0 .small), omega (arith, s .pre .0 .inside))
@@ -61,7 +62,7 @@ loop-again c =
     let l = c .before .before .before .before .before .before .before .loop in
     let t = c .before .before .before .before .before .before .loop-test .taken in
     let g = c .before .before .set-next in
-    let e = g .ensures ∙ ap (λ (k : Place). setNext (a .layer) (blockOver k (a .row .now)) (getD (a .counts .now) (a .block + l .i) 0) (l .words)) (c .before .before .before .before .before .place-at .ensures) in
+    let e = g .ensures ∙ ap (λ (k : Place). setNext (a .layer) (blockIn k (a .row .now) 0) (getD (a .counts .now) (a .block + l .i) 0) (l .words)) (c .before .before .before .before .before .place-at .ensures) in
     (g .kept .0 ∙ l .inv .0, omega arith, sets-then (length (a .words .now)) (a .n) (l .i) (a .p) (a .row .now) t (s .pre .0) (a .layer) (a .block) (a .counts .now) (l .words) _ e ∙ l .inv .2)
 
 same-length : tie.Need-same-length Inv-loop μ-loop
@@ -72,7 +73,7 @@ unfolding setAll
 returns c =
     let a = c .before .before .before .before .args in
     let l = c .before .loop in
-    sym (ap (λ (ks : List Block). setAll (a .layer) (a .counts .now) ks (a .block + l .i) (l .words)) (row-end (a .p) (a .row .now) (a .n) (l .i) (c .loop-test .left))) ∙ l .inv .2
+    sym (ap (λ (ks : List Block). setAll (a .layer) (a .counts .now) ks (a .block + l .i) (l .words)) (row-end (a .p) (a .row .now) 0 (a .n) (l .i) (c .loop-test .left))) ∙ l .inv .2
 
 pub set-row-spec : {M : Type 1} → statement M
 set-row-spec =

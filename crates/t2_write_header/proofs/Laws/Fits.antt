@@ -21,7 +21,7 @@ use Rattle.t2_widths.proofs.Laws.Lists.{sum-turn}
 use Rattle.t2_refusals.proofs.Laws.NotRefused.{NotRefused, count-up-to-164, none-long-first, none-wide-first}
 use Rattle.t2_write_lengths.specs.Blocks.{PassesFit}
 use Rattle.t2_write_block.specs.Runs.{AllFit}
-use Rattle.t2_write_block.proofs.Laws.Rows.{AllBlocks}
+use Rattle.tcd_places.proofs.Laws.Before.{AllBlocks}
 
 -- ---- the words of a block in a state that 5 lets pass
 

@@ -10,8 +10,9 @@ use Rattle.t800.specs.WriteHeader.{isNew, lengthBitsBefore, codePasses}
 use Rattle.bio_bytes.specs.Writing.{Output, putBits}
 use Rattle.bio_write.proofs.Laws.FreeBits.{putBits-append}
 use Rattle.tgt_write.specs.Coding.{putCoded}
+use Rattle.tcd_places.specs.Places.{blockAt}
 use Rattle.t2_write_lengths.specs.Lengths.{Lengths, putLengths}
-use Rattle.t2_write_lengths.specs.Blocks.{blockAt, coded}
+use Rattle.t2_write_lengths.specs.Blocks.{coded}
 
 abbrev lengthsAre : Output → ℕ → Lengths
 lengthsAre o n = record { output = o; lengthBits = n }

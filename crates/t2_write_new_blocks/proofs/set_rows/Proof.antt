@@ -10,10 +10,11 @@ use Rattle.t800.specs.State.{Block, blocksFrom}
 use Rattle.t800.specs.TagTree.{levels}
 use Rattle.tcd_layout.specs.Geometry.{padded}
 use Rattle.tgt.specs.Path.{rowOver, SmallLevels}
-use Rattle.t2_write_new_blocks.specs.declared.Grid.{Grid}
-use Rattle.t2_write_new_blocks.specs.Bands.{rowPlace, bandBlocks, BandIn}
-use Rattle.t2_write_block.specs.Runs.{rowBlocks, RowIn, setAll}
-use Rattle.t2_write_new_blocks.proofs.Laws.BandRows.{small, row-ends, row-counts, row-in, at-row, left-set, all-left, none-left}
+use Rattle.tcd_places.specs.Places.{BandIn, RowIn, bandBlocks, rowBlocks, rowPlace}
+use Rattle.tcd_places.proofs.Laws.BandRows.{all-left, at-row, none-left, row-counts, row-ends, row-in, small}
+use Rattle.tcd_places.specs.declared.Grid.{Grid}
+use Rattle.t2_write_block.specs.Runs.{setAll}
+use Rattle.t2_write_new_blocks.proofs.Laws.BandRows.{left-set}
 use Rattle.t2_write_new_blocks.proofs.set_rows.Statement.{statement}
 use Rattle.t2_write_new_blocks.proofs.set_rows.Tie as tie
 
@@ -110,7 +111,7 @@ loop-again c =
     let er = c .before .before .before .before .before .before .before .opj-tgt-row .ensures ∙ (λ i. rowOver (s .pre .2 i) (ge i .depth) (l .y)) in
     let ew = ap (λ (k : Grid). k .w) ge in
     let g = c .before .before .set-row in
-    let e = g .ensures ∙ (λ i. setAll (a .layer) (a .counts .now) (rowBlocks (ep i) (er i) (ew i) 0) (a .block + l .y * ew i) (l .words)) in
+    let e = g .ensures ∙ (λ i. setAll (a .layer) (a .counts .now) (rowBlocks (ep i) (er i) 0 (ew i) 0) (a .block + l .y * ew i) (l .words)) in
     (g .kept .0 ∙ l .inv .0, omega (arith, t), left-set (length (a .words .now)) (a .g .start) (a .band) (s .pre .0) (l .y) t (a .layer) (a .counts .now) (a .block) (l .words) _ e ∙ l .inv .2)
 
 same-length : tie.Need-same-length Inv-loop μ-loop

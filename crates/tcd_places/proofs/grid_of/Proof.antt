@@ -1,7 +1,7 @@
--- `t2_write_new_blocks::grid_of` meets its contract.
+-- `tcd_places::grid_of` meets its contract.
 use borrow.Author.Needs.{needs}
-use Rattle.t2_write_new_blocks.proofs.grid_of.Statement.{statement}
-use Rattle.t2_write_new_blocks.proofs.grid_of.Tie as tie
+use Rattle.tcd_places.proofs.grid_of.Statement.{statement}
+use Rattle.tcd_places.proofs.grid_of.Tie as tie
 
 band-nodes-requires : tie.Need-band-nodes-requires
 band-nodes-requires c = search needs

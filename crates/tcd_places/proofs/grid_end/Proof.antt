@@ -1,12 +1,12 @@
--- `t2_write_new_blocks::grid_end` meets its contract.
+-- `tcd_places::grid_end` meets its contract.
 use borrow.Author.Needs.{needs}
 use mathlib.Core.Path.{ap}
 use native.Mathlib.Omega.{arith}
 use Rattle.t800.proofs.Laws.Layout.{band-length}
 use Rattle.tcd_layout.proofs.Laws.Bands.{blocks-up-to-4096, nodes-of-band-up-to}
-use Rattle.t2_write_new_blocks.specs.declared.Grid.{Grid}
-use Rattle.t2_write_new_blocks.proofs.grid_end.Statement.{statement}
-use Rattle.t2_write_new_blocks.proofs.grid_end.Tie as tie
+use Rattle.tcd_places.specs.declared.Grid.{Grid}
+use Rattle.tcd_places.proofs.grid_end.Statement.{statement}
+use Rattle.tcd_places.proofs.grid_end.Tie as tie
 
 band-blocks-requires : tie.Need-band-blocks-requires
 band-blocks-requires c κs = search needs

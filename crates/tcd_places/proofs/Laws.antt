@@ -1,0 +1,4 @@
+pub mod Before
+pub mod Rows
+pub mod BandBlocks
+pub mod BandRows
