@@ -1,3 +1,1 @@
 pub mod Laws
-pub mod RoundTrip
-pub mod Numbers

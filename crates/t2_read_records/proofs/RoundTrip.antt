@@ -11,9 +11,9 @@ use Rattle.t800.specs.Reports.{SegmentRecord, recordWords}
 use Rattle.t800.specs.Packet.{ReadResult, refusedAnswer}
 use Rattle.t800.specs.RoundTrip.{ReadCall, readOf, Owed, GivesEntry}
 use Rattle.t800.proofs.Laws.Tests.{if-true, if-false, on-eq}
-use Rattle.t2.specs.Calls.{WasRead, owedOf, RoundTripOfCalls}
-use Rattle.t2.specs.Calls as numbers
-use Rattle.t2.proofs.RoundTrip.{round-trip-of-calls}
+use Rattle.t2_theorems.specs.Calls.{WasRead, owedOf, RoundTripOfCalls}
+use Rattle.t2_theorems.specs.Calls as numbers
+use Rattle.t2_theorems.proofs.RoundTrip.{round-trip-of-calls}
 use Rattle.t2_records.specs.declared.Segment.{Segment}
 use Rattle.t2_records.specs.Segments.{wordsOf}
 use Rattle.t2_read_records.specs.Reading.{StructsRead, wrongListNumber, readStructs}

@@ -22,9 +22,9 @@ use Rattle.t800.specs.Packet.{ReadResult, refusedAnswer, readRefusal, readAbsen
 use Rattle.t800.proofs.Laws.Tests.{if-true, if-false, either, not-refused}
 use Rattle.t800.proofs.Laws.Lists.{record-words-length}
 use Rattle.t800.specs.RoundTrip.{ReadCall, readOf}
-use Rattle.t2.specs.Calls.{WasRead}
-use Rattle.t2.specs.Numbers.{NoneHolds, readChecks, NumbersOfCalls}
-use Rattle.t2.proofs.Numbers.{numbers-of-calls}
+use Rattle.t2_theorems.specs.Calls.{WasRead}
+use Rattle.t2_theorems.specs.Numbers.{NoneHolds, readChecks, NumbersOfCalls}
+use Rattle.t2_theorems.proofs.Numbers.{numbers-of-calls}
 use Rattle.t2_read_packet.specs.Answers.{readResult}
 use Rattle.t2_records.specs.declared.Segment.{Segment}
 use Rattle.t2_records.specs.Segments.{wordsOf, segmentAt, filled}

@@ -15,7 +15,7 @@ use Rattle.t800.specs.WriteHeader.{segmentTooLong, fieldTooWide}
 use Rattle.t800.specs.ReadHeader.{readHeader}
 use Rattle.t800.specs.Packet.{wrongLists, packet}
 use Rattle.t800.specs.RoundTrip.{WriteCall, ReadCall}
-use Rattle.t2.specs.Calls.{Started, Measured, Written, WasRead}
+use Rattle.t2_theorems.specs.Calls.{Started, Measured, Written, WasRead}
 
 -- a number, and whether its condition holds
 pub record Check : Type 0 where

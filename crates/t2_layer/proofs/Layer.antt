@@ -17,9 +17,9 @@ use Rattle.t800.specs.RoundTrip.{WriteCall, writeOf, Owed}
 use Rattle.t800.specs.RoundTrip as defs
 use Rattle.t800.proofs.Laws.Tests.{if-true, if-false}
 use Rattle.round_trip.proofs.Trip.Calls.{is-accepted}
-use Rattle.t2.specs.Calls.{Started, Written, WasRead, written, Follows, wasAccepted, owedFor, owedOf, allTerminated, packetMade, ReadAsOwed, RoundTripOfCalls}
-use Rattle.t2_theorems.specs.Layer.{FirstLayer, Lent, startOf, writeOfLayer, layerResult, layerBy, writeAndRead, GivesEntry}
-use Rattle.t2.proofs.RoundTrip.{round-trip-of-calls}
+use Rattle.t2_theorems.specs.Calls.{Started, Written, WasRead, written, Follows, wasAccepted, owedFor, owedOf, allTerminated, packetMade, ReadAsOwed, RoundTripOfCalls}
+use Rattle.t2_layer.specs.Layer.{FirstLayer, Lent, startOf, writeOfLayer, layerResult, layerBy, writeAndRead, GivesEntry}
+use Rattle.t2_theorems.proofs.RoundTrip.{round-trip-of-calls}
 
 one-owed : (style : ℕ) (book : List BlockEntry) (w : Written) → wasAccepted w ≡ true → owedOf style book (written w ∷ []) ≡ owedFor style book w ∷ []
 unfolding owedOf

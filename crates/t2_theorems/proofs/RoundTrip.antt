@@ -13,7 +13,7 @@ use Rattle.t800.specs.Book.{BlockEntry, newBook, entry, addCounts, terminatedAs
 use Rattle.t800.specs.RoundTrip as defs
 use Rattle.t800.specs.RoundTrip.{WriterCall, measuring, writing, writeOf, ReaderCall, refusedRead, packetRead, readOf, Owed, GivesEntry, owed, allTerminatedAsStyle, ReadsAsOwed, RoundTrip}
 use Rattle.round_trip.proofs.Trip.RoundTrip.{round-trip}
-use Rattle.t2.specs.Calls.{Written, WasRead, WriterMade, measured, written, Follows, owedFor, owedOf, allTerminated, ReaderMade, refusedMade, packetMade, ReadAsOwed, RoundTripOfCalls}
+use Rattle.t2_theorems.specs.Calls.{Written, WasRead, WriterMade, measured, written, Follows, owedFor, owedOf, allTerminated, ReaderMade, refusedMade, packetMade, ReadAsOwed, RoundTripOfCalls}
 
 -- ---- the writer's calls
 

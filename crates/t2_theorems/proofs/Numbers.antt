@@ -22,8 +22,8 @@ use Rattle.t800.specs.WriteHeader.{isNew}
 use Rattle.t800.specs.Packet.{MeasureResult, measureRefusal, measure, WriteResult, writeRefusal, write, ReadResult, readRefusal, readAbsent, readPresent, read}
 use Rattle.t800.specs.RoundTrip.{WriteCall, ReadCall}
 use Rattle.t800.proofs.Laws.Tests.{if-true, if-false, if-eq, if-ne, either, on-eq}
-use Rattle.t2.specs.Calls.{Started, Measured, Written, WasRead}
-use Rattle.t2.specs.Numbers.{Check, check, startChecks, measureChecks, bodyChecks, writeChecks, readChecks, NoneHolds, NumberIs, NumbersOfCalls}
+use Rattle.t2_theorems.specs.Calls.{Started, Measured, Written, WasRead}
+use Rattle.t2_theorems.specs.Numbers.{Check, check, startChecks, measureChecks, bodyChecks, writeChecks, readChecks, NoneHolds, NumberIs, NumbersOfCalls}
 
 -- ---- the first check that holds
 

@@ -1,11 +1,11 @@
--- `t2_theorems::write_and_read` meets its contract.
+-- `t2_layer::write_and_read` meets its contract.
 use mathlib.Core.Path.{_∙_}
 use Rattle.t2_refusals.specs.Refusals.{contribution}
-use Rattle.t2_theorems.specs.Layer.{firstLayer, lent}
-use Rattle.t2_theorems.proofs.Layer.{layer-read-back, writer-refused, reader-refused, packet-refused, ends-at-writer, ends-at-reader, ends-at-packet, ends-read}
+use Rattle.t2_layer.specs.Layer.{firstLayer, lent}
+use Rattle.t2_layer.proofs.Layer.{layer-read-back, writer-refused, reader-refused, packet-refused, ends-at-writer, ends-at-reader, ends-at-packet, ends-read}
 use borrow.Author.Needs.{needs}
-use Rattle.t2_theorems.proofs.write_and_read.Statement.{statement}
-use Rattle.t2_theorems.proofs.write_and_read.Tie as tie
+use Rattle.t2_layer.proofs.write_and_read.Statement.{statement}
+use Rattle.t2_layer.proofs.write_and_read.Tie as tie
 
 start-writer-requires : tie.Need-start-writer-requires
 start-writer-requires c κs = search needs
