@@ -7,9 +7,6 @@ use Rattle.bio_bytes.proofs.Laws.HeldWord.{one-above}
 use Rattle.bio_bytes.proofs.low_ones.Statement.{statement}
 use Rattle.bio_bytes.proofs.low_ones.Tie as tie
 
-shl-above : tie.Need-shl-above
-shl-above c = search needs
-
 sub-result : tie.Need-sub-result
 sub-result c = omega (arith, one-above (c .args .k) (omega arith), pow-pos (c .args .k))
 
@@ -17,4 +14,4 @@ returns : tie.Need-returns
 returns c = omega (arith, one-above (c .args .k) (omega arith))
 
 pub low-ones-spec : {M : Type 1} → statement M
-low-ones-spec = tie.close (tie.spec shl-above sub-result returns)
+low-ones-spec = tie.close (tie.spec (λ c. search needs) sub-result returns)

@@ -16,18 +16,6 @@ use Rattle.bio_bytes.proofs.opj_bio_byteout.Tie as tie
 cast-store : tie.Need-cast-store
 cast-store c = omega (arith, moved-is (c .before .before .before .args .b .buf))
 
-store-requires : tie.Need-store-requires
-store-requires c κs = search needs
-
-place-after-requires : tie.Need-place-after-requires
-place-after-requires c κs = search needs
-
-bits-behind-requires : tie.Need-bits-behind-requires
-bits-behind-requires c κs = search needs
-
-same-length : tie.Need-same-length
-same-length c = search needs
-
 returns : tie.Need-returns
 unfolding byteOut
 returns c =
@@ -44,8 +32,8 @@ opj-bio-byteout-spec =
     tie.close
     (tie.spec
     cast-store
-    store-requires
-    place-after-requires
-    bits-behind-requires
-    same-length
+    (λ c κs. search needs)
+    (λ c κs. search needs)
+    (λ c κs. search needs)
+    (λ c. search needs)
     returns)

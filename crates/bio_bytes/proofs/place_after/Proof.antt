@@ -6,9 +6,6 @@ use Rattle.bio_bytes.specs.Writing.{placeAfter}
 use Rattle.bio_bytes.proofs.place_after.Statement.{statement}
 use Rattle.bio_bytes.proofs.place_after.Tie as tie
 
-add-result : tie.Need-add-result
-add-result c = search needs
-
 returns : tie.Need-returns
 unfolding placeAfter
 returns c = omega arith
@@ -18,4 +15,4 @@ unfolding placeAfter
 returns-2 c = omega arith
 
 pub place-after-spec : {M : Type 1} → statement M
-place-after-spec = tie.close (tie.spec add-result returns returns-2)
+place-after-spec = tie.close (tie.spec (λ c. search needs) returns returns-2)

@@ -8,15 +8,6 @@ use Rattle.bio_read.specs.Chunks.{heldBits}
 use Rattle.bio_read.proofs.held_bits.Statement.{statement}
 use Rattle.bio_read.proofs.held_bits.Tie as tie
 
-sub-ct : tie.Need-sub-ct
-sub-ct c = search needs
-
-shr-t4 : tie.Need-shr-t4
-shr-t4 c = search needs
-
-low-ones-requires : tie.Need-low-ones-requires
-low-ones-requires c κs = search needs
-
 returns : tie.Need-returns
 unfolding heldBits
 returns c =
@@ -27,4 +18,4 @@ returns c =
     λ i. record { value = m i; bio = record { bp = b .bp; buf = b .buf; ct = b .ct - k } }
 
 pub held-bits-spec : {M : Type 1} → statement M
-held-bits-spec = tie.close (tie.spec sub-ct shr-t4 low-ones-requires returns)
+held-bits-spec = tie.close (tie.spec (λ c. search needs) (λ c. search needs) (λ c κs. search needs) returns)

@@ -13,18 +13,6 @@ use Rattle.bio_bytes.proofs.Laws.HeldWord.{bio≡, moved-is, or-byte}
 use Rattle.bio_read.proofs.opj_bio_bytein.Statement.{statement}
 use Rattle.bio_read.proofs.opj_bio_bytein.Tie as tie
 
-bits-behind-requires : tie.Need-bits-behind-requires
-bits-behind-requires c κs = search needs
-
-add-t9 : tie.Need-add-t9
-add-t9 c = search needs
-
-shared-slice-read-wide : tie.Need-shared-slice-read-wide
-shared-slice-read-wide c = search needs
-
-wide-requires : tie.Need-wide-requires
-wide-requires c κs = search needs
-
 returns : tie.Need-returns
 unfolding byteIn
 returns c =
@@ -36,9 +24,6 @@ returns c =
     (omega arith)
     (ap₂ bitOr (moved-is (b .buf)) (c .wide .ensures) ∙ or-byte (b .buf) (getD src (b .bp) 0) (omega (arith, c .before .shared-slice-known2 .given (b .bp))))
     (c .before .before .before .bits-behind .ensures ∙ ap (λ (u : ℕ). cond (eqb u 0xff00) 7 8) (moved-is (b .buf)))
-
-add-t14 : tie.Need-add-t14
-add-t14 c = search needs
 
 returns-2 : tie.Need-returns-2
 unfolding byteIn
@@ -55,10 +40,10 @@ pub opj-bio-bytein-spec : {M : Type 1} → statement M
 opj-bio-bytein-spec =
     tie.close
     (tie.spec
-    bits-behind-requires
-    add-t9
-    shared-slice-read-wide
-    wide-requires
+    (λ c κs. search needs)
+    (λ c. search needs)
+    (λ c. search needs)
+    (λ c κs. search needs)
     returns
-    add-t14
+    (λ c. search needs)
     returns-2)

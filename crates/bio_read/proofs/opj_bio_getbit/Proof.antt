@@ -9,9 +9,6 @@ use Rattle.bio_read.proofs.Laws.ReadChunks.{refill-ct, getBit-is}
 use Rattle.bio_read.proofs.opj_bio_getbit.Statement.{statement}
 use Rattle.bio_read.proofs.opj_bio_getbit.Tie as tie
 
-refill-requires : tie.Need-refill-requires
-refill-requires c κs = search needs
-
 held-bits-requires : tie.Need-held-bits-requires
 held-bits-requires c κs =
     let s = c .before .before in
@@ -25,4 +22,4 @@ returns c =
     c .held-bits .ensures ∙ ap (λ (b : Bio). heldBits b 1) (c .before .refill .ensures) ∙ getBit-is (s .args .src .now) (s .args .b)
 
 pub opj-bio-getbit-spec : {M : Type 1} → statement M
-opj-bio-getbit-spec = tie.close (tie.spec refill-requires held-bits-requires returns)
+opj-bio-getbit-spec = tie.close (tie.spec (λ c κs. search needs) held-bits-requires returns)

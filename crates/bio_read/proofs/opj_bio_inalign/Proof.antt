@@ -12,24 +12,12 @@ use Rattle.bio_read.specs.Reading.{alignedAt}
 use Rattle.bio_read.proofs.opj_bio_inalign.Statement.{statement}
 use Rattle.bio_read.proofs.opj_bio_inalign.Tie as tie
 
-add-opj-bio-init-dec : tie.Need-add-opj-bio-init-dec
-add-opj-bio-init-dec c = search needs
-
-opj-bio-init-dec-requires : tie.Need-opj-bio-init-dec-requires
-opj-bio-init-dec-requires c κs = search needs
-
 returns : tie.Need-returns
 unfolding alignedAt endsInFF bytesTaken inFF
 returns c =
     let s = c .before .before .before .before in
     let t = eq-eqb _ _ (sym (and-mask (s .args .b .buf) 8) ∙ c .before .if1 .taken) in
     (λ i. record { ok = not (eqb (s .args .b .bp) (length (s .args .src .now))); bio = c .opj-bio-init-dec .ensures i }) ∙ simp t
-
-smaller-requires : tie.Need-smaller-requires
-smaller-requires c κs = search needs
-
-opj-bio-init-dec-requires-2 : tie.Need-opj-bio-init-dec-requires-2
-opj-bio-init-dec-requires-2 c κs = search needs
 
 returns-2 : tie.Need-returns-2
 unfolding alignedAt endsInFF bytesTaken inFF
@@ -42,9 +30,9 @@ pub opj-bio-inalign-spec : {M : Type 1} → statement M
 opj-bio-inalign-spec =
     tie.close
     (tie.spec
-    add-opj-bio-init-dec
-    opj-bio-init-dec-requires
+    (λ c. search needs)
+    (λ c κs. search needs)
     returns
-    smaller-requires
-    opj-bio-init-dec-requires-2
+    (λ c κs. search needs)
+    (λ c κs. search needs)
     returns-2)

@@ -8,9 +8,6 @@ use Rattle.bio_read.proofs.Laws.ReadChunks.{heldBits-is, getBit-read}
 use Rattle.bio_read.proofs.opj_bio_read.Statement.{statement}
 use Rattle.bio_read.proofs.opj_bio_read.Tie as tie
 
-opj-bio-getbit-requires : tie.Need-opj-bio-getbit-requires
-opj-bio-getbit-requires c κs = search needs
-
 returns : tie.Need-returns
 returns c =
     let s = c .before .before .before in
@@ -18,27 +15,18 @@ returns c =
     ∙ getBit-read (s .args .src .now) (s .args .b)
     ∙ ap (λ (n : ℕ). readBits (s .args .src .now) n (s .args .b)) (sym (c .before .if1 .taken))
 
-held-bits-requires : tie.Need-held-bits-requires
-held-bits-requires c κs = search needs
-
 returns-2 : tie.Need-returns-2
 returns-2 c =
     let s = c .before .before .before .before .before in
     c .held-bits .ensures ∙ heldBits-is (s .args .src .now) (s .args .b) (s .args .n) (c .before .if2 .taken)
 
-read-chunks-requires : tie.Need-read-chunks-requires
-read-chunks-requires c κs = search needs
-
-returns-3 : tie.Need-returns-3
-returns-3 c = search needs
-
 pub opj-bio-read-spec : {M : Type 1} → statement M
 opj-bio-read-spec =
     tie.close
     (tie.spec
-    opj-bio-getbit-requires
+    (λ c κs. search needs)
     returns
-    held-bits-requires
+    (λ c κs. search needs)
     returns-2
-    read-chunks-requires
-    returns-3)
+    (λ c κs. search needs)
+    (λ c. search needs))

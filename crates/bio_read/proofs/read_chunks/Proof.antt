@@ -31,12 +31,6 @@ loop-holds c =
     let e : n - n ≡ 0 = omega arith in
     (c .before .pre .0, omega arith, c .before .pre .1, rw e (omega arith), refl)
 
-refill-requires : tie.Need-refill-requires Inv-loop μ-loop
-refill-requires c κs = search needs
-
-opj-uint-min-requires : tie.Need-opj-uint-min-requires Inv-loop μ-loop
-opj-uint-min-requires c κs = search needs
-
 held-bits-requires : tie.Need-held-bits-requires Inv-loop μ-loop
 held-bits-requires c κs =
     let l = c .before .before .before .loop in
@@ -100,8 +94,8 @@ read-chunks-spec =
     Inv-loop
     μ-loop
     loop-holds
-    refill-requires
-    opj-uint-min-requires
+    (λ c κs. search needs)
+    (λ c κs. search needs)
     held-bits-requires
     shl-value
     sub-left

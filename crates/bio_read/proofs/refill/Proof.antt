@@ -7,9 +7,6 @@ use Rattle.bio_read.specs.Chunks.{refill}
 use Rattle.bio_read.proofs.refill.Statement.{statement}
 use Rattle.bio_read.proofs.refill.Tie as tie
 
-opj-bio-bytein-requires : tie.Need-opj-bio-bytein-requires
-opj-bio-bytein-requires c κs = search needs
-
 returns : tie.Need-returns
 unfolding refill
 returns c = c .opj-bio-bytein .ensures ∙ simp (eq-eqb _ _ (c .before .if1 .taken))
@@ -19,4 +16,4 @@ unfolding refill
 returns-2 c = simp (ne-eqb _ _ (c .if1 .left))
 
 pub refill-spec : {M : Type 1} → statement M
-refill-spec = tie.close (tie.spec opj-bio-bytein-requires returns returns-2)
+refill-spec = tie.close (tie.spec (λ c κs. search needs) returns returns-2)

@@ -12,15 +12,6 @@ use Rattle.bio_bytes.proofs.Laws.HeldWord.{bio≡, or-above}
 use Rattle.bio_write.proofs.hold_bits.Statement.{statement}
 use Rattle.bio_write.proofs.hold_bits.Tie as tie
 
-sub-ct : tie.Need-sub-ct
-sub-ct c = search needs
-
-low-ones-requires : tie.Need-low-ones-requires
-low-ones-requires c κs = search needs
-
-shl-t6 : tie.Need-shl-t6
-shl-t6 c = search needs
-
 returns : tie.Need-returns
 unfolding holdBits
 returns c =
@@ -38,4 +29,4 @@ returns c =
     refl
 
 pub hold-bits-spec : {M : Type 1} → statement M
-hold-bits-spec = tie.close (tie.spec sub-ct low-ones-requires shl-t6 returns)
+hold-bits-spec = tie.close (tie.spec (λ c. search needs) (λ c κs. search needs) (λ c. search needs) returns)

@@ -7,12 +7,6 @@ use Rattle.bio_bytes.specs.Writing.{makeRoom}
 use Rattle.bio_write.proofs.make_room.Statement.{statement}
 use Rattle.bio_write.proofs.make_room.Tie as tie
 
-opj-bio-byteout-requires : tie.Need-opj-bio-byteout-requires
-opj-bio-byteout-requires c κs = search needs
-
-same-length : tie.Need-same-length
-same-length c = search needs
-
 returns : tie.Need-returns
 unfolding makeRoom
 returns c = c .before .before .opj-bio-byteout .ensures ∙ simp (eq-eqb _ _ (c .before .before .before .before .if1 .taken))
@@ -22,4 +16,4 @@ unfolding makeRoom
 returns-2 c = simp (ne-eqb _ _ (c .if1 .left))
 
 pub make-room-spec : {M : Type 1} → statement M
-make-room-spec = tie.close (tie.spec opj-bio-byteout-requires same-length returns returns-2)
+make-room-spec = tie.close (tie.spec (λ c κs. search needs) (λ c. search needs) returns returns-2)

@@ -7,12 +7,6 @@ use Rattle.bio_bytes.specs.Writing.{Output, byteOut, flush}
 use Rattle.bio_write.proofs.opj_bio_flush.Statement.{statement}
 use Rattle.bio_write.proofs.opj_bio_flush.Tie as tie
 
-opj-bio-byteout-requires : tie.Need-opj-bio-byteout-requires
-opj-bio-byteout-requires c κs = search needs
-
-opj-bio-byteout-requires-2 : tie.Need-opj-bio-byteout-requires-2
-opj-bio-byteout-requires-2 c κs = search needs
-
 same-length : tie.Need-same-length
 same-length c = c .before .before .opj-bio-byteout2 .kept .0 ∙ c .before .before .before .before .before .before .before .before .opj-bio-byteout .kept .0
 
@@ -35,8 +29,8 @@ pub opj-bio-flush-spec : {M : Type 1} → statement M
 opj-bio-flush-spec =
     tie.close
     (tie.spec
-    opj-bio-byteout-requires
-    opj-bio-byteout-requires-2
+    (λ c κs. search needs)
+    (λ c κs. search needs)
     same-length
     returns
     same-length-2

@@ -10,9 +10,6 @@ use Rattle.bio_write.proofs.Laws.WriteChunks.{holdBit-is}
 use Rattle.bio_write.proofs.opj_bio_putbit.Statement.{statement}
 use Rattle.bio_write.proofs.opj_bio_putbit.Tie as tie
 
-make-room-requires : tie.Need-make-room-requires
-make-room-requires c κs = search needs
-
 hold-bits-requires : tie.Need-hold-bits-requires
 hold-bits-requires c κs =
     let s = c .before .before .before .before .before in
@@ -20,9 +17,6 @@ hold-bits-requires c κs =
     let e = ap (λ (o : Output). o .bio) (c .before .before .make-room .ensures) in
     let ct = ap (λ (b : Bio). b .ct) e in
     (rw e (r .0), omega (arith, r .1))
-
-same-length : tie.Need-same-length
-same-length c = search needs
 
 returns : tie.Need-returns
 unfolding putBit
@@ -34,4 +28,4 @@ returns c =
 
 pub opj-bio-putbit-spec : {M : Type 1} → statement M
 opj-bio-putbit-spec =
-    tie.close (tie.spec make-room-requires hold-bits-requires same-length returns)
+    tie.close (tie.spec (λ c κs. search needs) hold-bits-requires (λ c. search needs) returns)

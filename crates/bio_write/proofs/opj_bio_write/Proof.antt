@@ -16,9 +16,6 @@ opj-bio-putbit-requires c κs =
     let s = c .before .before .before in
     (s .pre .0, omega (arith, and-mask (s .args .v) 1))
 
-same-length : tie.Need-same-length
-same-length c = search needs
-
 returns : tie.Need-returns
 returns c =
     let s = c .before .before .before .before .before .before in
@@ -27,32 +24,20 @@ returns c =
     ∙ putBit-is o (s .args .v) _ (and-mask (s .args .v) 1)
     ∙ ap (λ (n : ℕ). putBits o (bitsOf n (s .args .v))) (sym (c .before .before .before .before .if1 .taken))
 
-hold-bits-requires : tie.Need-hold-bits-requires
-hold-bits-requires c κs = search needs
-
 returns-2 : tie.Need-returns-2
 returns-2 c =
     let s = c .before .before .before .before .before in
     ap (output (s .args .out .now)) (c .hold-bits .ensures) ∙ holdBits-is (s .args .out .now) (s .args .b) (s .args .v) (s .args .n) (c .before .if2 .taken)
-
-write-chunks-requires : tie.Need-write-chunks-requires
-write-chunks-requires c κs = search needs
-
-same-length-2 : tie.Need-same-length-2
-same-length-2 c = search needs
-
-returns-3 : tie.Need-returns-3
-returns-3 c = search needs
 
 pub opj-bio-write-spec : {M : Type 1} → statement M
 opj-bio-write-spec =
     tie.close
     (tie.spec
     opj-bio-putbit-requires
-    same-length
+    (λ c. search needs)
     returns
-    hold-bits-requires
+    (λ c κs. search needs)
     returns-2
-    write-chunks-requires
-    same-length-2
-    returns-3)
+    (λ c κs. search needs)
+    (λ c. search needs)
+    (λ c. search needs))

@@ -31,12 +31,6 @@ abbrev μ-loop : tie.MeasureT-loop
 loop-holds : tie.Need-loop-holds Inv-loop μ-loop
 loop-holds c = (c .before .pre .0, refl, c .before .pre .1, refl)
 
-make-room-requires : tie.Need-make-room-requires Inv-loop μ-loop
-make-room-requires c κs = search needs
-
-opj-uint-min-requires : tie.Need-opj-uint-min-requires Inv-loop μ-loop
-opj-uint-min-requires c κs = search needs
-
 sub-left : tie.Need-sub-left Inv-loop μ-loop
 sub-left c = let e = c .opj-uint-min .ensures in omega arith
 
@@ -95,8 +89,8 @@ write-chunks-spec =
     Inv-loop
     μ-loop
     loop-holds
-    make-room-requires
-    opj-uint-min-requires
+    (λ c κs. search needs)
+    (λ c κs. search needs)
     sub-left
     shr-hold-bits
     hold-bits-requires

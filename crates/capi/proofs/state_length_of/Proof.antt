@@ -6,9 +6,6 @@ use Rattle.capi.proofs.Laws.{length-refused, length-given}
 use Rattle.capi.proofs.state_length_of.Statement.{statement}
 use Rattle.capi.proofs.state_length_of.Tie as tie
 
-bad-shape-requires : tie.Need-bad-shape-requires
-bad-shape-requires c κs = search needs
-
 returns : tie.Need-returns
 returns c = let s = c .before .before .args in length-refused (s .count) (s .bands) (sym (c .before .bad-shape .ensures) ∙ c .if1 .taken)
 
@@ -22,4 +19,4 @@ returns-2 c =
 
 pub state-length-of-spec : {M : Type 1} → statement M
 state-length-of-spec =
-    tie.close (tie.spec bad-shape-requires returns state-length-requires returns-2)
+    tie.close (tie.spec (λ c κs. search needs) returns state-length-requires returns-2)

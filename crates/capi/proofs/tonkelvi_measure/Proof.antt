@@ -10,18 +10,6 @@ returns c =
     let a = c .before .before .before .before .before .before .before .args in
     measure-unlisted (a .state .now) (a .scratch .now) (contribution (a .counts .now) (a .lengths .now) (a .marks .now)) (record { sop = a .sop; eph = a .eph }) (a .answer .now) (c .if1 .taken)
 
-measure-requires : tie.Need-measure-requires
-measure-requires c κs = search needs
-
-put-two-requires : tie.Need-put-two-requires
-put-two-requires c κs = search needs
-
-same-length : tie.Need-same-length
-same-length c = search needs
-
-same-length-2 : tie.Need-same-length-2
-same-length-2 c = search needs
-
 returns-2 : tie.Need-returns-2
 returns-2 c =
     let a = c .before .before .before .before .before .before .before .before .before .before .before .before .before .before .before .args in
@@ -32,4 +20,4 @@ returns-2 c =
 pub tonkelvi-measure-spec : {M : Type 1} → statement M
 tonkelvi-measure-spec =
     tie.close
-    (tie.spec returns measure-requires put-two-requires same-length same-length-2 returns-2)
+    (tie.spec returns (λ c κs. search needs) (λ c κs. search needs) (λ c. search needs) (λ c. search needs) returns-2)

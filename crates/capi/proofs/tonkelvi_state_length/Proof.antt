@@ -5,15 +5,9 @@ use Rattle.capi.specs.Calls.{stateLengthOf}
 use Rattle.capi.proofs.tonkelvi_state_length.Statement.{statement}
 use Rattle.capi.proofs.tonkelvi_state_length.Tie as tie
 
-three-bands-requires : tie.Need-three-bands-requires
-three-bands-requires c κs = search needs
-
-state-length-of-requires : tie.Need-state-length-of-requires
-state-length-of-requires c κs = search needs
-
 returns : tie.Need-returns
 returns c = c .state-length-of .ensures ∙ ap (stateLengthOf (c .before .before .args .count)) (c .before .three-bands .ensures)
 
 pub tonkelvi-state-length-spec : {M : Type 1} → statement M
 tonkelvi-state-length-spec =
-    tie.close (tie.spec three-bands-requires state-length-of-requires returns)
+    tie.close (tie.spec (λ c κs. search needs) (λ c κs. search needs) returns)

@@ -10,24 +10,6 @@ returns c =
     let a = c .before .before .before .before .before .before .before .before .before .args in
     write-unlisted (a .state .now) (a .scratch .now) (contribution (a .counts .now) (a .lengths .now) (a .marks .now)) (a .body .now) (record { sop = a .sop; eph = a .eph }) (a .number) (a .output .now) (a .answer .now) (c .if1 .taken)
 
-write-requires : tie.Need-write-requires
-write-requires c κs = search needs
-
-put-one-requires : tie.Need-put-one-requires
-put-one-requires c κs = search needs
-
-same-length : tie.Need-same-length
-same-length c = search needs
-
-same-length-2 : tie.Need-same-length-2
-same-length-2 c = search needs
-
-same-length-3 : tie.Need-same-length-3
-same-length-3 c = search needs
-
-same-length-4 : tie.Need-same-length-4
-same-length-4 c = search needs
-
 returns-2 : tie.Need-returns-2
 returns-2 c =
     let a = c .before .before .before .before .before .before .before .before .before .before .before .before .before .before .before .before .before .before .before .before .before .before .before .args in
@@ -40,10 +22,10 @@ tonkelvi-write-spec =
     tie.close
     (tie.spec
     returns
-    write-requires
-    put-one-requires
-    same-length
-    same-length-2
-    same-length-3
-    same-length-4
+    (λ c κs. search needs)
+    (λ c κs. search needs)
+    (λ c. search needs)
+    (λ c. search needs)
+    (λ c. search needs)
+    (λ c. search needs)
     returns-2)

@@ -10,9 +10,6 @@ use Rattle.t2.proofs.Laws.Answers.{accepted, as-long, copy-accepted, me
 use Rattle.t2.proofs.measure.Statement.{statement}
 use Rattle.t2.proofs.measure.Tie as tie
 
-measure-refusal-requires : tie.Need-measure-refusal-requires
-measure-refusal-requires c κs = search needs
-
 returns : tie.Need-returns
 returns c =
     let a = c .before .before .before .before .before .before .before .args in
@@ -24,9 +21,6 @@ copy-requires c κs =
     let a = c .before .before .before .before .before .before .before .before .args in
     let g = c .before .before .measure-refusal in
     as-long (a .state .now) (a .scratch .now) (contribution (a .counts .now) (a .lengths .now) (a .marks .now)) (g .result) (g .ensures) (c .before .if1 .left)
-
-slice-aggregate-put-front : tie.Need-slice-aggregate-put-front
-slice-aggregate-put-front c = search needs
 
 put-front-requires : tie.Need-put-front-requires
 put-front-requires c κs =
@@ -41,9 +35,6 @@ sum-lengths-requires c κs =
     let r = accepted (a .state .now) (a .scratch .now) (contribution (a .counts .now) (a .lengths .now) (a .marks .now)) (g .result) (g .ensures) (c .before .before .before .before .before .before .before .before .before .before .if1 .left) in
     omega (arith, r .lengths-are, r .passes-are)
 
-same-length : tie.Need-same-length
-same-length c = search needs
-
 returns-2 : tie.Need-returns-2
 returns-2 c =
     let a = c .before .before .before .before .before .before .before .before .before .before .before .before .before .before .before .before .before .before .args in
@@ -57,11 +48,11 @@ pub measure-spec : {M : Type 1} → statement M
 measure-spec =
     tie.close
     (tie.spec
-    measure-refusal-requires
+    (λ c κs. search needs)
     returns
     copy-requires
-    slice-aggregate-put-front
+    (λ c. search needs)
     put-front-requires
     sum-lengths-requires
-    same-length
+    (λ c. search needs)
     returns-2)

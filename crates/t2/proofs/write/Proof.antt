@@ -11,12 +11,6 @@ use Rattle.t2.proofs.Laws.Answers.{accepted, as-long, copy-accepted, ro
 use Rattle.t2.proofs.write.Statement.{statement}
 use Rattle.t2.proofs.write.Tie as tie
 
-measure-refusal-requires : tie.Need-measure-refusal-requires
-measure-refusal-requires c κs = search needs
-
-same-length : tie.Need-same-length
-same-length c = search needs
-
 returns : tie.Need-returns
 returns c =
     let a = c .before .before .before .before .before .before .before .before .before .before .args in
@@ -31,9 +25,6 @@ sum-lengths-requires c κs =
     let g = c .before .measure-refusal in
     let r = accepted (a .state .now) (a .scratch .now) p (g .result) (g .ensures) (c .if1 .left) in
     omega (arith, r .lengths-are, r .passes-are)
-
-same-length-2 : tie.Need-same-length-2
-same-length-2 c = search needs
 
 returns-2 : tie.Need-returns-2
 returns-2 c =
@@ -56,24 +47,6 @@ put-front-requires c κs =
     let g = c .before .before .before .before .before .before .before .before .before .before .measure-refusal in
     copy-accepted (a .state .now) (a .scratch .now) p (g .result) (g .ensures) (c .before .before .before .before .before .before .before .before .before .if1 .left) _ (c .before .before .before .before .copy .ensures)
 
-has-room-requires : tie.Need-has-room-requires
-has-room-requires c κs = search needs
-
-wipe-requires : tie.Need-wipe-requires
-wipe-requires c κs = search needs
-
-wipe-bytes-requires : tie.Need-wipe-bytes-requires
-wipe-bytes-requires c κs = search needs
-
-same-length-3 : tie.Need-same-length-3
-same-length-3 c = search needs
-
-same-length-4 : tie.Need-same-length-4
-same-length-4 c = search needs
-
-same-length-5 : tie.Need-same-length-5
-same-length-5 c = search needs
-
 returns-3 : tie.Need-returns-3
 returns-3 c =
     let a = c .before .before .before .before .before .before .before .before .before .before .before .before .before .before .before .before .before .before .before .before .before .before .before .before .before .before .before .before .before .before .before .before .before .before .args in
@@ -95,15 +68,6 @@ copy-requires-2 c κs =
     let g = c .before .before .before .before .before .before .before .before .before .before .before .before .before .before .before .before .before .before .before .before .before .before .before .measure-refusal in
     c .before .before .before .before .before .before .before .before .before .before .before .before .put-front .kept .0 ∙ c .before .before .before .before .before .before .before .before .before .before .before .before .before .before .before .before .before .copy .kept .1 .0 ∙ sym (as-long (a .state .now) (a .scratch .now) p (g .result) (g .ensures) (c .before .before .before .before .before .before .before .before .before .before .before .before .before .before .before .before .before .before .before .before .before .before .if1 .left))
 
-same-length-6 : tie.Need-same-length-6
-same-length-6 c = search needs
-
-same-length-7 : tie.Need-same-length-7
-same-length-7 c = search needs
-
-same-length-8 : tie.Need-same-length-8
-same-length-8 c = search needs
-
 returns-4 : tie.Need-returns-4
 returns-4 c =
     let a = c .before .before .before .before .before .before .before .before .before .before .before .before .before .before .before .before .before .before .before .before .before .before .before .before .before .before .before .before .before .before .before .before .before .before .before .args in
@@ -118,24 +82,24 @@ pub write-spec : {M : Type 1} → statement M
 write-spec =
     tie.close
     (tie.spec
-    measure-refusal-requires
-    same-length
+    (λ c κs. search needs)
+    (λ c. search needs)
     returns
     sum-lengths-requires
-    same-length-2
+    (λ c. search needs)
     returns-2
     copy-requires
     put-front-requires
-    has-room-requires
-    wipe-requires
-    wipe-bytes-requires
-    same-length-3
-    same-length-4
-    same-length-5
+    (λ c κs. search needs)
+    (λ c κs. search needs)
+    (λ c κs. search needs)
+    (λ c. search needs)
+    (λ c. search needs)
+    (λ c. search needs)
     returns-3
     put-body-requires
     copy-requires-2
-    same-length-6
-    same-length-7
-    same-length-8
+    (λ c. search needs)
+    (λ c. search needs)
+    (λ c. search needs)
     returns-4)

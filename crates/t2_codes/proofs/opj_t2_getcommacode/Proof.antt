@@ -19,9 +19,6 @@ Inv-loop src bio₀ value₀ left₀ bio value left =
 abbrev μ-loop : tie.MeasureT-loop
 μ-loop src bio₀ value₀ left₀ bio value left = left
 
-ones-limit-requires : tie.Need-ones-limit-requires Inv-loop μ-loop
-ones-limit-requires c κs = search needs
-
 loop-holds : tie.Need-loop-holds Inv-loop μ-loop
 unfolding readCommaLimited onesLimit
 loop-holds c =
@@ -74,7 +71,7 @@ opj-t2-getcommacode-spec =
     (tie.spec
     Inv-loop
     μ-loop
-    ones-limit-requires
+    (λ c κs. search needs)
     loop-holds
     bit-in-requires
     returns

@@ -8,9 +8,6 @@ use Rattle.t2_codes.proofs.Laws.PassCount.{ct-kept, passes-1, passes-2,
 use Rattle.t2_codes.proofs.opj_t2_getnumpasses.Statement.{statement}
 use Rattle.t2_codes.proofs.opj_t2_getnumpasses.Tie as tie
 
-bit-in-requires : tie.Need-bit-in-requires
-bit-in-requires c κs = search needs
-
 returns : tie.Need-returns
 returns c =
     let first = c .before .before .before .bit-in in
@@ -49,7 +46,7 @@ pub opj-t2-getnumpasses-spec : {M : Type 1} → statement M
 opj-t2-getnumpasses-spec =
     tie.close
     (tie.spec
-    bit-in-requires
+    (λ c κs. search needs)
     returns
     bit-in-requires-2
     returns-2

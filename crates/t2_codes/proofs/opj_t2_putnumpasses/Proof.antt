@@ -15,11 +15,5 @@ put-pass-codeword-requires c κs =
     let p = c .before .before .before .pre in
     (tt, p .0, omega (arith, p .1), omega (arith, p .2))
 
-same-length : tie.Need-same-length
-same-length c = search needs
-
-returns : tie.Need-returns
-returns c = search needs
-
 pub opj-t2-putnumpasses-spec : {M : Type 1} → statement M
-opj-t2-putnumpasses-spec = tie.close (tie.spec put-pass-codeword-requires same-length returns)
+opj-t2-putnumpasses-spec = tie.close (tie.spec put-pass-codeword-requires (λ c. search needs) (λ c. search needs))

@@ -10,9 +10,6 @@ use Rattle.t2_codes.proofs.Laws.PassCount.{ct-kept, from-3, from-6, fro
 use Rattle.t2_codes.proofs.passes_from_3.Statement.{statement}
 use Rattle.t2_codes.proofs.passes_from_3.Tie as tie
 
-opj-bio-read-requires : tie.Need-opj-bio-read-requires
-opj-bio-read-requires c κs = search needs
-
 plus-requires : tie.Need-plus-requires
 plus-requires c κs = omega (arith, c .if1 .taken)
 
@@ -64,7 +61,7 @@ pub passes-from-3-spec : {M : Type 1} → statement M
 passes-from-3-spec =
     tie.close
     (tie.spec
-    opj-bio-read-requires
+    (λ c κs. search needs)
     plus-requires
     returns
     opj-bio-read-requires-2

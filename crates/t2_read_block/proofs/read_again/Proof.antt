@@ -13,30 +13,6 @@ use borrow.Author.Needs.{needs}
 use Rattle.t2_read_block.proofs.read_again.Statement.{statement}
 use Rattle.t2_read_block.proofs.read_again.Tie as tie
 
-mul-before : tie.Need-mul-before
-mul-before c = search needs
-
-slice-read-before : tie.Need-slice-read-before
-slice-read-before c = search needs
-
-add-bits : tie.Need-add-bits
-add-bits c = search needs
-
-mul-bits : tie.Need-mul-bits
-mul-bits c = search needs
-
-slice-read-bits : tie.Need-slice-read-bits
-slice-read-bits c = search needs
-
-read-passes-requires : tie.Need-read-passes-requires
-read-passes-requires c κs = search needs
-
-put-report-requires : tie.Need-put-report-requires
-put-report-requires c κs = search needs
-
-moved-requires : tie.Need-moved-requires
-moved-requires c κs = search needs
-
 read-segments-requires : tie.Need-read-segments-requires
 read-segments-requires c κs =
     let s = c .before .before .before .before .before .before .before .before .before .before .before .before .before .before .before .before .before in
@@ -52,15 +28,6 @@ read-segments-requires c κs =
       ap (λ (r : Run). r .refusal) (c .moved .ensures),
     )
 
-same-length : tie.Need-same-length
-same-length c = search needs
-
-same-length-2 : tie.Need-same-length-2
-same-length-2 c = search needs
-
-same-length-3 : tie.Need-same-length-3
-same-length-3 c = search needs
-
 returns : tie.Need-returns
 returns c =
     let s = c .before .before .before .before .before .before .before .before .before .before .before .before .before .before .before .before .before .before .before .before .before .before in
@@ -72,16 +39,16 @@ pub read-again-spec : {M : Type 1} → statement M
 read-again-spec =
     tie.close
     (tie.spec
-    mul-before
-    slice-read-before
-    add-bits
-    mul-bits
-    slice-read-bits
-    read-passes-requires
-    put-report-requires
-    moved-requires
+    (λ c. search needs)
+    (λ c. search needs)
+    (λ c. search needs)
+    (λ c. search needs)
+    (λ c. search needs)
+    (λ c κs. search needs)
+    (λ c κs. search needs)
+    (λ c κs. search needs)
     read-segments-requires
-    same-length
-    same-length-2
-    same-length-3
+    (λ c. search needs)
+    (λ c. search needs)
+    (λ c. search needs)
     returns)

@@ -29,15 +29,6 @@ read-passes-requires c κs =
     let k = leafOf (p .zero) (s .args .row .now) (p .depth) (p .x) in
     (omega (arith, ap (λ (v : ValueAfter). v .bio .ct) (z .ensures), raising-ct (s .args .src .now) k (notYetPlanes + 2) 0 (s .args .words .now) (s .args .r .bio) (s .pre .0)), omega (arith, z .kept .0, s .pre .1 .inside), omega arith, omega arith)
 
-block-planes-requires : tie.Need-block-planes-requires
-block-planes-requires c κs = search needs
-
-put-report-requires : tie.Need-put-report-requires
-put-report-requires c κs = search needs
-
-moved-requires : tie.Need-moved-requires
-moved-requires c κs = search needs
-
 read-segments-requires : tie.Need-read-segments-requires
 read-segments-requires c κs =
     let s = c .before .before .before .before .before .before .before .before .before .before .before .before .before .before .before .before .before .before .before .before in
@@ -59,12 +50,6 @@ read-segments-requires c κs =
 same-length : tie.Need-same-length
 same-length c = c .before .before .before .before .read-segments .kept .0 ∙ c .before .before .before .before .before .before .before .before .before .before .before .before .before .before .before .read-passes .kept .0 ∙ c .before .before .before .before .before .before .before .before .before .before .before .before .before .before .before .before .before .before .before .opj-tgt-decode-value .kept .0
 
-same-length-2 : tie.Need-same-length-2
-same-length-2 c = search needs
-
-same-length-3 : tie.Need-same-length-3
-same-length-3 c = search needs
-
 returns : tie.Need-returns
 returns c =
     let s = c .before .before .before .before .before .before .before .before .before .before .before .before .before .before .before .before .before .before .before .before .before .before .before .before .before in
@@ -79,11 +64,11 @@ read-first-spec =
     (tie.spec
     opj-tgt-decode-value-requires
     read-passes-requires
-    block-planes-requires
-    put-report-requires
-    moved-requires
+    (λ c κs. search needs)
+    (λ c κs. search needs)
+    (λ c κs. search needs)
     read-segments-requires
     same-length
-    same-length-2
-    same-length-3
+    (λ c. search needs)
+    (λ c. search needs)
     returns)

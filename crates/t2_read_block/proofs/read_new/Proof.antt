@@ -18,16 +18,10 @@ use borrow.Author.Needs.{needs}
 use Rattle.t2_read_block.proofs.read_new.Statement.{statement}
 use Rattle.t2_read_block.proofs.read_new.Tie as tie
 
-add-opj-tgt-decode : tie.Need-add-opj-tgt-decode
-add-opj-tgt-decode c = search needs
-
 opj-tgt-decode-requires : tie.Need-opj-tgt-decode-requires
 opj-tgt-decode-requires c κs =
     let s = c .before .before .before .before .before in
     (s .pre .0, path-wider (s .args .p .at) (length (s .args .words .now)) _ _ _ _ (omega (arith, s .pre .1 .inside)) (s .pre .1 .incl))
-
-moved-requires : tie.Need-moved-requires
-moved-requires c κs = search needs
 
 read-first-requires : tie.Need-read-first-requires
 read-first-requires c κs =
@@ -43,29 +37,11 @@ read-first-requires c κs =
       fits-same (p .at) (p .at) (w .last .0) (s .args .words .now) same (omega arith) (s .pre .4),
     )
 
-same-length : tie.Need-same-length
-same-length c = search needs
-
-same-length-2 : tie.Need-same-length-2
-same-length-2 c = search needs
-
-same-length-3 : tie.Need-same-length-3
-same-length-3 c = search needs
-
 returns : tie.Need-returns
 returns c =
     let s = c .before .before .before .before .before .before .before .before .before .before .before .before .before .before .before .before .before .before .before .before in
     let w = c .before .before .before .before .before .before .before .before .before .before .before .before .before .before .opj-tgt-decode in
     new-included (s .args .src .now) (s .args .layer) (s .args .block) (s .args .p) (s .args .row .now) (s .args .planes) (reading (s .args .words .now) (s .args .reports .now) (s .args .records .now) (s .args .r)) (leafAfter (w .last .0) (w .result)) (c .before .before .before .before .before .before .before .before .before .before .before .moved .result) (w .ensures) (c .before .before .before .before .before .before .before .before .before .before .before .moved .ensures) _ (c .before .before .before .before .before .before .before .before .before .before .if1 .taken) (c .before .before .before .before .before .before .read-first .ensures)
-
-put-report-requires : tie.Need-put-report-requires
-put-report-requires c κs = search needs
-
-same-length-4 : tie.Need-same-length-4
-same-length-4 c = search needs
-
-same-length-5 : tie.Need-same-length-5
-same-length-5 c = search needs
 
 returns-2 : tie.Need-returns-2
 returns-2 c =
@@ -77,15 +53,15 @@ pub read-new-spec : {M : Type 1} → statement M
 read-new-spec =
     tie.close
     (tie.spec
-    add-opj-tgt-decode
+    (λ c. search needs)
     opj-tgt-decode-requires
-    moved-requires
+    (λ c κs. search needs)
     read-first-requires
-    same-length
-    same-length-2
-    same-length-3
+    (λ c. search needs)
+    (λ c. search needs)
+    (λ c. search needs)
     returns
-    put-report-requires
-    same-length-4
-    same-length-5
+    (λ c κs. search needs)
+    (λ c. search needs)
+    (λ c. search needs)
     returns-2)

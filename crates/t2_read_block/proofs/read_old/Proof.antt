@@ -11,18 +11,6 @@ use borrow.Author.Needs.{needs}
 use Rattle.t2_read_block.proofs.read_old.Statement.{statement}
 use Rattle.t2_read_block.proofs.read_old.Tie as tie
 
-bit-in-requires : tie.Need-bit-in-requires
-bit-in-requires c κs = search needs
-
-moved-requires : tie.Need-moved-requires
-moved-requires c κs = search needs
-
-put-report-requires : tie.Need-put-report-requires
-put-report-requires c κs = search needs
-
-same-length : tie.Need-same-length
-same-length c = search needs
-
 returns : tie.Need-returns
 returns c =
     let s = c .before .before .before .before .before .before .before .before .before .before .before .before in
@@ -33,15 +21,6 @@ read-again-requires c κs =
     let s = c .before .before .before .before .before .before .before .before .before .before .before in
     (omega (arith, ap (λ (r : Run). r .bio .ct) (c .before .before .before .before .before .moved .ensures), ap (λ (d : Decoded). d .bio .ct) (c .before .before .before .before .before .before .bit-in .ensures), getBit-ct (s .args .src .now) (s .args .r .bio) (s .pre .0)), s .pre .1, s .pre .2, s .pre .3)
 
-same-length-2 : tie.Need-same-length-2
-same-length-2 c = search needs
-
-same-length-3 : tie.Need-same-length-3
-same-length-3 c = search needs
-
-same-length-4 : tie.Need-same-length-4
-same-length-4 c = search needs
-
 returns-2 : tie.Need-returns-2
 returns-2 c =
     let s = c .before .before .before .before .before .before .before .before .before .before .before .before .before .before .before .before .before .before in
@@ -51,13 +30,13 @@ pub read-old-spec : {M : Type 1} → statement M
 read-old-spec =
     tie.close
     (tie.spec
-    bit-in-requires
-    moved-requires
-    put-report-requires
-    same-length
+    (λ c κs. search needs)
+    (λ c κs. search needs)
+    (λ c κs. search needs)
+    (λ c. search needs)
     returns
     read-again-requires
-    same-length-2
-    same-length-3
-    same-length-4
+    (λ c. search needs)
+    (λ c. search needs)
+    (λ c. search needs)
     returns-2)

@@ -10,9 +10,6 @@ use borrow.Author.Needs.{needs}
 use Rattle.t2_read_block.proofs.read_passes.Statement.{statement}
 use Rattle.t2_read_block.proofs.read_passes.Tie as tie
 
-opj-t2-getnumpasses-requires : tie.Need-opj-t2-getnumpasses-requires
-opj-t2-getnumpasses-requires c κs = search needs
-
 opj-t2-getcommacode-requires : tie.Need-opj-t2-getcommacode-requires
 opj-t2-getcommacode-requires c κs =
     let s = c .before .before .before in
@@ -23,28 +20,13 @@ add-words c =
     let s = c .before .before .before .before .before in
     omega (arith, s .pre .2, ap (λ (d : Decoded). d .value) (c .before .before .opj-t2-getnumpasses .ensures), passes-between (s .args .src .now) (s .args .b) .1)
 
-mul-words : tie.Need-mul-words
-mul-words c = search needs
-
-slice-write-words : tie.Need-slice-write-words
-slice-write-words c = search needs
-
 add-words-2 : tie.Need-add-words-2
 add-words-2 c =
     let s = c .before .before .before .before .before .before in
     omega (arith, s .pre .3, ap (λ (d : Decoded). d .value) (c .before .before .opj-t2-getcommacode .ensures), comma-value (s .args .src .now) (c .before .before .before .opj-t2-getnumpasses .result .bio))
 
-add-words-3 : tie.Need-add-words-3
-add-words-3 c = search needs
-
-mul-words-2 : tie.Need-mul-words-2
-mul-words-2 c = search needs
-
 slice-write-words-2 : tie.Need-slice-write-words-2
 slice-write-words-2 c = simp length-set (omega (arith, c .before .before .before .before .before .before .pre .1))
-
-same-length : tie.Need-same-length
-same-length c = search needs
 
 returns : tie.Need-returns
 returns c =
@@ -55,14 +37,14 @@ pub read-passes-spec : {M : Type 1} → statement M
 read-passes-spec =
     tie.close
     (tie.spec
-    opj-t2-getnumpasses-requires
+    (λ c κs. search needs)
     opj-t2-getcommacode-requires
     add-words
-    mul-words
-    slice-write-words
+    (λ c. search needs)
+    (λ c. search needs)
     add-words-2
-    add-words-3
-    mul-words-2
+    (λ c. search needs)
+    (λ c. search needs)
     slice-write-words-2
-    same-length
+    (λ c. search needs)
     returns)

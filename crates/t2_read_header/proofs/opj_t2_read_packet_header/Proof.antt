@@ -81,15 +81,6 @@ read-bands-requires c κs =
       subst (BandsFit ws 13) (sym e) (bands-fit ws 13 _ (s .pre .1) (v .ranges)),
     )
 
-same-length : tie.Need-same-length
-same-length c = search needs
-
-same-length-2 : tie.Need-same-length-2
-same-length-2 c = search needs
-
-same-length-3 : tie.Need-same-length-3
-same-length-3 c = search needs
-
 returns : tie.Need-returns
 returns c =
     let s = c .before .before .before .before .before .before .before .before .before .before .before .before .before .before .before .before .before .before .before .before in
@@ -112,15 +103,6 @@ opj-bio-inalign-requires c κs =
     let is = f .ensures ∙ ap (λ (bs : List Band). nextBlocks (a .src .now) (layer ws) 0 (blocks bs) (reading ws (a .reports .now) (a .records .now) (startAt (a .b)))) e in
     bits-in (a .src .now) (a .reports .now) (a .records .now) ws (a .b) v (s .pre .2) (startAt (a .b)) refl _ is (s .pre .3) .place
 
-same-length-4 : tie.Need-same-length-4
-same-length-4 c = search needs
-
-same-length-5 : tie.Need-same-length-5
-same-length-5 c = search needs
-
-same-length-6 : tie.Need-same-length-6
-same-length-6 c = search needs
-
 returns-2 : tie.Need-returns-2
 returns-2 c =
     let s = c .before .before .before .before .before .before .before .before .before .before .before .before .before .before .before .before .before .before .before .before .before .before in
@@ -131,18 +113,6 @@ returns-2 c =
     let f = c .before .before .before .before .before .before .before .before .before .before .read-bands in
     let is = f .ensures ∙ ap (λ (bs : List Band). nextBlocks (a .src .now) (layer ws) 0 (blocks bs) (reading ws (a .reports .now) (a .records .now) (startAt (a .b)))) e in
     header-done (a .src .now) (a .reports .now) (a .records .now) ws (a .b) v (s .pre .2) (startAt (a .b)) refl _ is (s .pre .3) (c .before .before .if1 .left) (ends (a .src .now) (f .result .bio) _ true (c .before .opj-bio-inalign .ensures) (c .if2 .taken))
-
-refuse-requires : tie.Need-refuse-requires
-refuse-requires c κs = search needs
-
-same-length-7 : tie.Need-same-length-7
-same-length-7 c = search needs
-
-same-length-8 : tie.Need-same-length-8
-same-length-8 c = search needs
-
-same-length-9 : tie.Need-same-length-9
-same-length-9 c = search needs
 
 returns-3 : tie.Need-returns-3
 returns-3 c =
@@ -164,17 +134,17 @@ opj-t2-read-packet-header-spec =
     cast-n
     slice-read-layer
     read-bands-requires
-    same-length
-    same-length-2
-    same-length-3
+    (λ c. search needs)
+    (λ c. search needs)
+    (λ c. search needs)
     returns
     opj-bio-inalign-requires
-    same-length-4
-    same-length-5
-    same-length-6
+    (λ c. search needs)
+    (λ c. search needs)
+    (λ c. search needs)
     returns-2
-    refuse-requires
-    same-length-7
-    same-length-8
-    same-length-9
+    (λ c κs. search needs)
+    (λ c. search needs)
+    (λ c. search needs)
+    (λ c. search needs)
     returns-3)

@@ -48,9 +48,6 @@ loop-holds c =
       (λ j. nextBlocks (a .src .now) (a .layer) (z j) (e j) (reading (a .words .now) (a .reports .now) (a .records .now) (a .r))),
     )
 
-rows-requires : tie.Need-rows-requires Inv-loop μ-loop
-rows-requires c κs = search needs
-
 opj-tgt-row-requires : tie.Need-opj-tgt-row-requires Inv-loop μ-loop
 opj-tgt-row-requires c κs =
     let s = c .before .before .before .before .before .before .before .before in
@@ -191,7 +188,7 @@ read-band-spec =
     Inv-loop
     μ-loop
     loop-holds
-    rows-requires
+    (λ c κs. search needs)
     opj-tgt-row-requires
     row-place-requires
     mul-before

@@ -36,9 +36,6 @@ Inv-loop words₀ reports₀ records₀ src n layer bands trees run₀ start₀ 
 abbrev μ-loop : tie.MeasureT-loop
 μ-loop words₀ reports₀ records₀ src n layer bands trees run₀ start₀ block₀ i₀ words reports records run start block i = n - i
 
-band-levels-requires : tie.Need-band-levels-requires Inv-loop μ-loop
-band-levels-requires c κs = search needs
-
 loop-holds : tie.Need-loop-holds Inv-loop μ-loop
 unfolding blocks
 loop-holds c =
@@ -125,9 +122,6 @@ grid-end-requires c κs =
     subst (λ (k : Grid). SidesUpTo64 b × (k ≡ gridOf (k .start) b) × (k .start < 2 ^ 63)) (sym ge)
     (sides-of-first (a .t6) (a .n) (l .i) (omega (arith, s .pre .2)) t (s .pre .3), refl, omega (arith, l .inv .7, end-after (l .start) (drop (l .i) (take (a .n) (a .t6)))))
 
-band-blocks-requires : tie.Need-band-blocks-requires Inv-loop μ-loop
-band-blocks-requires c κs = search needs
-
 add-block : tie.Need-add-block Inv-loop μ-loop
 add-block c =
     let s = c .before .before .before .before .before .before .before .before .before .before .before .before .before .before .before .before .before .before .before .before .before .before .before .before in
@@ -199,7 +193,7 @@ read-bands-spec =
     (tie.spec
     Inv-loop
     μ-loop
-    band-levels-requires
+    (λ c κs. search needs)
     loop-holds
     mul-band
     array-copy-out-band
@@ -212,7 +206,7 @@ read-bands-spec =
     same-length-3
     returns
     grid-end-requires
-    band-blocks-requires
+    (λ c κs. search needs)
     add-block
     add-i
     loop-less

@@ -11,12 +11,6 @@ use borrow.Author.Needs.{needs}
 use Rattle.t2_read_packet.proofs.done.Statement.{statement}
 use Rattle.t2_read_packet.proofs.done.Tie as tie
 
-opj-bio-inalign-requires : tie.Need-opj-bio-inalign-requires
-opj-bio-inalign-requires c κs = search needs
-
-read-marker-requires : tie.Need-read-marker-requires
-read-marker-requires c κs = search needs
-
 add-taken : tie.Need-add-taken
 unfolding alignedAt
 add-taken c =
@@ -32,4 +26,4 @@ returns c =
     done-is (s .args .m) (s .args .src .now) (markerRead (s .args .s)) (s .args .b) (s .args .present) (s .args .segments) (c .before .before .before .opj-bio-inalign .result .bio .bp) (markerRead (c .before .read-marker .result)) (ap (λ (r : Aligned). r .bio .bp) (c .before .before .before .opj-bio-inalign .ensures)) (c .before .read-marker .ensures)
 
 pub done-spec : {M : Type 1} → statement M
-done-spec = tie.close (tie.spec opj-bio-inalign-requires read-marker-requires add-taken returns)
+done-spec = tie.close (tie.spec (λ c κs. search needs) (λ c κs. search needs) add-taken returns)

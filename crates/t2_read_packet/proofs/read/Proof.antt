@@ -13,31 +13,10 @@ use borrow.Author.Needs.{needs}
 use Rattle.t2_read_packet.proofs.read.Statement.{statement}
 use Rattle.t2_read_packet.proofs.read.Tie as tie
 
-read-refusal-requires : tie.Need-read-refusal-requires
-read-refusal-requires c κs = search needs
-
-refused-requires : tie.Need-refused-requires
-refused-requires c κs = search needs
-
-same-length : tie.Need-same-length
-same-length c = search needs
-
-same-length-2 : tie.Need-same-length-2
-same-length-2 c = search needs
-
-same-length-3 : tie.Need-same-length-3
-same-length-3 c = search needs
-
 returns : tie.Need-returns
 returns c =
     let s = c .before .before .before .before .before .before .before .before .before .before .before in
     unchanged-is (s .args .state .now) (s .args .scratch .now) (s .args .m) (s .args .src .now) (s .args .reports .now) (s .args .records .now) _ _ (c .before .before .read-refusal .ensures) (c .before .if1 .taken) (c .refused .ensures)
-
-read-marker-requires : tie.Need-read-marker-requires
-read-marker-requires c κs = search needs
-
-opj-bio-init-dec-requires : tie.Need-opj-bio-init-dec-requires
-opj-bio-init-dec-requires c κs = search needs
 
 bit-in-requires : tie.Need-bit-in-requires
 bit-in-requires c κs = omega (arith, ap (λ (b : Bio). b .ct) (c .opj-bio-init-dec .ensures))
@@ -51,15 +30,6 @@ read-absent-requires c κs =
     let b = bioAt (c .before .before .before .before .before .before .before .read-marker .result .skip) in
     let p = getBit-place (s .args .src .now) b (omega (arith, k, skip-inside (s .args .m .sop) 6 0x91 (s .args .src .now) 0)) in
     (g .valid, g .layers, omega (arith, ap (λ (d : Decoded). d .bio .bp) e, p))
-
-same-length-4 : tie.Need-same-length-4
-same-length-4 c = search needs
-
-same-length-5 : tie.Need-same-length-5
-same-length-5 c = search needs
-
-same-length-6 : tie.Need-same-length-6
-same-length-6 c = search needs
 
 returns-2 : tie.Need-returns-2
 returns-2 c =
@@ -78,18 +48,6 @@ read-present-requires c κs =
     let q = getBit-ct (s .args .src .now) b (omega arith) in
     (g .valid, g .layers, g .listed, record { few = omega (arith, ap (λ (d : Decoded). d .bio .ct) e, q); place = omega (arith, ap (λ (d : Decoded). d .bio .bp) e, p) })
 
-same-length-7 : tie.Need-same-length-7
-same-length-7 c = search needs
-
-same-length-8 : tie.Need-same-length-8
-same-length-8 c = search needs
-
-same-length-9 : tie.Need-same-length-9
-same-length-9 c = search needs
-
-same-length-10 : tie.Need-same-length-10
-same-length-10 c = search needs
-
 returns-3 : tie.Need-returns-3
 returns-3 c =
     let s = c .before .before .before .before .before .before .before .before .before .before .before .before .before .before .before .before .before .before .before .before .before .before .before .before .before .before .before .before in
@@ -100,23 +58,23 @@ pub read-spec : {M : Type 1} → statement M
 read-spec =
     tie.close
     (tie.spec
-    read-refusal-requires
-    refused-requires
-    same-length
-    same-length-2
-    same-length-3
+    (λ c κs. search needs)
+    (λ c κs. search needs)
+    (λ c. search needs)
+    (λ c. search needs)
+    (λ c. search needs)
     returns
-    read-marker-requires
-    opj-bio-init-dec-requires
+    (λ c κs. search needs)
+    (λ c κs. search needs)
     bit-in-requires
     read-absent-requires
-    same-length-4
-    same-length-5
-    same-length-6
+    (λ c. search needs)
+    (λ c. search needs)
+    (λ c. search needs)
     returns-2
     read-present-requires
-    same-length-7
-    same-length-8
-    same-length-9
-    same-length-10
+    (λ c. search needs)
+    (λ c. search needs)
+    (λ c. search needs)
+    (λ c. search needs)
     returns-3)

@@ -18,9 +18,6 @@ slice-read-next c =
     let v = valid-state reader ws (length (s .args .scratch .now)) (s .pre .0) in
     omega (arith, thirteen-words ws (length (s .args .scratch .now)) v)
 
-add-next : tie.Need-add-next
-add-next c = search needs
-
 slice-write-state : tie.Need-slice-write-state
 slice-write-state c =
     let s = c .before .before .before .before .before in
@@ -35,21 +32,6 @@ copy-requires c κs =
     let v = valid-state reader ws (length (s .args .scratch .now)) (s .pre .0) in
     simp length-set (sym (v .scratch-is))
 
-wipe-requires : tie.Need-wipe-requires
-wipe-requires c κs = search needs
-
-done-requires : tie.Need-done-requires
-done-requires c κs = search needs
-
-same-length : tie.Need-same-length
-same-length c = search needs
-
-same-length-2 : tie.Need-same-length-2
-same-length-2 c = search needs
-
-same-length-3 : tie.Need-same-length-3
-same-length-3 c = search needs
-
 returns : tie.Need-returns
 returns c =
     let s = c .before .before .before .before .before .before .before .before .before .before .before .before .before .before .before in
@@ -60,12 +42,12 @@ read-absent-spec =
     tie.close
     (tie.spec
     slice-read-next
-    add-next
+    (λ c. search needs)
     slice-write-state
     copy-requires
-    wipe-requires
-    done-requires
-    same-length
-    same-length-2
-    same-length-3
+    (λ c κs. search needs)
+    (λ c κs. search needs)
+    (λ c. search needs)
+    (λ c. search needs)
+    (λ c. search needs)
     returns)

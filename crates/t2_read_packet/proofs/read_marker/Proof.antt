@@ -12,27 +12,15 @@ returns c =
     let s = c .before .before in
     not-used (s .args .used) (s .args .m .bytes) (s .args .m .second) (s .args .src .now) (s .args .p) (not-true _ (c .if1 .taken))
 
-bytes-from-requires : tie.Need-bytes-from-requires
-bytes-from-requires c κs = search needs
-
 returns-2 : tie.Need-returns-2
 returns-2 c =
     let s = c .before .before .before .before .before in
     too-few (s .args .used) (s .args .m .bytes) (s .args .m .second) (s .args .src .now) (s .args .p) (not-false _ (c .before .before .before .if1 .left)) (subst (λ (n : ℕ). n < s .args .m .bytes) (c .before .before .bytes-from .ensures) (c .if2 .taken))
 
-shared-slice-read-if3 : tie.Need-shared-slice-read-if3
-shared-slice-read-if3 c = search needs
-
 returns-3 : tie.Need-returns-3
 returns-3 c =
     let s = c .before .before .before .before .before .before .before in
     first-differs (s .args .used) (s .args .m .bytes) (s .args .m .second) (s .args .src .now) (s .args .p) (not-false _ (c .before .before .before .before .before .if1 .left)) (subst (λ (n : ℕ). s .args .m .bytes ≤ n) (c .before .before .before .before .bytes-from .ensures) (c .before .before .if2 .left)) (c .if3 .taken)
-
-add-if4 : tie.Need-add-if4
-add-if4 c = search needs
-
-shared-slice-read-if4 : tie.Need-shared-slice-read-if4
-shared-slice-read-if4 c = search needs
 
 returns-4 : tie.Need-returns-4
 returns-4 c =
@@ -49,11 +37,11 @@ read-marker-spec =
     tie.close
     (tie.spec
     returns
-    bytes-from-requires
+    (λ c κs. search needs)
     returns-2
-    shared-slice-read-if3
+    (λ c. search needs)
     returns-3
-    add-if4
-    shared-slice-read-if4
+    (λ c. search needs)
+    (λ c. search needs)
     returns-4
     returns-5)

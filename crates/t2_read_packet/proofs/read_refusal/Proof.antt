@@ -17,9 +17,6 @@ use borrow.Author.Needs.{needs}
 use Rattle.t2_read_packet.proofs.read_refusal.Statement.{statement}
 use Rattle.t2_read_packet.proofs.read_refusal.Tie as tie
 
-valid-state-requires : tie.Need-valid-state-requires
-valid-state-requires c κs = search needs
-
 returns : tie.Need-returns
 unfolding reader
 returns c =
@@ -106,7 +103,7 @@ pub read-refusal-spec : {M : Type 1} → statement M
 read-refusal-spec =
     tie.close
     (tie.spec
-    valid-state-requires
+    (λ c κs. search needs)
     returns
     shared-slice-read-if2
     returns-2

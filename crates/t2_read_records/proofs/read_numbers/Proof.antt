@@ -9,38 +9,11 @@ use borrow.Author.Needs.{needs}
 use Rattle.t2_read_records.proofs.read_numbers.Statement.{statement}
 use Rattle.t2_read_records.proofs.read_numbers.Tie as tie
 
-four-each-requires : tie.Need-four-each-requires
-four-each-requires c κs = search needs
-
-wrong-list-requires : tie.Need-wrong-list-requires
-wrong-list-requires c κs = search needs
-
-same-length : tie.Need-same-length
-same-length c = search needs
-
-same-length-2 : tie.Need-same-length-2
-same-length-2 c = search needs
-
 returns : tie.Need-returns
 returns c =
     let a = c .before .before .before .before .before .before .before .before .before .before .args in
     ap (λ (n : ℕ). readResult (a .state .now) (a .scratch .now) (a .reports .now) (a .numbers .now) (refusedAnswer n)) (c .wrong-list .ensures)
     ∙ sym (numbers-refused (a .state .now) (a .scratch .now) (a .markers) (a .src .now) (a .reports .now) (a .numbers .now) (a .room) (sym (c .before .before .before .before .four-each .ensures) ∙ not-true _ (c .before .before .before .if1 .taken)))
-
-read-requires : tie.Need-read-requires
-read-requires c κs = search needs
-
-same-length-3 : tie.Need-same-length-3
-same-length-3 c = search needs
-
-same-length-4 : tie.Need-same-length-4
-same-length-4 c = search needs
-
-same-length-5 : tie.Need-same-length-5
-same-length-5 c = search needs
-
-same-length-6 : tie.Need-same-length-6
-same-length-6 c = search needs
 
 returns-2 : tie.Need-returns-2
 returns-2 c =
@@ -52,14 +25,14 @@ pub read-numbers-spec : {M : Type 1} → statement M
 read-numbers-spec =
     tie.close
     (tie.spec
-    four-each-requires
-    wrong-list-requires
-    same-length
-    same-length-2
+    (λ c κs. search needs)
+    (λ c κs. search needs)
+    (λ c. search needs)
+    (λ c. search needs)
     returns
-    read-requires
-    same-length-3
-    same-length-4
-    same-length-5
-    same-length-6
+    (λ c κs. search needs)
+    (λ c. search needs)
+    (λ c. search needs)
+    (λ c. search needs)
+    (λ c. search needs)
     returns-2)

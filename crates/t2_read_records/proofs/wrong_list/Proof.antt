@@ -11,9 +11,6 @@ use borrow.Author.Needs.{needs}
 use Rattle.t2_read_records.proofs.wrong_list.Statement.{statement}
 use Rattle.t2_read_records.proofs.wrong_list.Tie as tie
 
-valid-state-requires : tie.Need-valid-state-requires
-valid-state-requires c κs = search needs
-
 returns : tie.Need-returns
 unfolding reader
 returns c =
@@ -43,4 +40,4 @@ returns-3 c =
 
 pub wrong-list-spec : {M : Type 1} → statement M
 wrong-list-spec =
-    tie.close (tie.spec valid-state-requires returns shared-slice-read-if2 returns-2 returns-3)
+    tie.close (tie.spec (λ c κs. search needs) returns shared-slice-read-if2 returns-2 returns-3)

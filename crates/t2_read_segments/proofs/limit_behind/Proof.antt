@@ -6,19 +6,13 @@ use borrow.Author.Needs.{needs}
 use Rattle.t2_read_segments.proofs.limit_behind.Statement.{statement}
 use Rattle.t2_read_segments.proofs.limit_behind.Tie as tie
 
-first-limit-requires : tie.Need-first-limit-requires
-first-limit-requires c κs = search needs
-
 returns : tie.Need-returns
 unfolding limitBehind
 returns c = c .first-limit .ensures ∙ sym (if-eq _ 0 _ _ (c .before .if1 .taken))
-
-next-limit-requires : tie.Need-next-limit-requires
-next-limit-requires c κs = search needs
 
 returns-2 : tie.Need-returns-2
 unfolding limitBehind
 returns-2 c = c .next-limit .ensures ∙ sym (if-ne _ 0 _ _ (c .before .if1 .left))
 
 pub limit-behind-spec : {M : Type 1} → statement M
-limit-behind-spec = tie.close (tie.spec first-limit-requires returns next-limit-requires returns-2)
+limit-behind-spec = tie.close (tie.spec (λ c κs. search needs) returns (λ c κs. search needs) returns-2)

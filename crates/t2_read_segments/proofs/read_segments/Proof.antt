@@ -37,9 +37,6 @@ sub-room c =
     let l = c .before .before .before .before .loop in
     omega (arith, has-room (l .words) (c .before .before .before .before .before .before .before .before .args .at) _ (c .before .current-segment .ensures) (l .inv .4) .0)
 
-opj-uint-min-requires : tie.Need-opj-uint-min-requires Inv-loop μ-loop
-opj-uint-min-requires c κs = search needs
-
 read-segment-requires : tie.Need-read-segment-requires Inv-loop μ-loop
 read-segment-requires c κs =
     let s = c .before .before .before .before .before .before .before .before .before .before .before in
@@ -111,7 +108,7 @@ read-segments-spec =
     loop-holds
     current-segment-requires
     sub-room
-    opj-uint-min-requires
+    (λ c κs. search needs)
     read-segment-requires
     same-length
     same-length-2

@@ -4,18 +4,6 @@ use borrow.Author.Needs.{needs}
 use Rattle.t2_records.proofs.segment_at.Statement.{statement}
 use Rattle.t2_records.proofs.segment_at.Tie as tie
 
-word-requires : tie.Need-word-requires
-word-requires c κs = search needs
-
-word-requires-2 : tie.Need-word-requires-2
-word-requires-2 c κs = search needs
-
-word-requires-3 : tie.Need-word-requires-3
-word-requires-3 c κs = search needs
-
-word-requires-4 : tie.Need-word-requires-4
-word-requires-4 c κs = search needs
-
 returns : tie.Need-returns
 unfolding segmentAt
 returns c =
@@ -28,4 +16,4 @@ returns c =
 
 pub segment-at-spec : {M : Type 1} → statement M
 segment-at-spec =
-    tie.close (tie.spec word-requires word-requires-2 word-requires-3 word-requires-4 returns)
+    tie.close (tie.spec (λ c κs. search needs) (λ c κs. search needs) (λ c κs. search needs) (λ c κs. search needs) returns)

@@ -6,21 +6,6 @@ use borrow.Author.Needs.{needs}
 use Rattle.t2_records.proofs.word.Statement.{statement}
 use Rattle.t2_records.proofs.word.Tie as tie
 
-mul-at : tie.Need-mul-at
-mul-at c = search needs
-
-add-at : tie.Need-add-at
-add-at c = search needs
-
-mul-result : tie.Need-mul-result
-mul-result c = search needs
-
-shared-slice-read-result : tie.Need-shared-slice-read-result
-shared-slice-read-result c = search needs
-
-returns : tie.Need-returns
-returns c = search needs
-
 returns-2 : tie.Need-returns-2
 returns-2 c = sym (List·getD-eq-default (c .before .before .args .words .now) 0 (c .if2 .left))
 
@@ -30,4 +15,4 @@ returns-3 c = let h = c .if1 .left in sym (List·getD-eq-default (c .before .arg
 pub word-spec : {M : Type 1} → statement M
 word-spec =
     tie.close
-    (tie.spec mul-at add-at mul-result shared-slice-read-result returns returns-2 returns-3)
+    (tie.spec (λ c. search needs) (λ c. search needs) (λ c. search needs) (λ c. search needs) (λ c. search needs) returns-2 returns-3)

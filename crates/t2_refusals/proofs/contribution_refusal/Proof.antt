@@ -50,9 +50,6 @@ returns c =
     let w = sym (c .if1 .taken) ∙ c .before .wrong-lists .ensures ∙ ap (λ (k : ℕ). wrongLists p k) (c .before .before .num-blocks .ensures ∙ ap (λ (z : List Band). length (blocks z)) b) in
     contribution-parts (s .args .state .now) p true _ _ w refl refl
 
-any-over-requires : tie.Need-any-over-requires
-any-over-requires c κs = search needs
-
 returns-2 : tie.Need-returns-2
 returns-2 c =
     let s = c .before .before .before .before .before .before .before .before .before .before .before in
@@ -101,7 +98,7 @@ contribution-refusal-spec =
     num-blocks-requires
     wrong-lists-requires
     returns
-    any-over-requires
+    (λ c κs. search needs)
     returns-2
     segments-refusal-requires
     returns-3)

@@ -10,9 +10,6 @@ use Rattle.t2_refusals.proofs.Laws.RefusalParts.{first-words, scratch-a
 use Rattle.t2_refusals.proofs.measure_refusal.Statement.{statement}
 use Rattle.t2_refusals.proofs.measure_refusal.Tie as tie
 
-valid-state-requires : tie.Need-valid-state-requires
-valid-state-requires c κs = search needs
-
 returns : tie.Need-returns
 unfolding writer
 returns c =
@@ -47,7 +44,7 @@ pub measure-refusal-spec : {M : Type 1} → statement M
 measure-refusal-spec =
     tie.close
     (tie.spec
-    valid-state-requires
+    (λ c κs. search needs)
     returns
     shared-slice-read-if2
     returns-2

@@ -3,11 +3,8 @@ use borrow.Author.Needs.{needs}
 use Rattle.t2_refusals.proofs.sum_lengths.Statement.{statement}
 use Rattle.t2_refusals.proofs.sum_lengths.Tie as tie
 
-total-requires : tie.Need-total-requires
-total-requires c κs = search needs
-
 returns : tie.Need-returns
 returns c = c .total .ensures
 
 pub sum-lengths-spec : {M : Type 1} → statement M
-sum-lengths-spec = tie.close (tie.spec total-requires returns)
+sum-lengths-spec = tie.close (tie.spec (λ c κs. search needs) returns)

@@ -15,9 +15,6 @@ returns : tie.Need-returns
 unfolding wrongLists
 returns c = simp (ne-eqb _ _ (c .if1 .taken))
 
-total-requires : tie.Need-total-requires
-total-requires c κs = search needs
-
 returns-2 : tie.Need-returns-2
 unfolding wrongLists
 returns-2 c =
@@ -31,4 +28,4 @@ returns-3 c =
     ap (λ (k : ℕ). not (eqb (length (s .marks .now)) k)) (c .before .total .ensures) ∙ simp (eq-eqb _ _ (c .before .before .if1 .left), eq-eqb (length (s .lengths .now)) (sum (s .counts .now)) (c .if2 .left ∙ c .before .total .ensures))
 
 pub wrong-lists-spec : {M : Type 1} → statement M
-wrong-lists-spec = tie.close (tie.spec returns total-requires returns-2 returns-3)
+wrong-lists-spec = tie.close (tie.spec returns (λ c κs. search needs) returns-2 returns-3)

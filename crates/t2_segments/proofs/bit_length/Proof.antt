@@ -6,9 +6,6 @@ use Rattle.t2_segments.proofs.Laws.Segments.{log-up-to-31}
 use Rattle.t2_segments.proofs.bit_length.Statement.{statement}
 use Rattle.t2_segments.proofs.bit_length.Tie as tie
 
-opj-uint-floorlog2-requires : tie.Need-opj-uint-floorlog2-requires
-opj-uint-floorlog2-requires c κs = search needs
-
 add-result : tie.Need-add-result
 add-result c = omega (arith, c .opj-uint-floorlog2 .ensures, log-up-to-31 (c .before .args .bytes) (c .before .fits .bytes .fits))
 
@@ -17,4 +14,4 @@ unfolding bitLength
 returns c = omega (arith, c .opj-uint-floorlog2 .ensures)
 
 pub bit-length-spec : {M : Type 1} → statement M
-bit-length-spec = tie.close (tie.spec opj-uint-floorlog2-requires add-result returns)
+bit-length-spec = tie.close (tie.spec (λ c κs. search needs) add-result returns)

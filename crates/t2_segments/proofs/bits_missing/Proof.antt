@@ -4,15 +4,6 @@ use native.Mathlib.Omega.{arith}
 use Rattle.t2_segments.proofs.bits_missing.Statement.{statement}
 use Rattle.t2_segments.proofs.bits_missing.Tie as tie
 
-bit-length-requires : tie.Need-bit-length-requires
-bit-length-requires c κs = search needs
-
-field-width-requires : tie.Need-field-width-requires
-field-width-requires c κs = omega arith
-
-cast-if1 : tie.Need-cast-if1
-cast-if1 c = search needs
-
 returns : tie.Need-returns
 returns c = omega (arith, c .before .field-width .ensures, c .before .before .bit-length .ensures)
 
@@ -29,9 +20,9 @@ pub bits-missing-spec : {M : Type 1} → statement M
 bits-missing-spec =
     tie.close
     (tie.spec
-    bit-length-requires
-    field-width-requires
-    cast-if1
+    (λ c κs. search needs)
+    (λ c κs. omega arith)
+    (λ c. search needs)
     returns
     cast-result
     sub-result

@@ -5,18 +5,9 @@ use Rattle.t800.specs.Segments.{width}
 use Rattle.t2_segments.proofs.field_width.Statement.{statement}
 use Rattle.t2_segments.proofs.field_width.Tie as tie
 
-opj-uint-floorlog2-requires : tie.Need-opj-uint-floorlog2-requires
-opj-uint-floorlog2-requires c κs = search needs
-
-cast-result : tie.Need-cast-result
-cast-result c = search needs
-
-add-result : tie.Need-add-result
-add-result c = search needs
-
 returns : tie.Need-returns
 unfolding width
 returns c = omega (arith, c .opj-uint-floorlog2 .ensures)
 
 pub field-width-spec : {M : Type 1} → statement M
-field-width-spec = tie.close (tie.spec opj-uint-floorlog2-requires cast-result add-result returns)
+field-width-spec = tie.close (tie.spec (λ c κs. search needs) (λ c. search needs) (λ c. search needs) returns)

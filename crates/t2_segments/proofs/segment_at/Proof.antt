@@ -19,35 +19,17 @@ loop-holds : tie.Need-loop-holds Inv-loop μ-loop
 unfolding firstSegment
 loop-holds c = (omega arith, omega arith, omega arith, refl)
 
-mul-one : tie.Need-mul-one Inv-loop μ-loop
-mul-one c = omega arith
-
-shared-slice-read-one : tie.Need-shared-slice-read-one Inv-loop μ-loop
-shared-slice-read-one c = omega arith
-
 cast-one : tie.Need-cast-one Inv-loop μ-loop
 cast-one c = omega (arith, c .shared-slice-known .given (c .before .before .loop .i))
 
-add-passes : tie.Need-add-passes Inv-loop μ-loop
-add-passes c = omega arith
-
 add-bytes : tie.Need-add-bytes Inv-loop μ-loop
 add-bytes c = omega (arith, c .shared-slice-known .given (c .before .before .loop .i))
-
-shared-slice-read-if1 : tie.Need-shared-slice-read-if1 Inv-loop μ-loop
-shared-slice-read-if1 c = omega arith
 
 returns : tie.Need-returns Inv-loop μ-loop
 returns c =
     let s = c .before .before .before .before .before in
     let l = c .before .before .before .before .loop in
     pass-is-last (s .args .lengths .now) (s .args .marks .now) (l .i) (l .passes) (l .bytes) (omega arith) (s .pre .0 .0) (ne-eqb _ _ (c .if1 .taken)) ∙ l .inv .3
-
-add-i : tie.Need-add-i Inv-loop μ-loop
-add-i c = omega arith
-
-loop-less : tie.Need-loop-less Inv-loop μ-loop
-loop-less c = omega arith
 
 loop-again : tie.Need-loop-again Inv-loop μ-loop
 loop-again c =
@@ -72,14 +54,14 @@ segment-at-spec =
     Inv-loop
     μ-loop
     loop-holds
-    mul-one
-    shared-slice-read-one
+    (λ c. omega arith)
+    (λ c. omega arith)
     cast-one
-    add-passes
+    (λ c. omega arith)
     add-bytes
-    shared-slice-read-if1
+    (λ c. omega arith)
     returns
-    add-i
-    loop-less
+    (λ c. omega arith)
+    (λ c. omega arith)
     loop-again
     returns-2)

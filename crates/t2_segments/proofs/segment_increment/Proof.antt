@@ -19,9 +19,6 @@ abbrev μ-loop : tie.MeasureT-loop
 loop-holds : tie.Need-loop-holds Inv-loop μ-loop
 loop-holds c = let s = c .before .before in (omega arith, omega arith, s .pre .1)
 
-segment-at-requires : tie.Need-segment-at-requires Inv-loop μ-loop
-segment-at-requires c κs = omega arith
-
 cast-bytes : tie.Need-cast-bytes Inv-loop μ-loop
 cast-bytes c =
     let s = c .before .before .before .before .before .before in
@@ -29,12 +26,6 @@ cast-bytes c =
     let n = next-segment (s .args .lengths .now) (s .args .marks .now) (l .at) _ _ (omega arith) (omega arith) (c .before .segment-at .ensures) in
     let k = first-not-long _ _ _ (n .is) (l .inv .2) in
     omega (arith, k .0)
-
-bits-missing-requires : tie.Need-bits-missing-requires Inv-loop μ-loop
-bits-missing-requires c κs = omega arith
-
-opj-uint-max-requires : tie.Need-opj-uint-max-requires Inv-loop μ-loop
-opj-uint-max-requires c κs = omega arith
 
 cast-at : tie.Need-cast-at Inv-loop μ-loop
 cast-at c =
@@ -83,10 +74,10 @@ segment-increment-spec =
     Inv-loop
     μ-loop
     loop-holds
-    segment-at-requires
+    (λ c κs. omega arith)
     cast-bytes
-    bits-missing-requires
-    opj-uint-max-requires
+    (λ c κs. omega arith)
+    (λ c κs. omega arith)
     cast-at
     add-at
     loop-less

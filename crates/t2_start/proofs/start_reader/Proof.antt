@@ -6,15 +6,9 @@ use borrow.Author.Needs.{needs}
 use Rattle.t2_start.proofs.start_reader.Statement.{statement}
 use Rattle.t2_start.proofs.start_reader.Tie as tie
 
-begin-requires : tie.Need-begin-requires
-begin-requires c κs = search needs
-
-same-length : tie.Need-same-length
-same-length c = search needs
-
 returns : tie.Need-returns
 unfolding reader
 returns c = let s = c .before .before .before .before .before .before .args in c .before .before .begin .ensures ∙ reader-begun (s .count) (s .bands) (s .style) (s .planes .now) (s .state .now)
 
 pub start-reader-spec : {M : Type 1} → statement M
-start-reader-spec = tie.close (tie.spec begin-requires same-length returns)
+start-reader-spec = tie.close (tie.spec (λ c κs. search needs) (λ c. search needs) returns)

@@ -5,12 +5,6 @@ use borrow.Author.Needs.{needs}
 use Rattle.t2_start.proofs.start_writer.Statement.{statement}
 use Rattle.t2_start.proofs.start_writer.Tie as tie
 
-begin-requires : tie.Need-begin-requires
-begin-requires c κs = search needs
-
-same-length : tie.Need-same-length
-same-length c = search needs
-
 returns : tie.Need-returns
 unfolding writer
 returns c = let s = c .before .before .before .before .before .before .before .args in start-refused writer (s .count) (s .bands) (s .style) (s .planes .now) (s .state .now) (c .before .before .before .begin .result) _ (c .before .before .before .begin .ensures) (c .if1 .taken)
@@ -19,9 +13,6 @@ set-zero-planes-requires : tie.Need-set-zero-planes-requires
 unfolding writer
 set-zero-planes-requires c κs = let s = c .before .before .before .before .before .before .before .before .args in writer-begun (s .count) (s .bands) (s .style) (s .planes .now) (s .state .now) (c .before .before .before .before .begin .result) _ (c .before .before .before .before .begin .ensures) (c .before .if1 .left)
 
-same-length-2 : tie.Need-same-length-2
-same-length-2 c = search needs
-
 returns-2 : tie.Need-returns-2
 unfolding writer
 returns-2 c = let s = c .before .before .before .before .before .before .before .before .before .before .before .args in start-set writer (s .count) (s .bands) (s .style) (s .planes .now) (s .state .now) (c .before .before .before .before .before .before .before .begin .result) _ _ (c .before .before .before .before .before .before .before .begin .ensures) (c .before .before .before .before .if1 .left) (c .before .before .set-zero-planes .ensures)
@@ -29,4 +20,4 @@ returns-2 c = let s = c .before .before .before .before .before .before .before 
 pub start-writer-spec : {M : Type 1} → statement M
 start-writer-spec =
     tie.close
-    (tie.spec begin-requires same-length returns set-zero-planes-requires same-length-2 returns-2)
+    (tie.spec (λ c κs. search needs) (λ c. search needs) returns set-zero-planes-requires (λ c. search needs) returns-2)

@@ -22,12 +22,6 @@ put-bands-requires : tie.Need-put-bands-requires
 unfolding stateLength
 put-bands-requires c κs = let s = c .before .before .before .before .before .before in (s .pre .0, omega (arith, c .before .before .before .first-words .kept .0, s .pre .2, end-after 13 (take (s .args .count) (s .args .bands))))
 
-fresh-bands-requires : tie.Need-fresh-bands-requires
-fresh-bands-requires c κs = search needs
-
-same-length : tie.Need-same-length
-same-length c = search needs
-
 returns : tie.Need-returns
 returns c =
     let s = c .before .before .before .before .before .before .before .before .before .before .before .before .before in
@@ -41,4 +35,4 @@ returns c =
 pub fill-spec : {M : Type 1} → statement M
 fill-spec =
     tie.close
-    (tie.spec first-words-requires put-bands-requires fresh-bands-requires same-length returns)
+    (tie.spec first-words-requires put-bands-requires (λ c κs. search needs) (λ c. search needs) returns)

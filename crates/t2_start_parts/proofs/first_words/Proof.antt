@@ -5,31 +5,19 @@ use borrow.Author.Needs.{needs}
 use Rattle.t2_start_parts.proofs.first_words.Statement.{statement}
 use Rattle.t2_start_parts.proofs.first_words.Tie as tie
 
-slice-write-state : tie.Need-slice-write-state
-slice-write-state c = search needs
-
 slice-write-state-2 : tie.Need-slice-write-state-2
 slice-write-state-2 c = simp length-set (omega arith)
 
 slice-write-state-3 : tie.Need-slice-write-state-3
 slice-write-state-3 c = simp length-set (omega arith)
 
-slice-write-state-4 : tie.Need-slice-write-state-4
-slice-write-state-4 c = search needs
-
-same-length : tie.Need-same-length
-same-length c = search needs
-
-returns : tie.Need-returns
-returns c = search needs
-
 pub first-words-spec : {M : Type 1} → statement M
 first-words-spec =
     tie.close
     (tie.spec
-    slice-write-state
+    (λ c. search needs)
     slice-write-state-2
     slice-write-state-3
-    slice-write-state-4
-    same-length
-    returns)
+    (λ c. search needs)
+    (λ c. search needs)
+    (λ c. search needs))

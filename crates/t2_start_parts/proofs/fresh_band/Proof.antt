@@ -10,27 +10,6 @@ use borrow.Author.Needs.{needs}
 use Rattle.t2_start_parts.proofs.fresh_band.Statement.{statement}
 use Rattle.t2_start_parts.proofs.fresh_band.Tie as tie
 
-mul-tree : tie.Need-mul-tree
-mul-tree c = search needs
-
-opj-tgt-reset-requires : tie.Need-opj-tgt-reset-requires
-opj-tgt-reset-requires c κs = search needs
-
-add-second : tie.Need-add-second
-add-second c = search needs
-
-opj-tgt-reset-requires-2 : tie.Need-opj-tgt-reset-requires-2
-opj-tgt-reset-requires-2 c κs = search needs
-
-add-behind : tie.Need-add-behind
-add-behind c = search needs
-
-zero-blocks-requires : tie.Need-zero-blocks-requires
-zero-blocks-requires c κs = search needs
-
-same-length : tie.Need-same-length
-same-length c = search needs
-
 returns : tie.Need-returns
 returns c =
     let s = c .before .before .before .before .before .before .before .before .before .before .before .before .before .args in
@@ -44,11 +23,11 @@ pub fresh-band-spec : {M : Type 1} → statement M
 fresh-band-spec =
     tie.close
     (tie.spec
-    mul-tree
-    opj-tgt-reset-requires
-    add-second
-    opj-tgt-reset-requires-2
-    add-behind
-    zero-blocks-requires
-    same-length
+    (λ c. search needs)
+    (λ c κs. search needs)
+    (λ c. search needs)
+    (λ c κs. search needs)
+    (λ c. search needs)
+    (λ c κs. search needs)
+    (λ c. search needs)
     returns)

@@ -74,9 +74,6 @@ add-words c = omega (arith, add-at c)
 add-i : tie.Need-add-i Inv-loop μ-loop
 add-i c = omega (arith, c .before .before .before .before .before .before .before .before .before .before .pre .0)
 
-loop-less : tie.Need-loop-less Inv-loop μ-loop
-loop-less c = omega arith
-
 loop-again : tie.Need-loop-again Inv-loop μ-loop
 loop-again c =
     let s = c .before .before .before .before .before .before .before .before .before .before in
@@ -118,7 +115,7 @@ fresh-bands-spec =
     add-words
     add-at
     add-i
-    loop-less
+    (λ c. omega arith)
     loop-again
     same-length
     returns)

@@ -6,9 +6,6 @@ use borrow.Author.Needs.{needs}
 use Rattle.t2_start_parts.proofs.planes_wanted.Statement.{statement}
 use Rattle.t2_start_parts.proofs.planes_wanted.Tie as tie
 
-num-blocks-requires : tie.Need-num-blocks-requires
-num-blocks-requires c κs = search needs
-
 returns : tie.Need-returns
 unfolding planesWanted
 returns c = c .num-blocks .ensures ∙ simp (eq-eqb _ _ (c .before .if1 .taken))
@@ -18,4 +15,4 @@ unfolding planesWanted
 returns-2 c = simp (ne-eqb _ _ (c .if1 .left))
 
 pub planes-wanted-spec : {M : Type 1} → statement M
-planes-wanted-spec = tie.close (tie.spec num-blocks-requires returns returns-2)
+planes-wanted-spec = tie.close (tie.spec (λ c κs. search needs) returns returns-2)

@@ -7,32 +7,11 @@ use borrow.Author.Needs.{needs}
 use Rattle.t2_start_parts.proofs.put_band.Statement.{statement}
 use Rattle.t2_start_parts.proofs.put_band.Tie as tie
 
-mul-state : tie.Need-mul-state
-mul-state c = search needs
-
-slice-write-state : tie.Need-slice-write-state
-slice-write-state c = search needs
-
-add-state : tie.Need-add-state
-add-state c = search needs
-
-mul-state-2 : tie.Need-mul-state-2
-mul-state-2 c = search needs
-
 slice-write-state-2 : tie.Need-slice-write-state-2
 slice-write-state-2 c = simp length-set (omega arith)
 
-add-state-2 : tie.Need-add-state-2
-add-state-2 c = search needs
-
-mul-state-3 : tie.Need-mul-state-3
-mul-state-3 c = search needs
-
 slice-write-state-3 : tie.Need-slice-write-state-3
 slice-write-state-3 c = simp length-set (omega arith)
-
-same-length : tie.Need-same-length
-same-length c = search needs
 
 returns : tie.Need-returns
 returns c =
@@ -45,13 +24,13 @@ pub put-band-spec : {M : Type 1} → statement M
 put-band-spec =
     tie.close
     (tie.spec
-    mul-state
-    slice-write-state
-    add-state
-    mul-state-2
+    (λ c. search needs)
+    (λ c. search needs)
+    (λ c. search needs)
+    (λ c. search needs)
     slice-write-state-2
-    add-state-2
-    mul-state-3
+    (λ c. search needs)
+    (λ c. search needs)
     slice-write-state-3
-    same-length
+    (λ c. search needs)
     returns)

@@ -7,14 +7,8 @@ use borrow.Author.Needs.{needs}
 use Rattle.t2_start_parts.proofs.refusal.Statement.{statement}
 use Rattle.t2_start_parts.proofs.refusal.Tie as tie
 
-bad-shape-requires : tie.Need-bad-shape-requires
-bad-shape-requires c κs = search needs
-
 returns : tie.Need-returns
 returns c = let s = c .before .before .before .before .args in sym (gives-1 (s .role) (s .count) (s .bands) (s .style) (s .planes .now) (s .state .now) (sym (c .before .bad-shape .ensures) ∙ c .if1 .taken))
-
-is-refused-requires : tie.Need-is-refused-requires
-is-refused-requires c κs = search needs
 
 returns-2 : tie.Need-returns-2
 returns-2 c =
@@ -50,9 +44,9 @@ pub refusal-spec : {M : Type 1} → statement M
 refusal-spec =
     tie.close
     (tie.spec
-    bad-shape-requires
+    (λ c κs. search needs)
     returns
-    is-refused-requires
+    (λ c κs. search needs)
     returns-2
     wrong-list-requires
     returns-3

@@ -21,12 +21,6 @@ abbrev μ-loop : tie.MeasureT-loop
 loop-holds : tie.Need-loop-holds Inv-loop μ-loop
 loop-holds c = (omega arith, refl, refl)
 
-mul-zero : tie.Need-mul-zero Inv-loop μ-loop
-mul-zero c = omega arith
-
-shared-slice-read-zero : tie.Need-shared-slice-read-zero Inv-loop μ-loop
-shared-slice-read-zero c = omega arith
-
 sub-zero : tie.Need-sub-zero Inv-loop μ-loop
 sub-zero c = let s = c .before .before .before .before .before in let l = c .before .before .loop in ltb-false (s .args .most) _ (none-at (λ p. ltb (s .args .most) p) (s .args .planes .now) (l .x) (omega arith) (s .pre .1))
 
@@ -35,12 +29,6 @@ opj-tgt-setvalue-requires c κs =
     let s = c .before .before .before .before .before .before in
     let l = c .before .before .before .loop in
     subst (λ (k : ℕ). PathIn k (s .args .base) (s .args .row .now) (s .args .depth) (l .x)) (sym (l .inv .1)) (s .pre .0 (l .x) (omega arith))
-
-add-x : tie.Need-add-x Inv-loop μ-loop
-add-x c = omega arith
-
-loop-less : tie.Need-loop-less Inv-loop μ-loop
-loop-less c = omega arith
 
 loop-again : tie.Need-loop-again Inv-loop μ-loop
 loop-again c =
@@ -67,12 +55,12 @@ set-row-spec =
     Inv-loop
     μ-loop
     loop-holds
-    mul-zero
-    shared-slice-read-zero
+    (λ c. omega arith)
+    (λ c. omega arith)
     sub-zero
     opj-tgt-setvalue-requires
-    add-x
-    loop-less
+    (λ c. omega arith)
+    (λ c. omega arith)
     loop-again
     same-length
     returns)

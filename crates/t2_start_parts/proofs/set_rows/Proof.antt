@@ -36,12 +36,6 @@ add-base c =
 mul-base : tie.Need-mul-base Inv-loop μ-loop
 mul-base c = omega (arith, add-base c)
 
-cast-across : tie.Need-cast-across Inv-loop μ-loop
-cast-across c = search needs
-
-cast-down : tie.Need-cast-down Inv-loop μ-loop
-cast-down c = search needs
-
 loop-holds : tie.Need-loop-holds Inv-loop μ-loop
 loop-holds c =
     let s = c .before .before .before .before .args in
@@ -72,9 +66,6 @@ part-set-row-end c =
 
 mul-set-row : tie.Need-mul-set-row Inv-loop μ-loop
 mul-set-row c = omega (arith, part-set-row-end c)
-
-sub-set-row : tie.Need-sub-set-row Inv-loop μ-loop
-sub-set-row c = omega arith
 
 part-set-row-start : tie.Need-part-set-row-start Inv-loop μ-loop
 part-set-row-start c = omega (arith, part-set-row-end c)
@@ -135,13 +126,13 @@ set-rows-spec =
     μ-loop
     mul-base
     add-base
-    cast-across
-    cast-down
+    (λ c. search needs)
+    (λ c. search needs)
     loop-holds
     opj-tgt-row-requires
     add-to
     mul-set-row
-    sub-set-row
+    (λ c. omega arith)
     part-set-row-start
     part-set-row-end
     set-row-requires

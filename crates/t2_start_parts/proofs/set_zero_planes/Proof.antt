@@ -71,9 +71,6 @@ part-set-band-end c =
 mul-set-band : tie.Need-mul-set-band Inv-loop μ-loop
 mul-set-band c = omega (arith, part-set-band-end c)
 
-sub-set-band : tie.Need-sub-set-band Inv-loop μ-loop
-sub-set-band c = omega arith
-
 part-set-band-start : tie.Need-part-set-band-start Inv-loop μ-loop
 part-set-band-start c = omega (arith, part-set-band-end c)
 
@@ -114,9 +111,6 @@ add-at c =
 
 add-i : tie.Need-add-i Inv-loop μ-loop
 add-i c = omega (arith, c .before .before .before .before .before .before .before .before .before .before .before .before .pre .0)
-
-loop-less : tie.Need-loop-less Inv-loop μ-loop
-loop-less c = omega arith
 
 loop-again : tie.Need-loop-again Inv-loop μ-loop
 loop-again c =
@@ -160,14 +154,14 @@ set-zero-planes-spec =
     band-blocks-requires
     add-to
     mul-set-band
-    sub-set-band
+    (λ c. omega arith)
     part-set-band-start
     part-set-band-end
     set-band-requires
     band-length-requires
     add-at
     add-i
-    loop-less
+    (λ c. omega arith)
     loop-again
     same-length
     returns)

@@ -8,12 +8,6 @@ use borrow.Author.Needs.{needs}
 use Rattle.t2_start_parts.proofs.used_band.Statement.{statement}
 use Rattle.t2_start_parts.proofs.used_band.Tie as tie
 
-mul-result : tie.Need-mul-result
-mul-result c = search needs
-
-array-copy-out-result : tie.Need-array-copy-out-result
-array-copy-out-result c = search needs
-
 returns : tie.Need-returns
 returns c = let s = c .before .before .args in sym (getD-take (s .n) (s .t1) (s .i) noBand (c .before .if1 .taken))
 
@@ -21,4 +15,4 @@ returns-2 : tie.Need-returns-2
 returns-2 c = let s = c .before .args in sym (List·getD-eq-default (take (s .n) (s .t1)) noBand (simp length-take (omega arith)))
 
 pub used-band-spec : {M : Type 1} → statement M
-used-band-spec = tie.close (tie.spec mul-result array-copy-out-result returns returns-2)
+used-band-spec = tie.close (tie.spec (λ c. search needs) (λ c. search needs) returns returns-2)

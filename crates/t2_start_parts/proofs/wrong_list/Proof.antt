@@ -9,18 +9,12 @@ use borrow.Author.Needs.{needs}
 use Rattle.t2_start_parts.proofs.wrong_list.Statement.{statement}
 use Rattle.t2_start_parts.proofs.wrong_list.Tie as tie
 
-state-length-requires : tie.Need-state-length-requires
-state-length-requires c κs = search needs
-
 returns : tie.Need-returns
 returns c = simp (ne-eqb _ _ (λ e. c .if1 .taken (e ∙ sym (c .before .state-length .ensures))))
-
-planes-wanted-requires : tie.Need-planes-wanted-requires
-planes-wanted-requires c κs = search needs
 
 returns-2 : tie.Need-returns-2
 returns-2 c = let s = c .before .before .before .before .before .args in ap (λ (k : ℕ). not (eqb (length (s .planes .now)) k)) (c .planes-wanted .ensures) ∙ simp (eq-eqb _ _ (c .before .if1 .left ∙ c .before .before .state-length .ensures))
 
 pub wrong-list-spec : {M : Type 1} → statement M
 wrong-list-spec =
-    tie.close (tie.spec state-length-requires returns planes-wanted-requires returns-2)
+    tie.close (tie.spec (λ c κs. search needs) returns (λ c κs. search needs) returns-2)

@@ -23,12 +23,6 @@ abbrev μ-loop : tie.MeasureT-loop
 loop-holds : tie.Need-loop-holds Inv-loop μ-loop
 loop-holds c = (omega arith, refl)
 
-segment-at-requires : tie.Need-segment-at-requires Inv-loop μ-loop
-segment-at-requires c κs = omega arith
-
-field-width-requires : tie.Need-field-width-requires Inv-loop μ-loop
-field-width-requires c κs = omega arith
-
 returns : tie.Need-returns Inv-loop μ-loop
 returns c =
     let s = c .before .before .before .before .before .before .before in
@@ -80,8 +74,8 @@ any-field-too-wide-spec =
     Inv-loop
     μ-loop
     loop-holds
-    segment-at-requires
-    field-width-requires
+    (λ c κs. omega arith)
+    (λ c κs. omega arith)
     returns
     cast-at
     add-at

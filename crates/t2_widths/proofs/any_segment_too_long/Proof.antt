@@ -23,9 +23,6 @@ abbrev μ-loop : tie.MeasureT-loop
 loop-holds : tie.Need-loop-holds Inv-loop μ-loop
 loop-holds c = (omega arith, refl)
 
-segment-at-requires : tie.Need-segment-at-requires Inv-loop μ-loop
-segment-at-requires c κs = omega arith
-
 returns : tie.Need-returns Inv-loop μ-loop
 returns c =
     let s = c .before .before .before .before .before .before .before in
@@ -75,7 +72,7 @@ any-segment-too-long-spec =
     Inv-loop
     μ-loop
     loop-holds
-    segment-at-requires
+    (λ c κs. omega arith)
     returns
     cast-at
     add-at

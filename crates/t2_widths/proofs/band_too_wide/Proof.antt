@@ -11,9 +11,6 @@ use Rattle.t2_widths.proofs.band_too_wide.Tie as tie
 band-nodes-requires : tie.Need-band-nodes-requires
 band-nodes-requires c κs = c .before .before .before .before .pre .0
 
-band-blocks-requires : tie.Need-band-blocks-requires
-band-blocks-requires c κs = search needs
-
 mul-first : tie.Need-mul-first
 mul-first c =
     let s = c .before .before .before .before .before .before in
@@ -43,7 +40,7 @@ band-too-wide-spec =
     tie.close
     (tie.spec
     band-nodes-requires
-    band-blocks-requires
+    (λ c κs. search needs)
     mul-first
     add-first
     blocks-too-wide-requires

@@ -33,21 +33,12 @@ loop-holds : tie.Need-loop-holds Inv-loop μ-loop
 unfolding stateLength
 loop-holds c = (omega arith, refl, sym (c .before .pre .2))
 
-mul-band : tie.Need-mul-band Inv-loop μ-loop
-mul-band c = omega arith
-
-array-copy-out-band : tie.Need-array-copy-out-band Inv-loop μ-loop
-array-copy-out-band c = omega arith
-
 band-nodes-requires : tie.Need-band-nodes-requires Inv-loop μ-loop
 band-nodes-requires c κs =
     let s = c .before .before .before .before in
     let l = c .before .before .loop in
     let g : length (s .args .t2) ≡ 3 = search needs in
     sides-of-first (s .args .t2) (s .args .n) (l .i) (omega arith) (omega arith) (s .pre .1)
-
-band-blocks-requires : tie.Need-band-blocks-requires Inv-loop μ-loop
-band-blocks-requires c κs = omega arith
 
 mul-first : tie.Need-mul-first Inv-loop μ-loop
 mul-first c =
@@ -91,12 +82,6 @@ add-at c =
     let g : length (s .args .t2) ≡ 3 = search needs in
     omega (arith, c .before .before .before .band-nodes .ensures, c .before .before .band-blocks .ensures, inside (s .args .t2) (s .args .n) (l .i) (l .at) (length (s .args .state .now)) (omega arith) (omega arith) (l .inv .2))
 
-add-i : tie.Need-add-i Inv-loop μ-loop
-add-i c = omega arith
-
-loop-less : tie.Need-loop-less Inv-loop μ-loop
-loop-less c = omega arith
-
 loop-again : tie.Need-loop-again Inv-loop μ-loop
 loop-again c =
     let s = c .before .before .before .before .before .before .before .before in
@@ -122,17 +107,17 @@ bands-up-to-25-bits-spec =
     Inv-loop
     μ-loop
     loop-holds
-    mul-band
-    array-copy-out-band
+    (λ c. omega arith)
+    (λ c. omega arith)
     band-nodes-requires
-    band-blocks-requires
+    (λ c κs. omega arith)
     mul-first
     add-first
     blocks-up-to-25-bits-requires
     returns
     mul-at
     add-at
-    add-i
-    loop-less
+    (λ c. omega arith)
+    (λ c. omega arith)
     loop-again
     returns-2)

@@ -6,20 +6,8 @@ use Rattle.t2_widths.proofs.Laws.BlocksLeft.{block-wide-parts}
 use Rattle.t2_widths.proofs.block_too_wide.Statement.{statement}
 use Rattle.t2_widths.proofs.block_too_wide.Tie as tie
 
-length-bits-before-requires : tie.Need-length-bits-before-requires
-length-bits-before-requires c κs = search needs
-
 segment-increment-requires : tie.Need-segment-increment-requires
 segment-increment-requires c κs = c .before .before .before .pre
-
-cast-any-field-too-wide : tie.Need-cast-any-field-too-wide
-cast-any-field-too-wide c = search needs
-
-cast-any-field-too-wide-2 : tie.Need-cast-any-field-too-wide-2
-cast-any-field-too-wide-2 c = search needs
-
-add-any-field-too-wide : tie.Need-add-any-field-too-wide
-add-any-field-too-wide c = search needs
 
 any-field-too-wide-requires : tie.Need-any-field-too-wide-requires
 any-field-too-wide-requires c κs = (c .before .before .before .before .pre .0, omega arith)
@@ -33,10 +21,10 @@ pub block-too-wide-spec : {M : Type 1} → statement M
 block-too-wide-spec =
     tie.close
     (tie.spec
-    length-bits-before-requires
+    (λ c κs. search needs)
     segment-increment-requires
-    cast-any-field-too-wide
-    cast-any-field-too-wide-2
-    add-any-field-too-wide
+    (λ c. search needs)
+    (λ c. search needs)
+    (λ c. search needs)
     any-field-too-wide-requires
     returns)

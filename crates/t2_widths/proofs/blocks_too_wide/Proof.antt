@@ -145,12 +145,6 @@ add-block c =
     let l = c .before .before .before .before .before .before .before .before .loop in
     omega (arith, l .inv .1, s .pre .0)
 
-add-i : tie.Need-add-i Inv-loop μ-loop
-add-i c = omega arith
-
-loop-less : tie.Need-loop-less Inv-loop μ-loop
-loop-less c = omega arith
-
 loop-again : tie.Need-loop-again Inv-loop μ-loop
 loop-again c =
     let s = c .before .before .before .before .before .before .before .before .before .before .before .before .before in
@@ -195,7 +189,7 @@ blocks-too-wide-spec =
     block-too-wide-requires
     returns
     add-block
-    add-i
-    loop-less
+    (λ c. omega arith)
+    (λ c. omega arith)
     loop-again
     returns-2)

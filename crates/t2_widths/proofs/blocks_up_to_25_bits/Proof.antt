@@ -20,30 +20,6 @@ loop-holds : tie.Need-loop-holds Inv-loop μ-loop
 unfolding every
 loop-holds c = (omega arith, refl)
 
-mul-block : tie.Need-mul-block Inv-loop μ-loop
-mul-block c = omega arith
-
-add-block : tie.Need-add-block Inv-loop μ-loop
-add-block c = omega arith
-
-add-over : tie.Need-add-over Inv-loop μ-loop
-add-over c = omega arith
-
-mul-over : tie.Need-mul-over Inv-loop μ-loop
-mul-over c = omega arith
-
-shared-slice-read-over : tie.Need-shared-slice-read-over Inv-loop μ-loop
-shared-slice-read-over c = omega arith
-
-over-requires : tie.Need-over-requires Inv-loop μ-loop
-over-requires c κs = omega arith
-
-add-i : tie.Need-add-i Inv-loop μ-loop
-add-i c = omega arith
-
-loop-less : tie.Need-loop-less Inv-loop μ-loop
-loop-less c = omega arith
-
 loop-again : tie.Need-loop-again Inv-loop μ-loop
 loop-again c =
     let l = c .before .before .before .loop in
@@ -60,13 +36,13 @@ blocks-up-to-25-bits-spec =
     Inv-loop
     μ-loop
     loop-holds
-    mul-block
-    add-block
-    add-over
-    mul-over
-    shared-slice-read-over
-    over-requires
-    add-i
-    loop-less
+    (λ c. omega arith)
+    (λ c. omega arith)
+    (λ c. omega arith)
+    (λ c. omega arith)
+    (λ c. omega arith)
+    (λ c κs. omega arith)
+    (λ c. omega arith)
+    (λ c. omega arith)
     loop-again
     returns)

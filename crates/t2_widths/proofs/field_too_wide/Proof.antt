@@ -36,12 +36,6 @@ loop-holds c =
     let s = c .before .before .before .before in
     (omega arith, sym (s .pre .2), omega (arith, length-blocks (take (s .args .n) (s .args .t2)), s .pre .3), omega arith, s .pre .5, refl)
 
-mul-band : tie.Need-mul-band Inv-loop μ-loop
-mul-band c = omega arith
-
-array-copy-out-band : tie.Need-array-copy-out-band Inv-loop μ-loop
-array-copy-out-band c = omega arith
-
 mul-band-too-wide : tie.Need-mul-band-too-wide Inv-loop μ-loop
 mul-band-too-wide c = let s = c .before .before .before .before .before .before .before in let l = c .before .before .loop in omega (arith, l .inv .2)
 
@@ -117,9 +111,6 @@ returns c =
     let b : Band = getD (s .args .t2) (l .i) noBand in
     sym (band-wide-turn (s .args .counts .now) (s .args .lengths .now) (s .args .marks .now) b (l .first) _ (l .from) _ refl refl (s .args .state .now) (l .at) _ _ true (next-band (s .args .t2) (s .args .n) (l .i) (all-three s) (c .before .before .before .before .before .before .loop-test .taken)) (sym (c .if1 .taken) ∙ c .before .band-too-wide .ensures ∙ on-rests (λ (x y z : List ℕ). fieldTooWide (s .args .state .now) (blocksFrom (l .at) b (blocksIn b) 0) x y z) (s .args .counts .now) (s .args .lengths .now) (s .args .marks .now) (l .first) (l .from))) ∙ l .inv .5
 
-band-blocks-requires : tie.Need-band-blocks-requires Inv-loop μ-loop
-band-blocks-requires c κs = omega arith
-
 add-next : tie.Need-add-next Inv-loop μ-loop
 add-next c =
     let s = c .before .before .before .before .before .before .before .before .before .before .before .before .before in
@@ -187,12 +178,6 @@ add-at c =
     let b : Band = getD (s .args .t2) (l .i) noBand in
     omega (arith, c .band-length .ensures, end-turn (s .args .t2) (s .args .n) (l .i) (l .at) (all-three s) (c .before .before .before .before .before .before .before .before .before .before .loop-test .taken), l .inv .1, end-after (l .at + bandLength b) (drop (l .i + 1) (take (s .args .n) (s .args .t2))))
 
-add-i : tie.Need-add-i Inv-loop μ-loop
-add-i c = omega arith
-
-loop-less : tie.Need-loop-less Inv-loop μ-loop
-loop-less c = omega arith
-
 loop-again : tie.Need-loop-again Inv-loop μ-loop
 loop-again c =
     let s = c .before .before .before .before .before .before .before .before .before .before .before .before .before .before .before .before in
@@ -226,8 +211,8 @@ field-too-wide-spec =
     Inv-loop
     μ-loop
     loop-holds
-    mul-band
-    array-copy-out-band
+    (λ c. omega arith)
+    (λ c. omega arith)
     mul-band-too-wide
     sub-band-too-wide
     part-band-too-wide-start
@@ -241,7 +226,7 @@ field-too-wide-spec =
     part-band-too-wide-end-3
     band-too-wide-requires
     returns
-    band-blocks-requires
+    (λ c κs. omega arith)
     add-next
     mul-total
     sub-total
@@ -251,7 +236,7 @@ field-too-wide-spec =
     add-from
     band-length-requires
     add-at
-    add-i
-    loop-less
+    (λ c. omega arith)
+    (λ c. omega arith)
     loop-again
     returns-2)

@@ -20,12 +20,6 @@ abbrev μ-loop : tie.MeasureT-loop
 loop-holds : tie.Need-loop-holds Inv-loop μ-loop
 loop-holds c = (omega arith, omega arith, refl)
 
-mul-count : tie.Need-mul-count Inv-loop μ-loop
-mul-count c = omega arith
-
-shared-slice-read-count : tie.Need-shared-slice-read-count Inv-loop μ-loop
-shared-slice-read-count c = omega arith
-
 cast-count : tie.Need-cast-count Inv-loop μ-loop
 cast-count c = omega (arith, c .shared-slice-known4 .given (c .before .before .loop .i))
 
@@ -98,12 +92,6 @@ returns c =
     let l = c .before .before .before .before .before .before .loop in
     sym (long-turn (s .args .counts .now) (s .args .lengths .now) (s .args .marks .now) (l .i) (l .from) (l .from + getD (s .args .counts .now) (l .i) 0) true (omega arith) refl (sym (c .if1 .taken) ∙ c .before .any-segment-too-long .ensures)) ∙ l .inv .2
 
-add-i : tie.Need-add-i Inv-loop μ-loop
-add-i c = omega arith
-
-loop-less : tie.Need-loop-less Inv-loop μ-loop
-loop-less c = omega arith
-
 loop-again : tie.Need-loop-again Inv-loop μ-loop
 loop-again c =
     let s = c .before .before .before .before .before .before .before .before .before .before in
@@ -127,8 +115,8 @@ segment-too-long-spec =
     Inv-loop
     μ-loop
     loop-holds
-    mul-count
-    shared-slice-read-count
+    (λ c. omega arith)
+    (λ c. omega arith)
     cast-count
     add-to
     mul-any-segment-too-long
@@ -140,7 +128,7 @@ segment-too-long-spec =
     part-any-segment-too-long-end-2
     any-segment-too-long-requires
     returns
-    add-i
-    loop-less
+    (λ c. omega arith)
+    (λ c. omega arith)
     loop-again
     returns-2)

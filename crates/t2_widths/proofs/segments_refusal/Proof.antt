@@ -8,16 +8,10 @@ use Rattle.t2_widths.proofs.Laws.FewBytes.{few-not-refused, refusal-par
 use Rattle.t2_widths.proofs.segments_refusal.Statement.{statement}
 use Rattle.t2_widths.proofs.segments_refusal.Tie as tie
 
-surely-narrow-requires : tie.Need-surely-narrow-requires
-surely-narrow-requires c κs = search needs
-
 returns : tie.Need-returns
 returns c =
     let s = c .before .before .before .before .before .before in
     few-not-refused (s .args .state .now) (take (s .args .n) (s .args .bands)) (s .args .counts .now) (s .args .lengths .now) (s .args .marks .now) (sym (c .before .surely-narrow .ensures) ∙ c .if1 .taken) (s .pre .6)
-
-segment-too-long-requires : tie.Need-segment-too-long-requires
-segment-too-long-requires c κs = search needs
 
 returns-2 : tie.Need-returns-2
 returns-2 c =
@@ -43,9 +37,9 @@ pub segments-refusal-spec : {M : Type 1} → statement M
 segments-refusal-spec =
     tie.close
     (tie.spec
-    surely-narrow-requires
+    (λ c κs. search needs)
     returns
-    segment-too-long-requires
+    (λ c κs. search needs)
     returns-2
     field-too-wide-requires
     returns-3

@@ -8,16 +8,10 @@ use Rattle.t800.specs.Base.{sum}
 use Rattle.t2_widths.proofs.surely_narrow.Statement.{statement}
 use Rattle.t2_widths.proofs.surely_narrow.Tie as tie
 
-total-requires : tie.Need-total-requires
-total-requires c κs = search needs
-
 returns : tie.Need-returns
 returns c =
     let s = c .before .before .before .before .args in
     simp (le-ltb (sum (s .lengths .now)) (2 ^ 24) (omega (arith, c .if1 .taken, c .before .total .ensures)))
-
-bands-up-to-25-bits-requires : tie.Need-bands-up-to-25-bits-requires
-bands-up-to-25-bits-requires c κs = search needs
 
 returns-2 : tie.Need-returns-2
 returns-2 c =
@@ -25,4 +19,4 @@ returns-2 c =
     c .bands-up-to-25-bits .ensures ∙ simp (lt-ltb (sum (s .lengths .now)) (2 ^ 24) (omega (arith, c .before .if1 .left, c .before .before .total .ensures)))
 
 pub surely-narrow-spec : {M : Type 1} → statement M
-surely-narrow-spec = tie.close (tie.spec total-requires returns bands-up-to-25-bits-requires returns-2)
+surely-narrow-spec = tie.close (tie.spec (λ c κs. search needs) returns (λ c κs. search needs) returns-2)

@@ -14,26 +14,11 @@ Inv-loop list all₀ i₀ all i = (i ≤ length list) × (all ≤ 4294967295 * i
 abbrev μ-loop : tie.MeasureT-loop
 μ-loop list all₀ i₀ all i = length list - i
 
-loop-holds : tie.Need-loop-holds Inv-loop μ-loop
-loop-holds c = omega arith
-
-mul-one : tie.Need-mul-one Inv-loop μ-loop
-mul-one c = omega arith
-
-shared-slice-read-one : tie.Need-shared-slice-read-one Inv-loop μ-loop
-shared-slice-read-one c = omega arith
-
 cast-one : tie.Need-cast-one Inv-loop μ-loop
 cast-one c = omega (arith, c .shared-slice-known .given (c .before .before .loop .i))
 
 add-all : tie.Need-add-all Inv-loop μ-loop
 add-all c = omega (arith, c .shared-slice-known .given (c .before .before .loop .i))
-
-add-i : tie.Need-add-i Inv-loop μ-loop
-add-i c = omega arith
-
-loop-less : tie.Need-loop-less Inv-loop μ-loop
-loop-less c = omega arith
 
 loop-again : tie.Need-loop-again Inv-loop μ-loop
 loop-again c =
@@ -53,12 +38,12 @@ total-spec =
     (tie.spec
     Inv-loop
     μ-loop
-    loop-holds
-    mul-one
-    shared-slice-read-one
+    (λ c. omega arith)
+    (λ c. omega arith)
+    (λ c. omega arith)
     cast-one
     add-all
-    add-i
-    loop-less
+    (λ c. omega arith)
+    (λ c. omega arith)
     loop-again
     returns)

@@ -10,9 +10,6 @@ use Rattle.t2_write_bands.proofs.Laws.AllBands.{band-fits}
 use Rattle.t2_write_bands.proofs.code_band.Statement.{statement}
 use Rattle.t2_write_bands.proofs.code_band.Tie as tie
 
-set-new-blocks-requires : tie.Need-set-new-blocks-requires
-set-new-blocks-requires c κs = search needs
-
 code-blocks-requires : tie.Need-code-blocks-requires
 code-blocks-requires c κs =
     let s = c .before .before .before .before .before .before .before .before .before .before .before in
@@ -28,12 +25,6 @@ code-blocks-requires c κs =
       subst (λ (ws : List ℕ). AllFit (a .counts .now) (a .lengths .now) (a .marks .now) ws (bandBlocks (a .g .start) (a .band)) (a .r .block) (a .r .pass)) (sym (g .ensures)) f,
     )
 
-same-length : tie.Need-same-length
-same-length c = search needs
-
-same-length-2 : tie.Need-same-length-2
-same-length-2 c = search needs
-
 returns : tie.Need-returns
 unfolding codeBand
 returns c =
@@ -45,4 +36,4 @@ returns c =
 pub code-band-spec : {M : Type 1} → statement M
 code-band-spec =
     tie.close
-    (tie.spec set-new-blocks-requires code-blocks-requires same-length same-length-2 returns)
+    (tie.spec (λ c κs. search needs) code-blocks-requires (λ c. search needs) (λ c. search needs) returns)

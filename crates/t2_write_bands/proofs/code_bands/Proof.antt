@@ -35,20 +35,11 @@ Inv-loop codes words₀ out₀ n layer counts lengths marks bands trees run₀ s
 abbrev μ-loop : tie.MeasureT-loop
 μ-loop codes words₀ out₀ n layer counts lengths marks bands trees run₀ start₀ i₀ words out run start i = n - i
 
-band-levels-requires : tie.Need-band-levels-requires Inv-loop μ-loop
-band-levels-requires c κs = search needs
-
 loop-holds : tie.Need-loop-holds Inv-loop μ-loop
 unfolding blocks stateLength
 loop-holds c =
     let s = c .before .before .before .before .before .before in
     (omega arith, s .pre .1, refl, refl, sym (s .pre .4), omega (arith, s .pre .6), s .pre .7, refl, search needs)
-
-mul-band : tie.Need-mul-band Inv-loop μ-loop
-mul-band c = omega arith
-
-array-copy-out-band : tie.Need-array-copy-out-band Inv-loop μ-loop
-array-copy-out-band c = omega arith
 
 grid-of-requires : tie.Need-grid-of-requires Inv-loop μ-loop
 grid-of-requires c κs =
@@ -56,12 +47,6 @@ grid-of-requires c κs =
     let l = c .before .before .loop in
     let g : length (s .args .t5) ≡ 3 = search needs in
     sides-of-first (s .args .t5) (s .args .n) (l .i) (omega arith) (omega arith) (s .pre .3)
-
-mul-code-band : tie.Need-mul-code-band Inv-loop μ-loop
-mul-code-band c = omega arith
-
-array-copy-out-code-band : tie.Need-array-copy-out-code-band Inv-loop μ-loop
-array-copy-out-code-band c = omega arith
 
 code-band-requires : tie.Need-code-band-requires Inv-loop μ-loop
 code-band-requires c κs =
@@ -101,12 +86,6 @@ grid-end-requires c κs =
     let band : Band = getD (a .t5) (l .i) noBand in
     subst (λ (k : Grid). SidesUpTo64 band × (k ≡ gridOf (k .start) band) × (k .start < 2 ^ 63)) (sym ge)
     (sides-of-first (a .t5) (a .n) (l .i) (omega arith) (omega arith) (s .pre .3), refl, omega (arith, l .inv .4, end-after (l .start) (drop (l .i) (take (a .n) (a .t5)))))
-
-add-i : tie.Need-add-i Inv-loop μ-loop
-add-i c = omega arith
-
-loop-less : tie.Need-loop-less Inv-loop μ-loop
-loop-less c = omega arith
 
 loop-again : tie.Need-loop-again Inv-loop μ-loop
 loop-again c =
@@ -160,17 +139,17 @@ code-bands-spec =
     (tie.spec
     Inv-loop
     μ-loop
-    band-levels-requires
+    (λ c κs. search needs)
     loop-holds
-    mul-band
-    array-copy-out-band
+    (λ c. omega arith)
+    (λ c. omega arith)
     grid-of-requires
-    mul-code-band
-    array-copy-out-code-band
+    (λ c. omega arith)
+    (λ c. omega arith)
     code-band-requires
     grid-end-requires
-    add-i
-    loop-less
+    (λ c. omega arith)
+    (λ c. omega arith)
     loop-again
     same-length
     same-length-2

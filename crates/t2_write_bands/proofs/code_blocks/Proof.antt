@@ -44,9 +44,6 @@ loop-holds c =
       ap (λ (ks : List Block). codeAll (a .layer) (a .counts .now) (a .lengths .now) (a .marks .now) ks (running (a .words .now) (a .out .now) (a .r))) e,
     )
 
-rows-requires : tie.Need-rows-requires Inv-loop μ-loop
-rows-requires c κs = search needs
-
 opj-tgt-row-requires : tie.Need-opj-tgt-row-requires Inv-loop μ-loop
 opj-tgt-row-requires c κs =
     let s = c .before .before .before .before .before .before .before .before .before in
@@ -138,7 +135,7 @@ code-blocks-spec =
     Inv-loop
     μ-loop
     loop-holds
-    rows-requires
+    (λ c κs. search needs)
     opj-tgt-row-requires
     row-place-requires
     code-row-requires

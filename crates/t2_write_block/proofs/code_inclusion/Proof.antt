@@ -15,14 +15,8 @@ use Rattle.t2_write_block.proofs.Laws.OneBlock.{incl-new, incl-old}
 use Rattle.t2_write_block.proofs.code_inclusion.Statement.{statement}
 use Rattle.t2_write_block.proofs.code_inclusion.Tie as tie
 
-mul-if1 : tie.Need-mul-if1
-mul-if1 c = search needs
-
 slice-read-if1 : tie.Need-slice-read-if1
 slice-read-if1 c = omega (arith, c .before .before .before .pre .1 .inside)
-
-add-opj-tgt-encode : tie.Need-add-opj-tgt-encode
-add-opj-tgt-encode c = search needs
 
 opj-tgt-encode-requires : tie.Need-opj-tgt-encode-requires
 opj-tgt-encode-requires c κs = let s = c .before .before .before .before .before .before in (s .pre .0, path-wider (s .args .p .at) (length (s .args .words .now)) _ _ _ _ (omega (arith, s .pre .1 .inside)) (s .pre .1 .incl))
@@ -38,16 +32,10 @@ returns c =
     let s = c .before .before .before .before .before .before .before .before .before .before .before in
     c .before .before .before .before .opj-tgt-encode .ensures ∙ ap (putCoded (output (s .args .out .now) (s .args .b))) (incl-new (s .args .words .now) (blockIn (s .args .p) (s .args .row .now) 0) (s .args .layer) (s .args .count) (c .before .before .before .before .before .before .before .if1 .taken))
 
-included-requires : tie.Need-included-requires
-included-requires c κs = search needs
-
 bit-out-requires : tie.Need-bit-out-requires
 bit-out-requires c κs =
     let s = c .before .before .before .before .before .before in
     (s .pre .0, subst (λ (k : ℕ). k ≤ 1) (sym (c .before .included .ensures)) (either (λ (k : ℕ). k ≤ 1) (ltb 0 (s .args .count)) 1 0 (omega arith) (omega arith)))
-
-same-length-3 : tie.Need-same-length-3
-same-length-3 c = search needs
 
 returns-2 : tie.Need-returns-2
 unfolding putBits
@@ -61,14 +49,14 @@ pub code-inclusion-spec : {M : Type 1} → statement M
 code-inclusion-spec =
     tie.close
     (tie.spec
-    mul-if1
+    (λ c. search needs)
     slice-read-if1
-    add-opj-tgt-encode
+    (λ c. search needs)
     opj-tgt-encode-requires
     same-length
     same-length-2
     returns
-    included-requires
+    (λ c κs. search needs)
     bit-out-requires
-    same-length-3
+    (λ c. search needs)
     returns-2)

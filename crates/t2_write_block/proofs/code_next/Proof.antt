@@ -14,9 +14,6 @@ use Rattle.t2_write_block.proofs.code_next.Tie as tie
 add-next : tie.Need-add-next
 add-next c = omega (arith, c .before .before .before .before .before .pre .4 .counted)
 
-mul-count : tie.Need-mul-count
-mul-count c = search needs
-
 shared-slice-read-count : tie.Need-shared-slice-read-count
 shared-slice-read-count c = c .before .before .before .before .before .before .pre .4 .counted
 
@@ -29,20 +26,8 @@ add-to c = omega (arith, c .before .before .before .before .before .before .pre 
 mul-code-block : tie.Need-mul-code-block
 mul-code-block c = omega (arith, c .before .before .before .before .before .before .before .before .pre .4 .many)
 
-sub-code-block : tie.Need-sub-code-block
-sub-code-block c = omega arith
-
-part-code-block-start : tie.Need-part-code-block-start
-part-code-block-start c = omega arith
-
 part-code-block-end : tie.Need-part-code-block-end
 part-code-block-end c = omega (arith, c .before .before .before .before .before .before .before .before .pre .4 .many)
-
-sub-code-block-2 : tie.Need-sub-code-block-2
-sub-code-block-2 c = omega arith
-
-part-code-block-start-2 : tie.Need-part-code-block-start-2
-part-code-block-start-2 c = omega arith
 
 part-code-block-end-2 : tie.Need-part-code-block-end-2
 part-code-block-end-2 c = omega (arith, c .before .before .before .before .before .before .before .before .before .pre .4 .many, c .before .before .before .before .before .before .before .before .before .pre .4 .marked)
@@ -73,16 +58,16 @@ code-next-spec =
     tie.close
     (tie.spec
     add-next
-    mul-count
+    (λ c. search needs)
     shared-slice-read-count
     cast-to
     add-to
     mul-code-block
-    sub-code-block
-    part-code-block-start
+    (λ c. omega arith)
+    (λ c. omega arith)
     part-code-block-end
-    sub-code-block-2
-    part-code-block-start-2
+    (λ c. omega arith)
+    (λ c. omega arith)
     part-code-block-end-2
     code-block-requires
     same-length

@@ -13,24 +13,6 @@ use Rattle.t2_write_lengths.proofs.Laws.Passes.{passes-are}
 use Rattle.t2_write_block.proofs.code_passes.Statement.{statement}
 use Rattle.t2_write_block.proofs.code_passes.Tie as tie
 
-mul-length-bits-before : tie.Need-mul-length-bits-before
-mul-length-bits-before c = search needs
-
-slice-read-length-bits-before : tie.Need-slice-read-length-bits-before
-slice-read-length-bits-before c = search needs
-
-add-length-bits-before : tie.Need-add-length-bits-before
-add-length-bits-before c = search needs
-
-mul-length-bits-before-2 : tie.Need-mul-length-bits-before-2
-mul-length-bits-before-2 c = search needs
-
-slice-read-length-bits-before-2 : tie.Need-slice-read-length-bits-before-2
-slice-read-length-bits-before-2 c = search needs
-
-length-bits-before-requires : tie.Need-length-bits-before-requires
-length-bits-before-requires c κs = search needs
-
 put-lengths-requires : tie.Need-put-lengths-requires
 put-lengths-requires c κs =
     let s = c .before .before .before .before .before .before .before .before in
@@ -40,26 +22,14 @@ put-lengths-requires c κs =
     let ss = segmentsOf (s .args .lengths .now) (s .args .marks .now) in
     (p .0, p .1, p .3, f .many, f .block, subst (λ (k : ℕ). k ≤ 32) b (f .before), subst (λ (k : ℕ). blockTooWide k ss ≡ false) b (f .narrow))
 
-mul-passes : tie.Need-mul-passes
-mul-passes c = search needs
-
 slice-read-passes : tie.Need-slice-read-passes
 slice-read-passes c = omega (arith, c .before .before .before .before .before .before .before .before .before .before .before .before .pre .2)
 
 add-passes : tie.Need-add-passes
 add-passes c = omega (arith, c .before .before .before .before .before .before .before .before .before .before .before .before .pre .4 .sum)
 
-mul-words : tie.Need-mul-words
-mul-words c = search needs
-
 slice-write-words : tie.Need-slice-write-words
 slice-write-words c = omega (arith, c .before .before .before .before .before .before .before .before .before .before .before .before .pre .2)
-
-add-words : tie.Need-add-words
-add-words c = search needs
-
-mul-words-2 : tie.Need-mul-words-2
-mul-words-2 c = search needs
 
 slice-write-words-2 : tie.Need-slice-write-words-2
 slice-write-words-2 c = simp length-set (omega (arith, c .before .before .before .before .before .before .before .before .before .before .before .before .pre .2))
@@ -80,20 +50,20 @@ pub code-passes-spec : {M : Type 1} → statement M
 code-passes-spec =
     tie.close
     (tie.spec
-    mul-length-bits-before
-    slice-read-length-bits-before
-    add-length-bits-before
-    mul-length-bits-before-2
-    slice-read-length-bits-before-2
-    length-bits-before-requires
+    (λ c. search needs)
+    (λ c. search needs)
+    (λ c. search needs)
+    (λ c. search needs)
+    (λ c. search needs)
+    (λ c κs. search needs)
     put-lengths-requires
-    mul-passes
+    (λ c. search needs)
     slice-read-passes
     add-passes
-    mul-words
+    (λ c. search needs)
     slice-write-words
-    add-words
-    mul-words-2
+    (λ c. search needs)
+    (λ c. search needs)
     slice-write-words-2
     same-length
     same-length-2

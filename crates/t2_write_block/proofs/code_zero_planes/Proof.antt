@@ -11,9 +11,6 @@ use Rattle.t2_write_block.proofs.Laws.OneBlock.{planes-new, planes-old}
 use Rattle.t2_write_block.proofs.code_zero_planes.Statement.{statement}
 use Rattle.t2_write_block.proofs.code_zero_planes.Tie as tie
 
-mul-if1 : tie.Need-mul-if1
-mul-if1 c = search needs
-
 slice-read-if1 : tie.Need-slice-read-if1
 slice-read-if1 c = omega (arith, c .before .before .before .pre .1 .inside)
 
@@ -39,7 +36,7 @@ pub code-zero-planes-spec : {M : Type 1} → statement M
 code-zero-planes-spec =
     tie.close
     (tie.spec
-    mul-if1
+    (λ c. search needs)
     slice-read-if1
     opj-tgt-encode-requires
     same-length

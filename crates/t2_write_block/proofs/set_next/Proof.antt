@@ -10,9 +10,6 @@ use Rattle.t2_write_block.specs.Runs.{setNext}
 use Rattle.t2_write_block.proofs.set_next.Statement.{statement}
 use Rattle.t2_write_block.proofs.set_next.Tie as tie
 
-mul-if1 : tie.Need-mul-if1
-mul-if1 c = search needs
-
 slice-read-if1 : tie.Need-slice-read-if1
 slice-read-if1 c = omega (arith, c .before .before .pre .inside)
 
@@ -38,7 +35,7 @@ pub set-next-spec : {M : Type 1} → statement M
 set-next-spec =
     tie.close
     (tie.spec
-    mul-if1
+    (λ c. search needs)
     slice-read-if1
     returns
     returns-2

@@ -54,9 +54,6 @@ slice-read-layer c =
     let r = not-refused-for ws (length ws) (contribution (a .counts .now) (a .lengths .now) (a .marks .now)) (s .pre .0) in
     omega (arith, first-words ws (length ws) (r .valid))
 
-opj-bio-init-enc-requires : tie.Need-opj-bio-init-enc-requires
-opj-bio-init-enc-requires c κs = search needs
-
 bit-out-requires : tie.Need-bit-out-requires
 bit-out-requires c κs =
     let a = c .before .before .before .before .before .before .before .before .before .before .before .args in
@@ -86,9 +83,6 @@ code-bands-requires c κs =
       subst (λ (l : List Band). AllFit (a .counts .now) (a .lengths .now) (a .marks .now) ws (blocks l) 0 0) (sym e) (all-fit ws (length ws) _ r),
     )
 
-opj-bio-flush-requires : tie.Need-opj-bio-flush-requires
-opj-bio-flush-requires c κs = search needs
-
 add-words : tie.Need-add-words
 add-words c =
     let s = c .before .before .before .before .before .before .before .before .before .before .before .before .before .before .before .before .before .before .before .before .before .before .before .before .before .before in
@@ -104,12 +98,6 @@ slice-write-words c =
     let ws = a .words .now in
     let r = not-refused-for ws (length ws) (contribution (a .counts .now) (a .lengths .now) (a .marks .now)) (s .pre .0) in
     omega (arith, first-words ws (length ws) (r .valid), c .before .before .before .before .before .before .before .before .code-bands .kept .1 .0)
-
-same-length : tie.Need-same-length
-same-length c = search needs
-
-same-length-2 : tie.Need-same-length-2
-same-length-2 c = search needs
 
 returns : tie.Need-returns
 returns c =
@@ -137,12 +125,12 @@ encode-header-spec =
     slice-read-n
     cast-n
     slice-read-layer
-    opj-bio-init-enc-requires
+    (λ c κs. search needs)
     bit-out-requires
     code-bands-requires
-    opj-bio-flush-requires
+    (λ c κs. search needs)
     add-words
     slice-write-words
-    same-length
-    same-length-2
+    (λ c. search needs)
+    (λ c. search needs)
     returns)

@@ -61,9 +61,6 @@ opj-bio-write-requires c κs =
     let n = next-segment (s .args .lengths .now) (s .args .marks .now) (l .i) _ _ (sym (s .pre .1 .marked)) (omega arith) (c .before .before .before .segment-at .ensures) in
     (l .inv .0, omega (arith, c .before .field-width .ensures, first-not-wide (s .args .lenbits) _ _ _ (n .is) (l .inv .4) .0))
 
-cast-i : tie.Need-cast-i Inv-loop μ-loop
-cast-i c = search needs
-
 add-i : tie.Need-add-i Inv-loop μ-loop
 add-i c =
     let l = c .before .before .before .before .before .before .before .before .before .loop in
@@ -117,7 +114,7 @@ code-lengths-spec =
     field-width-requires
     cast-opj-bio-write
     opj-bio-write-requires
-    cast-i
+    (λ c. search needs)
     add-i
     loop-less
     loop-again

@@ -13,9 +13,6 @@ use Rattle.t2_write_lengths.proofs.Laws.OneSegment.{one-segment}
 use Rattle.t2_write_lengths.proofs.put_lengths.Statement.{statement}
 use Rattle.t2_write_lengths.proofs.put_lengths.Tie as tie
 
-segment-at-requires : tie.Need-segment-at-requires
-segment-at-requires c κs = search needs
-
 put-one-length-requires : tie.Need-put-one-length-requires
 put-one-length-requires c κs =
     let s = c .before .before .before .before .before .before .before in
@@ -29,31 +26,19 @@ put-one-length-requires c κs =
       subst (λ (ss : List Segment). blockTooWide (s .args .before) ss ≡ false) e (s .pre .6),
     )
 
-same-length : tie.Need-same-length
-same-length c = search needs
-
 returns : tie.Need-returns
 returns c =
     let s = c .before .before .before .before .before .before .before .before .before .before in
     c .before .before .put-one-length .ensures ∙ ap (putLengths (output (s .args .out .now) (s .args .b)) (s .args .before) (s .args .count)) (sym (one-segment (s .args .lengths .now) (s .args .marks .now) _ _ (sym (s .pre .4 .marked)) (omega (arith, s .pre .2, s .pre .3)) (c .before .before .before .before .before .before .segment-at .ensures) (c .before .before .before .before .if1 .taken ∙ s .pre .3)))
 
-put-all-lengths-requires : tie.Need-put-all-lengths-requires
-put-all-lengths-requires c κs = search needs
-
-same-length-2 : tie.Need-same-length-2
-same-length-2 c = search needs
-
-returns-2 : tie.Need-returns-2
-returns-2 c = search needs
-
 pub put-lengths-spec : {M : Type 1} → statement M
 put-lengths-spec =
     tie.close
     (tie.spec
-    segment-at-requires
+    (λ c κs. search needs)
     put-one-length-requires
-    same-length
+    (λ c. search needs)
     returns
-    put-all-lengths-requires
-    same-length-2
-    returns-2)
+    (λ c κs. search needs)
+    (λ c. search needs)
+    (λ c. search needs))

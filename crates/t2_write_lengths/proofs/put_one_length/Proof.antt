@@ -14,23 +14,8 @@ use Rattle.t2_write_lengths.proofs.Laws.Passes.{lengths-are}
 use Rattle.t2_write_lengths.proofs.put_one_length.Statement.{statement}
 use Rattle.t2_write_lengths.proofs.put_one_length.Tie as tie
 
-cast-bytes : tie.Need-cast-bytes
-cast-bytes c = search needs
-
-bits-missing-requires : tie.Need-bits-missing-requires
-bits-missing-requires c κs = search needs
-
 add-lenbits : tie.Need-add-lenbits
 add-lenbits c = let s = c .before .before .before in omega (arith, c .bits-missing .ensures, length-up-to-31-bits (s .args .s .bytes) (s .pre .5), s .pre .4)
-
-cast-field-width : tie.Need-cast-field-width
-cast-field-width c = search needs
-
-field-width-requires : tie.Need-field-width-requires
-field-width-requires c κs = search needs
-
-put-pass-codeword-requires : tie.Need-put-pass-codeword-requires
-put-pass-codeword-requires c κs = search needs
 
 opj-t2-putcommacode-requires : tie.Need-opj-t2-putcommacode-requires
 opj-t2-putcommacode-requires c κs = subst FreeBitsClear (sym (ap (λ (x : Output). x .bio) (c .before .before .before .put-pass-codeword .ensures))) (putBits-clear _ _ (c .before .before .before .before .before .before .before .before .before .pre .1))
@@ -46,9 +31,6 @@ opj-bio-write-requires c κs =
     let f = subst FreeBitsClear (sym (ap (λ (x : Output). x .bio) (c .before .before .before .before .before .before .before .put-pass-codeword .ensures))) (putBits-clear _ _ (s .pre .1)) in
     (subst FreeBitsClear (sym (ap (λ (x : Output). x .bio) (c .before .before .before .opj-t2-putcommacode .ensures))) (putBits-clear _ _ f), omega (arith, c .before .before .before .before .before .before .before .before .before .field-width .ensures, one-narrow (s .args .before) _ (segment (s .args .s .passes) (s .args .s .bytes)) (c .before .before .before .before .before .before .before .before .before .before .bits-missing .ensures ∙ one-increment (s .args .before) (segment (s .args .s .passes) (s .args .s .bytes))) (s .pre .6)))
 
-same-length : tie.Need-same-length
-same-length c = search needs
-
 returns : tie.Need-returns
 returns c =
     let s = c .before .before .before .before .before .before .before .before .before .before .before .before .before .before .before .before in
@@ -62,14 +44,14 @@ pub put-one-length-spec : {M : Type 1} → statement M
 put-one-length-spec =
     tie.close
     (tie.spec
-    cast-bytes
-    bits-missing-requires
+    (λ c. search needs)
+    (λ c κs. search needs)
     add-lenbits
-    cast-field-width
-    field-width-requires
-    put-pass-codeword-requires
+    (λ c. search needs)
+    (λ c κs. search needs)
+    (λ c κs. search needs)
     opj-t2-putcommacode-requires
     cast-opj-bio-write
     opj-bio-write-requires
-    same-length
+    (λ c. search needs)
     returns)

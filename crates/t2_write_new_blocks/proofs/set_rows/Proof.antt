@@ -35,9 +35,6 @@ loop-holds c =
     let f : a .block + 0 * a .band .across ≡ a .block = omega arith in
     (refl, omega arith, λ i. setAll (a .layer) (a .counts .now) (e i) (f i) (a .words .now))
 
-rows-requires : tie.Need-rows-requires Inv-loop μ-loop
-rows-requires c κs = search needs
-
 opj-tgt-row-requires : tie.Need-opj-tgt-row-requires Inv-loop μ-loop
 opj-tgt-row-requires c κs =
     let s = c .before .before .before .before .before .before in
@@ -133,7 +130,7 @@ set-rows-spec =
     Inv-loop
     μ-loop
     loop-holds
-    rows-requires
+    (λ c κs. search needs)
     opj-tgt-row-requires
     row-place-requires
     mul-first

@@ -11,21 +11,6 @@ use Rattle.t2_write_packet.proofs.put_eph.Tie as tie
 returns : tie.Need-returns
 returns c = let a = c .before .before .args in not-used (a .used) (a .out .now) (a .at) ephBytes (c .if1 .taken)
 
-store-requires : tie.Need-store-requires
-store-requires c κs = search needs
-
-add-store : tie.Need-add-store
-add-store c = search needs
-
-store-requires-2 : tie.Need-store-requires-2
-store-requires-2 c κs = search needs
-
-add-result : tie.Need-add-result
-add-result c = search needs
-
-same-length : tie.Need-same-length
-same-length c = search needs
-
 returns-2 : tie.Need-returns-2
 unfolding ephBytes
 returns-2 c =
@@ -37,4 +22,4 @@ returns-2 c =
 pub put-eph-spec : {M : Type 1} → statement M
 put-eph-spec =
     tie.close
-    (tie.spec returns store-requires add-store store-requires-2 add-result same-length returns-2)
+    (tie.spec returns (λ c κs. search needs) (λ c. search needs) (λ c κs. search needs) (λ c. search needs) (λ c. search needs) returns-2)

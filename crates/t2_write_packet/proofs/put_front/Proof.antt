@@ -11,9 +11,6 @@ use Rattle.t2_write_packet.proofs.Laws.Front.{sop-up-to, front-put, hea
 use Rattle.t2_write_packet.proofs.put_front.Statement.{statement}
 use Rattle.t2_write_packet.proofs.put_front.Tie as tie
 
-put-sop-requires : tie.Need-put-sop-requires
-put-sop-requires c κs = search needs
-
 encode-header-requires : tie.Need-encode-header-requires
 encode-header-requires c κs =
     let s = c .before .before .before .before .before .before .before .before .before .before .before in
@@ -28,12 +25,6 @@ put-eph-requires c κs =
     let start : c .before .before .before .before .before .before .before .before .before .before .put-sop .result ≤ 6 = omega (arith, ap (λ (o : BytesPut). o .end) (c .before .before .before .before .before .before .before .before .before .before .put-sop .ensures), sop-up-to (a .markers .sop) (a .number)) in
     omega (arith, header-ends ws (length ws) p (not-refused-for ws (length ws) p (s .pre)) _ _ _ start (c .before .before .before .before .before .encode-header .ensures))
 
-same-length : tie.Need-same-length
-same-length c = search needs
-
-same-length-2 : tie.Need-same-length-2
-same-length-2 c = search needs
-
 returns : tie.Need-returns
 returns c =
     let a = c .before .before .before .before .before .before .before .before .before .before .before .before .before .before .before .before .before .before .before .before .args in
@@ -43,4 +34,4 @@ returns c =
 pub put-front-spec : {M : Type 1} → statement M
 put-front-spec =
     tie.close
-    (tie.spec put-sop-requires encode-header-requires put-eph-requires same-length same-length-2 returns)
+    (tie.spec (λ c κs. search needs) encode-header-requires put-eph-requires (λ c. search needs) (λ c. search needs) returns)

@@ -14,32 +14,11 @@ use Rattle.t2_write_packet.proofs.put_sop.Tie as tie
 returns : tie.Need-returns
 returns c = let a = c .before .before .args in not-used (a .used) (a .out .now) 0 (sopBytes (a .number)) (c .if1 .taken)
 
-store-requires : tie.Need-store-requires
-store-requires c κs = search needs
-
-store-requires-2 : tie.Need-store-requires-2
-store-requires-2 c κs = search needs
-
-store-requires-3 : tie.Need-store-requires-3
-store-requires-3 c κs = search needs
-
-store-requires-4 : tie.Need-store-requires-4
-store-requires-4 c κs = search needs
-
 cast-store : tie.Need-cast-store
 cast-store c = let n = c .before .before .before .before .before .before .before .before .before .before .before .before .before .before .before .before .before .before .before .args .number in omega (arith, and-mask (n / 256) 8)
 
-store-requires-5 : tie.Need-store-requires-5
-store-requires-5 c κs = search needs
-
 cast-store-2 : tie.Need-cast-store-2
 cast-store-2 c = let n = c .before .before .before .before .before .before .before .before .before .before .before .before .before .before .before .before .before .before .before .before .before .before .before .args .number in omega (arith, and-mask n 8)
-
-store-requires-6 : tie.Need-store-requires-6
-store-requires-6 c κs = search needs
-
-same-length : tie.Need-same-length
-same-length c = search needs
 
 returns-2 : tie.Need-returns-2
 unfolding sopBytes
@@ -59,13 +38,13 @@ put-sop-spec =
     tie.close
     (tie.spec
     returns
-    store-requires
-    store-requires-2
-    store-requires-3
-    store-requires-4
+    (λ c κs. search needs)
+    (λ c κs. search needs)
+    (λ c κs. search needs)
+    (λ c κs. search needs)
     cast-store
-    store-requires-5
+    (λ c κs. search needs)
     cast-store-2
-    store-requires-6
-    same-length
+    (λ c κs. search needs)
+    (λ c. search needs)
     returns-2)

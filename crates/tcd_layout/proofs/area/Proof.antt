@@ -9,8 +9,5 @@ use Rattle.tcd_layout.proofs.area.Tie as tie
 mul-result : tie.Need-mul-result
 mul-result c = let b : c .args .w * c .args .h ≤ 4294967295 * 4294967295 = mul-le-mul {n₂ = 4294967295} {m₂ = 4294967295} (omega arith) (omega arith) in omega arith
 
-returns : tie.Need-returns
-returns c = search needs
-
 pub area-spec : {M : Type 1} → statement M
-area-spec = tie.close (tie.spec mul-result returns)
+area-spec = tie.close (tie.spec mul-result (λ c. search needs))

@@ -6,12 +6,6 @@ use Rattle.tcd_layout.proofs.Laws.Bands.{blocks-up-to-4096, nodes-of-ba
 use Rattle.tcd_layout.proofs.band_length.Statement.{statement}
 use Rattle.tcd_layout.proofs.band_length.Tie as tie
 
-band-nodes-requires : tie.Need-band-nodes-requires
-band-nodes-requires c κs = search needs
-
-band-blocks-requires : tie.Need-band-blocks-requires
-band-blocks-requires c κs = search needs
-
 mul-result : tie.Need-mul-result
 mul-result c = let s = c .before .before in omega (arith, c .before .band-nodes .ensures, nodes-of-band-up-to (s .args .band) (s .pre))
 
@@ -30,4 +24,4 @@ returns c = omega (arith, c .before .band-nodes .ensures, c .band-blocks .ensure
 pub band-length-spec : {M : Type 1} → statement M
 band-length-spec =
     tie.close
-    (tie.spec band-nodes-requires band-blocks-requires mul-result mul-result-2 add-result returns)
+    (tie.spec (λ c κs. search needs) (λ c κs. search needs) mul-result mul-result-2 add-result returns)

@@ -4,12 +4,9 @@ use Rattle.t800.specs.State.{bandNodes}
 use Rattle.tcd_layout.proofs.band_nodes.Statement.{statement}
 use Rattle.tcd_layout.proofs.band_nodes.Tie as tie
 
-num-nodes-requires : tie.Need-num-nodes-requires
-num-nodes-requires c κs = search needs
-
 returns : tie.Need-returns
 unfolding bandNodes
 returns c = c .num-nodes .ensures
 
 pub band-nodes-spec : {M : Type 1} → statement M
-band-nodes-spec = tie.close (tie.spec num-nodes-requires returns)
+band-nodes-spec = tie.close (tie.spec (λ c κs. search needs) returns)

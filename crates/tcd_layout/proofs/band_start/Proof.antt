@@ -20,12 +20,6 @@ abbrev μ-loop : tie.MeasureT-loop
 loop-holds : tie.Need-loop-holds Inv-loop μ-loop
 loop-holds c = (omega arith, omega arith, refl)
 
-mul-band : tie.Need-mul-band Inv-loop μ-loop
-mul-band c = omega arith
-
-array-copy-out-band : tie.Need-array-copy-out-band Inv-loop μ-loop
-array-copy-out-band c = omega arith
-
 band-length-requires : tie.Need-band-length-requires Inv-loop μ-loop
 band-length-requires c κs =
     let s = c .before .before .before in
@@ -39,12 +33,6 @@ add-at c =
     let l = c .before .before .before .loop in
     let g : length (s .args .t1) ≡ 3 = search needs in
     omega (arith, c .band-length .ensures, band-length-up-to (getD (s .args .t1) (l .i) noBand) (sides-of-first (s .args .t1) (s .args .n) (l .i) (omega arith) (omega arith) (s .pre .1)))
-
-add-i : tie.Need-add-i Inv-loop μ-loop
-add-i c = omega arith
-
-loop-less : tie.Need-loop-less Inv-loop μ-loop
-loop-less c = omega arith
 
 loop-again : tie.Need-loop-again Inv-loop μ-loop
 loop-again c =
@@ -71,11 +59,11 @@ band-start-spec =
     Inv-loop
     μ-loop
     loop-holds
-    mul-band
-    array-copy-out-band
+    (λ c. omega arith)
+    (λ c. omega arith)
     band-length-requires
     add-at
-    add-i
-    loop-less
+    (λ c. omega arith)
+    (λ c. omega arith)
     loop-again
     returns)

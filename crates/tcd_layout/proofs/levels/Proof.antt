@@ -22,32 +22,11 @@ loop-holds : tie.Need-loop-holds Inv-loop μ-loop
 unfolding levels
 loop-holds c = (refl, omega arith, levels-over-none (c .args .w) (c .args .h))
 
-mul-tree : tie.Need-mul-tree Inv-loop μ-loop
-mul-tree c = omega arith
-
-array-set-from-tree : tie.Need-array-set-from-tree Inv-loop μ-loop
-array-set-from-tree c = omega arith
-
-area-requires : tie.Need-area-requires Inv-loop μ-loop
-area-requires c κs = omega arith
-
 returns : tie.Need-returns Inv-loop μ-loop
 returns c =
     let l = c .before .before .before .loop in
     let e = levels-stop (l .x) (l .y) (7 - l .i) (6 - l .i) (omega arith) (omega (arith, c .before .area .ensures)) in
     sym (ap (λ (ls : List Level). sets (l .tree) (l .i) ls) e) ∙ l .inv .2
-
-half-up-requires : tie.Need-half-up-requires Inv-loop μ-loop
-half-up-requires c κs = omega arith
-
-half-up-requires-2 : tie.Need-half-up-requires-2 Inv-loop μ-loop
-half-up-requires-2 c κs = omega arith
-
-add-i : tie.Need-add-i Inv-loop μ-loop
-add-i c = omega arith
-
-loop-less : tie.Need-loop-less Inv-loop μ-loop
-loop-less c = omega arith
 
 loop-again : tie.Need-loop-again Inv-loop μ-loop
 loop-again c =
@@ -66,13 +45,13 @@ levels-spec =
     Inv-loop
     μ-loop
     loop-holds
-    mul-tree
-    array-set-from-tree
-    area-requires
+    (λ c. omega arith)
+    (λ c. omega arith)
+    (λ c κs. omega arith)
     returns
-    half-up-requires
-    half-up-requires-2
-    add-i
-    loop-less
+    (λ c κs. omega arith)
+    (λ c κs. omega arith)
+    (λ c. omega arith)
+    (λ c. omega arith)
     loop-again
     returns-2)

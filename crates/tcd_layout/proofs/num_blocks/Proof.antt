@@ -21,15 +21,6 @@ abbrev μ-loop : tie.MeasureT-loop
 loop-holds : tie.Need-loop-holds Inv-loop μ-loop
 loop-holds c = (omega arith, omega arith, omega (arith, length-blocks (take (c .args .n) (c .args .t1))))
 
-mul-band : tie.Need-mul-band Inv-loop μ-loop
-mul-band c = omega arith
-
-array-copy-out-band : tie.Need-array-copy-out-band Inv-loop μ-loop
-array-copy-out-band c = omega arith
-
-band-blocks-requires : tie.Need-band-blocks-requires Inv-loop μ-loop
-band-blocks-requires c κs = omega arith
-
 add-total : tie.Need-add-total Inv-loop μ-loop
 add-total c =
     let s = c .before .before .before .before in
@@ -37,12 +28,6 @@ add-total c =
     let g : length (s .args .t1) ≡ 3 = search needs in
     let k = sides-of-first (s .args .t1) (s .args .n) (l .i) (omega arith) (omega arith) (s .pre .1) in
     omega (arith, c .band-blocks .ensures, blocks-up-to-4096 (getD (s .args .t1) (l .i) noBand) k)
-
-add-i : tie.Need-add-i Inv-loop μ-loop
-add-i c = omega arith
-
-loop-less : tie.Need-loop-less Inv-loop μ-loop
-loop-less c = omega arith
 
 loop-again : tie.Need-loop-again Inv-loop μ-loop
 loop-again c =
@@ -69,11 +54,11 @@ num-blocks-spec =
     Inv-loop
     μ-loop
     loop-holds
-    mul-band
-    array-copy-out-band
-    band-blocks-requires
+    (λ c. omega arith)
+    (λ c. omega arith)
+    (λ c κs. omega arith)
     add-total
-    add-i
-    loop-less
+    (λ c. omega arith)
+    (λ c. omega arith)
     loop-again
     returns)

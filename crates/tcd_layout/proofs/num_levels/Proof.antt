@@ -18,26 +18,11 @@ loop-holds : tie.Need-loop-holds Inv-loop μ-loop
 unfolding levels
 loop-holds c = (omega arith, omega arith)
 
-add-i : tie.Need-add-i Inv-loop μ-loop
-add-i c = omega arith
-
-area-requires : tie.Need-area-requires Inv-loop μ-loop
-area-requires c κs = omega arith
-
 returns : tie.Need-returns Inv-loop μ-loop
 returns c =
     let l = c .before .before .before .loop in
     let e = ap length (levels-stop (l .x) (l .y) (7 - l .i) (6 - l .i) (omega arith) (omega (arith, c .before .area .ensures))) in
     omega (arith, l .inv .1)
-
-half-up-requires : tie.Need-half-up-requires Inv-loop μ-loop
-half-up-requires c κs = omega arith
-
-half-up-requires-2 : tie.Need-half-up-requires-2 Inv-loop μ-loop
-half-up-requires-2 c κs = omega arith
-
-loop-less : tie.Need-loop-less Inv-loop μ-loop
-loop-less c = omega arith
 
 loop-again : tie.Need-loop-again Inv-loop μ-loop
 loop-again c =
@@ -59,11 +44,11 @@ num-levels-spec =
     Inv-loop
     μ-loop
     loop-holds
-    add-i
-    area-requires
+    (λ c. omega arith)
+    (λ c κs. omega arith)
     returns
-    half-up-requires
-    half-up-requires-2
-    loop-less
+    (λ c κs. omega arith)
+    (λ c κs. omega arith)
+    (λ c. omega arith)
     loop-again
     returns-2)

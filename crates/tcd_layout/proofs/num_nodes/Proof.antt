@@ -17,9 +17,6 @@ loop-holds : tie.Need-loop-holds Inv-loop μ-loop
 unfolding nodes levels
 loop-holds c = (c .pre .0, c .pre .1, omega arith, omega arith, omega arith)
 
-area-requires : tie.Need-area-requires Inv-loop μ-loop
-area-requires c κs = omega arith
-
 add-sum : tie.Need-add-sum Inv-loop μ-loop
 add-sum c = let l = c .before .before .loop in omega (arith, c .area .ensures, area-up-to-4096 (l .x) (l .y) (l .inv .0) (l .inv .1))
 
@@ -29,18 +26,6 @@ returns c =
     let a = c .before .area .ensures in
     let e = summed-stop (l .x) (l .y) (l .left) (l .sum) (omega arith) (omega arith) in
     omega (arith, l .inv .4)
-
-half-up-requires : tie.Need-half-up-requires Inv-loop μ-loop
-half-up-requires c κs = omega arith
-
-half-up-requires-2 : tie.Need-half-up-requires-2 Inv-loop μ-loop
-half-up-requires-2 c κs = omega arith
-
-sub-left : tie.Need-sub-left Inv-loop μ-loop
-sub-left c = omega arith
-
-loop-less : tie.Need-loop-less Inv-loop μ-loop
-loop-less c = omega arith
 
 loop-again : tie.Need-loop-again Inv-loop μ-loop
 loop-again c =
@@ -64,12 +49,12 @@ num-nodes-spec =
     Inv-loop
     μ-loop
     loop-holds
-    area-requires
+    (λ c κs. omega arith)
     add-sum
     returns
-    half-up-requires
-    half-up-requires-2
-    sub-left
-    loop-less
+    (λ c κs. omega arith)
+    (λ c κs. omega arith)
+    (λ c. omega arith)
+    (λ c. omega arith)
     loop-again
     returns-2)

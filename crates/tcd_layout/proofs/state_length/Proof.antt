@@ -4,12 +4,9 @@ use Rattle.t800.specs.State.{stateLength}
 use Rattle.tcd_layout.proofs.state_length.Statement.{statement}
 use Rattle.tcd_layout.proofs.state_length.Tie as tie
 
-band-start-requires : tie.Need-band-start-requires
-band-start-requires c κs = search needs
-
 returns : tie.Need-returns
 unfolding stateLength
 returns c = c .band-start .ensures
 
 pub state-length-spec : {M : Type 1} → statement M
-state-length-spec = tie.close (tie.spec band-start-requires returns)
+state-length-spec = tie.close (tie.spec (λ c κs. search needs) returns)

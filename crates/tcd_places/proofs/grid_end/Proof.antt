@@ -8,9 +8,6 @@ use Rattle.tcd_places.specs.declared.Grid.{Grid}
 use Rattle.tcd_places.proofs.grid_end.Statement.{statement}
 use Rattle.tcd_places.proofs.grid_end.Tie as tie
 
-band-blocks-requires : tie.Need-band-blocks-requires
-band-blocks-requires c κs = search needs
-
 mul-result : tie.Need-mul-result
 mul-result c =
     let s = c .before .before in
@@ -42,4 +39,4 @@ returns c =
     omega (arith, n, c .before .before .band-blocks .ensures, band-length (s .args .band))
 
 pub grid-end-spec : {M : Type 1} → statement M
-grid-end-spec = tie.close (tie.spec band-blocks-requires mul-result add-result mul-result-2 add-result-2 returns)
+grid-end-spec = tie.close (tie.spec (λ c κs. search needs) mul-result add-result mul-result-2 add-result-2 returns)

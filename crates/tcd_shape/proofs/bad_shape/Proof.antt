@@ -17,9 +17,6 @@ returns-2 : tie.Need-returns-2
 unfolding badShape
 returns-2 c = simp (ne-eqb _ _ (c .before .if1 .left), lt-ltb _ _ (c .if2 .taken))
 
-any-side-over-64-requires : tie.Need-any-side-over-64-requires
-any-side-over-64-requires c κs = search needs
-
 returns-3 : tie.Need-returns-3
 unfolding badShape
 returns-3 c =
@@ -28,4 +25,4 @@ returns-3 c =
     c .any-side-over-64 .ensures ∙ simp (ne-eqb _ _ (c .before .before .if1 .left), le-ltb _ _ (c .before .if2 .left), t)
 
 pub bad-shape-spec : {M : Type 1} → statement M
-bad-shape-spec = tie.close (tie.spec returns returns-2 any-side-over-64-requires returns-3)
+bad-shape-spec = tie.close (tie.spec returns returns-2 (λ c κs. search needs) returns-3)

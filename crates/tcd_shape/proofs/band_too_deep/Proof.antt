@@ -23,12 +23,6 @@ abbrev μ-loop : tie.MeasureT-loop
 loop-holds : tie.Need-loop-holds Inv-loop μ-loop
 loop-holds c = (omega arith, refl)
 
-mul-band : tie.Need-mul-band Inv-loop μ-loop
-mul-band c = omega arith
-
-array-copy-out-band : tie.Need-array-copy-out-band Inv-loop μ-loop
-array-copy-out-band c = omega arith
-
 returns : tie.Need-returns Inv-loop μ-loop
 unfolding bandTooDeep
 returns c =
@@ -36,12 +30,6 @@ returns c =
     let l = c .before .before .before .before .loop in
     let g : length (s .args .t1) ≡ 3 = search needs in
     sym (any-here (λ (b : Band). ltb 998 (b .planes)) _ _ _ (next-band (s .args .t1) (s .args .n) (l .i) (omega arith) (omega arith)) (lt-ltb _ _ (c .if1 .taken))) ∙ l .inv .1
-
-add-i : tie.Need-add-i Inv-loop μ-loop
-add-i c = omega arith
-
-loop-less : tie.Need-loop-less Inv-loop μ-loop
-loop-less c = omega arith
 
 loop-again : tie.Need-loop-again Inv-loop μ-loop
 unfolding bandTooDeep
@@ -66,10 +54,10 @@ band-too-deep-spec =
     Inv-loop
     μ-loop
     loop-holds
-    mul-band
-    array-copy-out-band
+    (λ c. omega arith)
+    (λ c. omega arith)
     returns
-    add-i
-    loop-less
+    (λ c. omega arith)
+    (λ c. omega arith)
     loop-again
     returns-2)

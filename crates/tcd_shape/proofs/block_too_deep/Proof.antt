@@ -21,21 +21,6 @@ abbrev μ-loop : tie.MeasureT-loop
 loop-holds : tie.Need-loop-holds Inv-loop μ-loop
 loop-holds c = let s = c .before .args in (omega arith, omega arith, deep-is (take (s .n) (s .t1)) (s .planes .now))
 
-mul-band : tie.Need-mul-band Inv-loop μ-loop
-mul-band c = omega arith
-
-array-copy-out-band : tie.Need-array-copy-out-band Inv-loop μ-loop
-array-copy-out-band c = omega arith
-
-band-blocks-requires : tie.Need-band-blocks-requires Inv-loop μ-loop
-band-blocks-requires c κs = omega arith
-
-sub-left : tie.Need-sub-left Inv-loop μ-loop
-sub-left c = omega arith
-
-smaller-requires : tie.Need-smaller-requires Inv-loop μ-loop
-smaller-requires c κs = omega arith
-
 add-to : tie.Need-add-to Inv-loop μ-loop
 add-to c = omega (arith, c .smaller .ensures)
 
@@ -51,9 +36,6 @@ part-any-over-start c = omega (arith, c .smaller .ensures)
 part-any-over-end : tie.Need-part-any-over-end Inv-loop μ-loop
 part-any-over-end c = omega (arith, c .smaller .ensures)
 
-any-over-requires : tie.Need-any-over-requires Inv-loop μ-loop
-any-over-requires c κs = omega arith
-
 returns : tie.Need-returns Inv-loop μ-loop
 returns c =
     let s = c .before .before .before .before .before .before .before .before .before in
@@ -63,12 +45,6 @@ returns c =
     let n = c .before .before .before .smaller .ensures ∙ ap (λ (k : ℕ). min k (length (s .args .planes .now) - l .from)) (c .before .before .before .before .band-blocks .ensures) in
     let w = ap (λ (k : ℕ). l .from + k) n in
     sym (deep-turn _ _ _ (s .args .planes .now) (l .from) _ true e w (sym (c .if1 .taken) ∙ c .before .any-over .ensures)) ∙ l .inv .2
-
-add-i : tie.Need-add-i Inv-loop μ-loop
-add-i c = omega arith
-
-loop-less : tie.Need-loop-less Inv-loop μ-loop
-loop-less c = omega arith
 
 loop-again : tie.Need-loop-again Inv-loop μ-loop
 loop-again c =
@@ -95,19 +71,19 @@ block-too-deep-spec =
     Inv-loop
     μ-loop
     loop-holds
-    mul-band
-    array-copy-out-band
-    band-blocks-requires
-    sub-left
-    smaller-requires
+    (λ c. omega arith)
+    (λ c. omega arith)
+    (λ c κs. omega arith)
+    (λ c. omega arith)
+    (λ c κs. omega arith)
     add-to
     mul-any-over
     sub-any-over
     part-any-over-start
     part-any-over-end
-    any-over-requires
+    (λ c κs. omega arith)
     returns
-    add-i
-    loop-less
+    (λ c. omega arith)
+    (λ c. omega arith)
     loop-again
     returns-2)

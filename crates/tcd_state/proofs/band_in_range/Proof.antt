@@ -40,9 +40,6 @@ returns-2 c =
     let u = sym (not-true _ (c .if2 .taken)) ∙ c .before .nodes-in-range2 .ensures in
     band-parts (s .state .now) (s .at) (s .band) _ _ _ _ true false _ (incl .before .before .pre .0) refl refl refl t u refl
 
-band-blocks-requires : tie.Need-band-blocks-requires
-band-blocks-requires c κs = search needs
-
 blocks-in-range-requires : tie.Need-blocks-in-range-requires
 blocks-in-range-requires c κs = let s = c .before .before .before .before .before .before in omega (arith, s .pre .0, c .band-blocks .ensures, band-length (s .args .band), s .pre .1)
 
@@ -66,6 +63,6 @@ band-in-range-spec =
     returns
     nodes-in-range-requires-2
     returns-2
-    band-blocks-requires
+    (λ c κs. search needs)
     blocks-in-range-requires
     returns-3)

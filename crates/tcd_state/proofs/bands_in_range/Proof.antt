@@ -28,21 +28,12 @@ loop-holds : tie.Need-loop-holds Inv-loop μ-loop
 unfolding stateLength
 loop-holds c = (omega arith, omega arith, refl, refl)
 
-mul-band : tie.Need-mul-band Inv-loop μ-loop
-mul-band c = omega arith
-
-array-copy-out-band : tie.Need-array-copy-out-band Inv-loop μ-loop
-array-copy-out-band c = omega arith
-
 band-nodes-requires : tie.Need-band-nodes-requires Inv-loop μ-loop
 band-nodes-requires c κs =
     let s = c .before .before .before .before in
     let l = c .before .before .loop in
     let g : length (s .args .t2) ≡ 3 = search needs in
     sides-of-first (s .args .t2) (s .args .n) (l .i) (omega arith) (omega arith) (s .pre .1)
-
-band-blocks-requires : tie.Need-band-blocks-requires Inv-loop μ-loop
-band-blocks-requires c κs = omega arith
 
 mul-end : tie.Need-mul-end Inv-loop μ-loop
 mul-end c =
@@ -106,12 +97,6 @@ returns-2 c =
     let whole : Bool = eqb (length (s .args .state .now)) (stateLength (take (s .args .n) (s .args .t2))) in
     sym (and-false whole) ∙ ap (λ (t : Bool). whole && t) (bands-turn (s .args .state .now) (l .at) _ _ _ false (next-band (s .args .t2) (s .args .n) (l .i) (omega arith) (omega arith)) (sym (not-true _ (c .if2 .taken)) ∙ c .before .band-in-range .ensures) ∙ l .inv .2)
 
-add-i : tie.Need-add-i Inv-loop μ-loop
-add-i c = omega arith
-
-loop-less : tie.Need-loop-less Inv-loop μ-loop
-loop-less c = omega arith
-
 loop-again : tie.Need-loop-again Inv-loop μ-loop
 loop-again c =
     let s = c .before .before .before .before .before .before .before .before .before in
@@ -144,10 +129,10 @@ bands-in-range-spec =
     Inv-loop
     μ-loop
     loop-holds
-    mul-band
-    array-copy-out-band
+    (λ c. omega arith)
+    (λ c. omega arith)
     band-nodes-requires
-    band-blocks-requires
+    (λ c κs. omega arith)
     mul-end
     add-end
     mul-end-2
@@ -155,7 +140,7 @@ bands-in-range-spec =
     returns
     band-in-range-requires
     returns-2
-    add-i
-    loop-less
+    (λ c. omega arith)
+    (λ c. omega arith)
     loop-again
     returns-3)

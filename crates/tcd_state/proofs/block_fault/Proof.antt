@@ -7,15 +7,6 @@ use Rattle.tcd_shape.specs.Parts.{blockWordsInRange, lengthBitsInRange, segment
 use Rattle.tcd_state.proofs.block_fault.Statement.{statement}
 use Rattle.tcd_state.proofs.block_fault.Tie as tie
 
-passes-fault-requires : tie.Need-passes-fault-requires
-passes-fault-requires c κs = search needs
-
-length-bits-fault-requires : tie.Need-length-bits-fault-requires
-length-bits-fault-requires c κs = search needs
-
-segment-fault-requires : tie.Need-segment-fault-requires
-segment-fault-requires c κs = search needs
-
 returns : tie.Need-returns
 unfolding blockWordsInRange
 returns c =
@@ -26,4 +17,4 @@ returns c =
 pub block-fault-spec : {M : Type 1} → statement M
 block-fault-spec =
     tie.close
-    (tie.spec passes-fault-requires length-bits-fault-requires segment-fault-requires returns)
+    (tie.spec (λ c κs. search needs) (λ c κs. search needs) (λ c κs. search needs) returns)

@@ -17,69 +17,9 @@ Inv-loop state at n role bits layer limits faults₀ i₀ faults i = (i ≤ n) �
 abbrev μ-loop : tie.MeasureT-loop
 μ-loop state at n role bits layer limits faults₀ i₀ faults i = n - i
 
-word-requires : tie.Need-word-requires Inv-loop μ-loop
-word-requires c κs = omega arith
-
-word-requires-2 : tie.Need-word-requires-2 Inv-loop μ-loop
-word-requires-2 c κs = omega arith
-
-word-requires-3 : tie.Need-word-requires-3 Inv-loop μ-loop
-word-requires-3 c κs = omega arith
-
-limits-of-requires : tie.Need-limits-of-requires Inv-loop μ-loop
-limits-of-requires c κs = omega arith
-
 loop-holds : tie.Need-loop-holds Inv-loop μ-loop
 unfolding every
 loop-holds c = (omega arith, refl)
-
-mul-block : tie.Need-mul-block Inv-loop μ-loop
-mul-block c = omega arith
-
-add-block : tie.Need-add-block Inv-loop μ-loop
-add-block c = omega arith
-
-mul-block-fault : tie.Need-mul-block-fault Inv-loop μ-loop
-mul-block-fault c = omega arith
-
-shared-slice-read-block-fault : tie.Need-shared-slice-read-block-fault Inv-loop μ-loop
-shared-slice-read-block-fault c = omega arith
-
-add-block-fault : tie.Need-add-block-fault Inv-loop μ-loop
-add-block-fault c = omega arith
-
-mul-block-fault-2 : tie.Need-mul-block-fault-2 Inv-loop μ-loop
-mul-block-fault-2 c = omega arith
-
-shared-slice-read-block-fault-2 : tie.Need-shared-slice-read-block-fault-2 Inv-loop μ-loop
-shared-slice-read-block-fault-2 c = omega arith
-
-add-block-fault-2 : tie.Need-add-block-fault-2 Inv-loop μ-loop
-add-block-fault-2 c = omega arith
-
-mul-block-fault-3 : tie.Need-mul-block-fault-3 Inv-loop μ-loop
-mul-block-fault-3 c = omega arith
-
-shared-slice-read-block-fault-3 : tie.Need-shared-slice-read-block-fault-3 Inv-loop μ-loop
-shared-slice-read-block-fault-3 c = omega arith
-
-add-block-fault-3 : tie.Need-add-block-fault-3 Inv-loop μ-loop
-add-block-fault-3 c = omega arith
-
-mul-block-fault-4 : tie.Need-mul-block-fault-4 Inv-loop μ-loop
-mul-block-fault-4 c = omega arith
-
-shared-slice-read-block-fault-4 : tie.Need-shared-slice-read-block-fault-4 Inv-loop μ-loop
-shared-slice-read-block-fault-4 c = omega arith
-
-block-fault-requires : tie.Need-block-fault-requires Inv-loop μ-loop
-block-fault-requires c κs = omega arith
-
-add-i : tie.Need-add-i Inv-loop μ-loop
-add-i c = omega arith
-
-loop-less : tie.Need-loop-less Inv-loop μ-loop
-loop-less c = omega arith
 
 loop-again : tie.Need-loop-again Inv-loop μ-loop
 loop-again c =
@@ -102,26 +42,26 @@ blocks-in-range-spec =
     (tie.spec
     Inv-loop
     μ-loop
-    word-requires
-    word-requires-2
-    word-requires-3
-    limits-of-requires
+    (λ c κs. omega arith)
+    (λ c κs. omega arith)
+    (λ c κs. omega arith)
+    (λ c κs. omega arith)
     loop-holds
-    mul-block
-    add-block
-    mul-block-fault
-    shared-slice-read-block-fault
-    add-block-fault
-    mul-block-fault-2
-    shared-slice-read-block-fault-2
-    add-block-fault-2
-    mul-block-fault-3
-    shared-slice-read-block-fault-3
-    add-block-fault-3
-    mul-block-fault-4
-    shared-slice-read-block-fault-4
-    block-fault-requires
-    add-i
-    loop-less
+    (λ c. omega arith)
+    (λ c. omega arith)
+    (λ c. omega arith)
+    (λ c. omega arith)
+    (λ c. omega arith)
+    (λ c. omega arith)
+    (λ c. omega arith)
+    (λ c. omega arith)
+    (λ c. omega arith)
+    (λ c. omega arith)
+    (λ c. omega arith)
+    (λ c. omega arith)
+    (λ c. omega arith)
+    (λ c κs. omega arith)
+    (λ c. omega arith)
+    (λ c. omega arith)
     loop-again
     returns)

@@ -10,17 +10,8 @@ use Rattle.tcd_state.proofs.Laws.RangeParts.{first-bands, first-words-p
 use Rattle.tcd_state.proofs.first_words_in_range.Statement.{statement}
 use Rattle.tcd_state.proofs.first_words_in_range.Tie as tie
 
-shape-in-range-requires : tie.Need-shape-in-range-requires
-shape-in-range-requires c κs = search needs
-
 returns : tie.Need-returns
 returns c = let s = c .before .before .before .args in first-words-parts (s .role) (s .state .now) false _ _ _ _ (sym (not-true _ (c .if1 .taken)) ∙ c .before .shape-in-range .ensures) refl refl refl refl
-
-word-requires : tie.Need-word-requires
-word-requires c κs = search needs
-
-is-refused-requires : tie.Need-is-refused-requires
-is-refused-requires c κs = search needs
 
 returns-2 : tie.Need-returns-2
 returns-2 c =
@@ -30,9 +21,6 @@ returns-2 c =
     let shape = sym (not-false _ (styled .before .before .if1 .left)) ∙ shaped .shape-in-range .ensures in
     let style′ = sym (c .if2 .taken) ∙ styled .is-refused .ensures ∙ ap badStyle (styled .before .word .ensures) in
     first-words-parts (s .role) (s .state .now) true true _ _ _ shape style′ refl refl refl
-
-word-requires-2 : tie.Need-word-requires-2
-word-requires-2 c κs = search needs
 
 returns-3 : tie.Need-returns-3
 returns-3 c =
@@ -44,12 +32,6 @@ returns-3 c =
     let style′ = sym (layered .before .if2 .left) ∙ styled .is-refused .ensures ∙ ap badStyle (styled .before .word .ensures) in
     let layer′ = sym (lt-leb (layer (s .state .now)) 999 (omega (arith, layered .word2 .ensures))) in
     first-words-parts (s .role) (s .state .now) true false false _ _ shape style′ layer′ refl refl
-
-word-requires-3 : tie.Need-word-requires-3
-word-requires-3 c κs = search needs
-
-cast-band-too-deep : tie.Need-cast-band-too-deep
-cast-band-too-deep c = search needs
 
 band-too-deep-requires : tie.Need-band-too-deep-requires
 band-too-deep-requires c κs =
@@ -71,9 +53,6 @@ returns-4 c =
     let depth = sym (c .if4 .taken) ∙ deep .band-too-deep .ensures ∙ ap bandTooDeep (first-bands ws _ _ (deep .before .word3 .ensures) (s .pre)) in
     first-words-parts (s .args .role) ws true false true true _ shape style′ layer′ depth refl
 
-unused-bands-zero-requires : tie.Need-unused-bands-zero-requires
-unused-bands-zero-requires c κs = search needs
-
 returns-5 : tie.Need-returns-5
 returns-5 c =
     let deep = c .before .before in
@@ -92,16 +71,16 @@ pub first-words-in-range-spec : {M : Type 1} → statement M
 first-words-in-range-spec =
     tie.close
     (tie.spec
-    shape-in-range-requires
+    (λ c κs. search needs)
     returns
-    word-requires
-    is-refused-requires
+    (λ c κs. search needs)
+    (λ c κs. search needs)
     returns-2
-    word-requires-2
+    (λ c κs. search needs)
     returns-3
-    word-requires-3
-    cast-band-too-deep
+    (λ c κs. search needs)
+    (λ c. search needs)
     band-too-deep-requires
     returns-4
-    unused-bands-zero-requires
+    (λ c κs. search needs)
     returns-5)

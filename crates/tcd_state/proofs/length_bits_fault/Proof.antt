@@ -9,18 +9,6 @@ use Rattle.tcd_shape.specs.Parts.{fault}
 use Rattle.tcd_state.proofs.length_bits_fault.Statement.{statement}
 use Rattle.tcd_state.proofs.length_bits_fault.Tie as tie
 
-chosen-requires : tie.Need-chosen-requires
-chosen-requires c κs = search needs
-
-chosen-requires-2 : tie.Need-chosen-requires-2
-chosen-requires-2 c κs = search needs
-
-over-requires : tie.Need-over-requires
-over-requires c κs = search needs
-
-over-requires-2 : tie.Need-over-requires-2
-over-requires-2 c κs = search needs
-
 returns : tie.Need-returns
 returns c =
     let s = c .before .before .before .before .args in
@@ -30,4 +18,4 @@ returns c =
 
 pub length-bits-fault-spec : {M : Type 1} → statement M
 length-bits-fault-spec =
-    tie.close (tie.spec chosen-requires chosen-requires-2 over-requires over-requires-2 returns)
+    tie.close (tie.spec (λ c κs. search needs) (λ c κs. search needs) (λ c κs. search needs) (λ c κs. search needs) returns)

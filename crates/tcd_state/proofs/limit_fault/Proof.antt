@@ -9,15 +9,6 @@ use Rattle.tcd_shape.specs.Parts.{isOneOf}
 use Rattle.tcd_state.proofs.limit_fault.Statement.{statement}
 use Rattle.tcd_state.proofs.limit_fault.Tie as tie
 
-differs-requires : tie.Need-differs-requires
-differs-requires c κs = search needs
-
-differs-requires-2 : tie.Need-differs-requires-2
-differs-requires-2 c κs = search needs
-
-differs-requires-3 : tie.Need-differs-requires-3
-differs-requires-3 c κs = search needs
-
 returns : tie.Need-returns
 unfolding isOneOf
 returns c =
@@ -28,4 +19,4 @@ returns c =
 
 pub limit-fault-spec : {M : Type 1} → statement M
 limit-fault-spec =
-    tie.close (tie.spec differs-requires differs-requires-2 differs-requires-3 returns)
+    tie.close (tie.spec (λ c κs. search needs) (λ c κs. search needs) (λ c κs. search needs) returns)

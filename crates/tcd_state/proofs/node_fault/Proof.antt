@@ -5,17 +5,8 @@ use Rattle.tcd_state.proofs.Laws.Faults.{fault-three}
 use Rattle.tcd_state.proofs.node_fault.Statement.{statement}
 use Rattle.tcd_state.proofs.node_fault.Tie as tie
 
-over-requires : tie.Need-over-requires
-over-requires c κs = search needs
-
-over-requires-2 : tie.Need-over-requires-2
-over-requires-2 c κs = search needs
-
-over-requires-3 : tie.Need-over-requires-3
-over-requires-3 c κs = search needs
-
 returns : tie.Need-returns
 returns c = let s = c .before .before .before .args in fault-three _ _ _ (leb (s .value) (s .most)) (leb (s .low) (s .most)) (leb (s .known) 1) (c .before .before .over .ensures) (c .before .over2 .ensures) (c .over3 .ensures)
 
 pub node-fault-spec : {M : Type 1} → statement M
-node-fault-spec = tie.close (tie.spec over-requires over-requires-2 over-requires-3 returns)
+node-fault-spec = tie.close (tie.spec (λ c κs. search needs) (λ c κs. search needs) (λ c κs. search needs) returns)

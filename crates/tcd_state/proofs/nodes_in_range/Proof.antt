@@ -19,45 +19,6 @@ loop-holds : tie.Need-loop-holds Inv-loop μ-loop
 unfolding every
 loop-holds c = (omega arith, refl)
 
-mul-node : tie.Need-mul-node Inv-loop μ-loop
-mul-node c = omega arith
-
-add-node : tie.Need-add-node Inv-loop μ-loop
-add-node c = omega arith
-
-mul-node-fault : tie.Need-mul-node-fault Inv-loop μ-loop
-mul-node-fault c = omega arith
-
-shared-slice-read-node-fault : tie.Need-shared-slice-read-node-fault Inv-loop μ-loop
-shared-slice-read-node-fault c = omega arith
-
-add-node-fault : tie.Need-add-node-fault Inv-loop μ-loop
-add-node-fault c = omega arith
-
-mul-node-fault-2 : tie.Need-mul-node-fault-2 Inv-loop μ-loop
-mul-node-fault-2 c = omega arith
-
-shared-slice-read-node-fault-2 : tie.Need-shared-slice-read-node-fault-2 Inv-loop μ-loop
-shared-slice-read-node-fault-2 c = omega arith
-
-add-node-fault-2 : tie.Need-add-node-fault-2 Inv-loop μ-loop
-add-node-fault-2 c = omega arith
-
-mul-node-fault-3 : tie.Need-mul-node-fault-3 Inv-loop μ-loop
-mul-node-fault-3 c = omega arith
-
-shared-slice-read-node-fault-3 : tie.Need-shared-slice-read-node-fault-3 Inv-loop μ-loop
-shared-slice-read-node-fault-3 c = omega arith
-
-node-fault-requires : tie.Need-node-fault-requires Inv-loop μ-loop
-node-fault-requires c κs = omega arith
-
-add-i : tie.Need-add-i Inv-loop μ-loop
-add-i c = omega arith
-
-loop-less : tie.Need-loop-less Inv-loop μ-loop
-loop-less c = omega arith
-
 loop-again : tie.Need-loop-again Inv-loop μ-loop
 unfolding nodeInRange
 loop-again c =
@@ -75,18 +36,18 @@ nodes-in-range-spec =
     Inv-loop
     μ-loop
     loop-holds
-    mul-node
-    add-node
-    mul-node-fault
-    shared-slice-read-node-fault
-    add-node-fault
-    mul-node-fault-2
-    shared-slice-read-node-fault-2
-    add-node-fault-2
-    mul-node-fault-3
-    shared-slice-read-node-fault-3
-    node-fault-requires
-    add-i
-    loop-less
+    (λ c. omega arith)
+    (λ c. omega arith)
+    (λ c. omega arith)
+    (λ c. omega arith)
+    (λ c. omega arith)
+    (λ c. omega arith)
+    (λ c. omega arith)
+    (λ c. omega arith)
+    (λ c. omega arith)
+    (λ c. omega arith)
+    (λ c κs. omega arith)
+    (λ c. omega arith)
+    (λ c. omega arith)
     loop-again
     returns)

@@ -4,9 +4,6 @@ use borrow.Author.Tests.{le-leb, lt-leb}
 use Rattle.tcd_state.proofs.passes_fault.Statement.{statement}
 use Rattle.tcd_state.proofs.passes_fault.Tie as tie
 
-mul-most : tie.Need-mul-most
-mul-most c = search needs
-
 returns : tie.Need-returns
 returns c = simp (lt-leb _ _ (c .if1 .taken))
 
@@ -14,4 +11,4 @@ returns-2 : tie.Need-returns-2
 returns-2 c = simp (le-leb _ _ (c .if1 .left))
 
 pub passes-fault-spec : {M : Type 1} → statement M
-passes-fault-spec = tie.close (tie.spec mul-most returns returns-2)
+passes-fault-spec = tie.close (tie.spec (λ c. search needs) returns returns-2)

@@ -9,27 +9,6 @@ use Rattle.tcd_shape.specs.Parts.{fault, isOneOf}
 use Rattle.tcd_state.proofs.segment_fault.Statement.{statement}
 use Rattle.tcd_state.proofs.segment_fault.Tie as tie
 
-has-no-segment-requires : tie.Need-has-no-segment-requires
-has-no-segment-requires c κs = search needs
-
-chosen-requires : tie.Need-chosen-requires
-chosen-requires c κs = search needs
-
-differs-requires : tie.Need-differs-requires
-differs-requires c κs = search needs
-
-limit-fault-requires : tie.Need-limit-fault-requires
-limit-fault-requires c κs = search needs
-
-chosen-requires-2 : tie.Need-chosen-requires-2
-chosen-requires-2 c κs = search needs
-
-over-requires : tie.Need-over-requires
-over-requires c κs = search needs
-
-over-requires-2 : tie.Need-over-requires-2
-over-requires-2 c κs = search needs
-
 returns : tie.Need-returns
 returns c =
     let s = c .before .before .before .before .before .before .before .args in
@@ -43,11 +22,11 @@ pub segment-fault-spec : {M : Type 1} → statement M
 segment-fault-spec =
     tie.close
     (tie.spec
-    has-no-segment-requires
-    chosen-requires
-    differs-requires
-    limit-fault-requires
-    chosen-requires-2
-    over-requires
-    over-requires-2
+    (λ c κs. search needs)
+    (λ c κs. search needs)
+    (λ c κs. search needs)
+    (λ c κs. search needs)
+    (λ c κs. search needs)
+    (λ c κs. search needs)
+    (λ c κs. search needs)
     returns)

@@ -7,17 +7,8 @@ use Rattle.tcd_state.proofs.Laws.RangeParts.{shape-parts}
 use Rattle.tcd_state.proofs.shape_in_range.Statement.{statement}
 use Rattle.tcd_state.proofs.shape_in_range.Tie as tie
 
-word-requires : tie.Need-word-requires
-word-requires c κs = search needs
-
 returns : tie.Need-returns
 returns c = let s = c .before .before .before in shape-parts (s .args .role) (s .args .state .now) _ _ false _ refl (s .pre) (sym (ne-eqb _ _ (λ e. c .if1 .taken (c .before .word .ensures ∙ e)))) refl
-
-word-requires-2 : tie.Need-word-requires-2
-word-requires-2 c κs = search needs
-
-bad-shape-requires : tie.Need-bad-shape-requires
-bad-shape-requires c κs = search needs
 
 returns-2 : tie.Need-returns-2
 returns-2 c =
@@ -28,4 +19,4 @@ returns-2 c =
 
 pub shape-in-range-spec : {M : Type 1} → statement M
 shape-in-range-spec =
-    tie.close (tie.spec word-requires returns word-requires-2 bad-shape-requires returns-2)
+    tie.close (tie.spec (λ c κs. search needs) returns (λ c κs. search needs) (λ c κs. search needs) returns-2)

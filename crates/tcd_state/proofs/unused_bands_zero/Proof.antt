@@ -17,21 +17,9 @@ Inv-loop state n used faults₀ i₀ faults i = (i ≤ 9) × (faults ≡ fault (
 abbrev μ-loop : tie.MeasureT-loop
 μ-loop state n used faults₀ i₀ faults i = 9 - i
 
-mul-used : tie.Need-mul-used Inv-loop μ-loop
-mul-used c = omega arith
-
 loop-holds : tie.Need-loop-holds Inv-loop μ-loop
 unfolding every
 loop-holds c = (omega arith, refl)
-
-unused-fault-requires : tie.Need-unused-fault-requires Inv-loop μ-loop
-unused-fault-requires c κs = omega arith
-
-add-i : tie.Need-add-i Inv-loop μ-loop
-add-i c = omega arith
-
-loop-less : tie.Need-loop-less Inv-loop μ-loop
-loop-less c = omega arith
 
 loop-again : tie.Need-loop-again Inv-loop μ-loop
 loop-again c =
@@ -48,10 +36,10 @@ unused-bands-zero-spec =
     (tie.spec
     Inv-loop
     μ-loop
-    mul-used
+    (λ c. omega arith)
     loop-holds
-    unused-fault-requires
-    add-i
-    loop-less
+    (λ c κs. omega arith)
+    (λ c. omega arith)
+    (λ c. omega arith)
     loop-again
     returns)

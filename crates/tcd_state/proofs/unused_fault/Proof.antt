@@ -10,12 +10,6 @@ use Rattle.tcd_state.proofs.unused_fault.Tie as tie
 returns : tie.Need-returns
 returns c = simp (lt-ltb _ _ (c .if1 .taken))
 
-add-word : tie.Need-add-word
-add-word c = search needs
-
-word-requires : tie.Need-word-requires
-word-requires c κs = search needs
-
 returns-2 : tie.Need-returns-2
 returns-2 c = simp (eq-eqb _ _ (sym (c .before .word .ensures) ∙ c .if2 .taken), le-ltb _ _ (c .before .before .if1 .left))
 
@@ -23,4 +17,4 @@ returns-3 : tie.Need-returns-3
 returns-3 c = simp (ne-eqb (getD (c .before .before .before .before .args .state .now) (4 + c .before .before .before .before .args .i) 0) 0 (λ e. c .if2 .left (c .before .word .ensures ∙ e)), le-ltb _ _ (c .before .before .if1 .left))
 
 pub unused-fault-spec : {M : Type 1} → statement M
-unused-fault-spec = tie.close (tie.spec returns add-word word-requires returns-2 returns-3)
+unused-fault-spec = tie.close (tie.spec returns (λ c. search needs) (λ c κs. search needs) returns-2 returns-3)

@@ -17,12 +17,6 @@ use Rattle.tcd_state.proofs.valid_state.Tie as tie
 returns : tie.Need-returns
 returns c = let s = c .before .before .args in too-short (s .role) (s .state .now) (s .scratch-len) (c .if1 .taken)
 
-bands-of-requires : tie.Need-bands-of-requires
-bands-of-requires c κs = search needs
-
-first-words-in-range-requires : tie.Need-first-words-in-range-requires
-first-words-in-range-requires c κs = search needs
-
 returns-2 : tie.Need-returns-2
 returns-2 c =
     let s = c .before .before .before .before .before .args in
@@ -33,12 +27,6 @@ returns-3 c =
     let s = c .before .before .before .before .before .before .args in
     let first = sym (not-false _ (c .before .if2 .left)) ∙ c .before .before .first-words-in-range .ensures in
     valid-parts (s .role) (s .state .now) (s .scratch-len) true false _ first (sym (ne-eqb _ _ (c .if3 .taken))) refl
-
-word-requires : tie.Need-word-requires
-word-requires c κs = search needs
-
-cast-n : tie.Need-cast-n
-cast-n c = search needs
 
 bands-in-range-requires : tie.Need-bands-in-range-requires
 bands-in-range-requires c κs =
@@ -59,11 +47,11 @@ valid-state-spec =
     tie.close
     (tie.spec
     returns
-    bands-of-requires
-    first-words-in-range-requires
+    (λ c κs. search needs)
+    (λ c κs. search needs)
     returns-2
     returns-3
-    word-requires
-    cast-n
+    (λ c κs. search needs)
+    (λ c. search needs)
     bands-in-range-requires
     returns-4)

@@ -43,17 +43,8 @@ abbrev μ-loop : tie.MeasureT-loop
 loop-holds : tie.Need-loop-holds Inv-loop μ-loop
 loop-holds c = (ap length (c .pre .2), omega arith, omega arith, c .pre .1, refl, c .pre .2)
 
-mul-l : tie.Need-mul-l Inv-loop μ-loop
-mul-l c = omega arith
-
 array-copy-out-l : tie.Need-array-copy-out-l Inv-loop μ-loop
 array-copy-out-l c = let s = c .before .before in let g : length (s .args .t1) ≡ 7 = search needs in omega (arith, s .pre .0 .atMostSeven)
-
-cast-w : tie.Need-cast-w Inv-loop μ-loop
-cast-w c = search needs
-
-cast-h : tie.Need-cast-h Inv-loop μ-loop
-cast-h c = search needs
 
 mul-before : tie.Need-mul-before Inv-loop μ-loop
 mul-before c = let l = c .before .before .before .before .loop in
@@ -64,9 +55,6 @@ add-row : tie.Need-add-row Inv-loop μ-loop
 add-row c = let l = c .before .before .before .before .loop in
     let s = c .before .before .before .before .before in
     omega (arith, s .pre .0 .atMostSeven, sides-small _ _ (l .inv .3) (s .pre .0 .across (l .i) (c .before .before .before .loop-test .taken)))
-
-mul-row : tie.Need-mul-row Inv-loop μ-loop
-mul-row c = omega arith
 
 element-write-row : tie.Need-element-write-row Inv-loop μ-loop
 element-write-row c = omega (arith, c .before .before .before .before .before .pre .0 .atMostSeven)
@@ -80,12 +68,6 @@ add-below : tie.Need-add-below Inv-loop μ-loop
 add-below c = let l = c .before .before .before .before .loop in
     let s = c .before .before .before .before .before in
     omega (arith, s .pre .0 .atMostSeven, sides-small _ _ (s .pre .0 .across (l .i) (c .before .before .before .loop-test .taken)) (s .pre .0 .down (l .i) (c .before .before .before .loop-test .taken)))
-
-add-i : tie.Need-add-i Inv-loop μ-loop
-add-i c = omega arith
-
-loop-less : tie.Need-loop-less Inv-loop μ-loop
-loop-less c = omega arith
 
 loop-again : tie.Need-loop-again Inv-loop μ-loop
 loop-again c = let l = c .before .before .before .before .loop in
@@ -128,17 +110,17 @@ opj-tgt-row-spec =
     Inv-loop
     μ-loop
     loop-holds
-    mul-l
+    (λ c. omega arith)
     array-copy-out-l
-    cast-w
-    cast-h
+    (λ c. search needs)
+    (λ c. search needs)
     mul-before
     add-row
-    mul-row
+    (λ c. omega arith)
     element-write-row
     mul-size
     add-below
-    add-i
-    loop-less
+    (λ c. omega arith)
+    (λ c. omega arith)
     loop-again
     returns)

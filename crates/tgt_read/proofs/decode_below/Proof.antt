@@ -26,9 +26,6 @@ abbrev μ-loop : tie.MeasureT-loop
 loop-holds : tie.Need-loop-holds Inv-loop μ-loop
 loop-holds c = (c .before .before .pre .0, refl, omega arith, refl)
 
-sub-i : tie.Need-sub-i Inv-loop μ-loop
-sub-i c = omega arith
-
 mul-first-word : tie.Need-mul-first-word Inv-loop μ-loop
 mul-first-word c = omega (arith, c .before .before .before .before .pre .1 .atMostSeven)
 
@@ -45,9 +42,6 @@ decode-node-requires : tie.Need-decode-node-requires Inv-loop μ-loop
 decode-node-requires c κs = let s = c .before .before .before .before .before .before .before in
     let l = c .before .before .before .before .loop in
     (l .inv .0, omega (arith, c .before .first-word .ensures, l .inv .1, s .pre .1 .inside (l .i - 1) (omega arith)))
-
-loop-less : tie.Need-loop-less Inv-loop μ-loop
-loop-less c = omega arith
 
 loop-again : tie.Need-loop-again Inv-loop μ-loop
 loop-again c = let s = c .before .before .before .before .before .before .before .before .before .before .before in
@@ -83,12 +77,12 @@ decode-below-spec =
     Inv-loop
     μ-loop
     loop-holds
-    sub-i
+    (λ c. omega arith)
     mul-first-word
     element-copy-out-first-word
     first-word-requires
     decode-node-requires
-    loop-less
+    (λ c. omega arith)
     loop-again
     same-length
     returns)

@@ -14,15 +14,6 @@ use borrow.Author.Needs.{needs}
 use Rattle.tgt_read.proofs.decode_path.Statement.{statement}
 use Rattle.tgt_read.proofs.decode_path.Tie as tie
 
-sub-top : tie.Need-sub-top
-sub-top c = search needs
-
-mul-first-word : tie.Need-mul-first-word
-mul-first-word c = search needs
-
-element-copy-out-first-word : tie.Need-element-copy-out-first-word
-element-copy-out-first-word c = search needs
-
 first-word-requires : tie.Need-first-word-requires
 first-word-requires c κs =
     let s = c .before .before .before in
@@ -56,9 +47,6 @@ decode-below-requires c κs =
       },
     )
 
-same-length : tie.Need-same-length
-same-length c = search needs
-
 returns : tie.Need-returns
 returns c =
     let s = c .before .before .before .before .before .before .before .before .before .before .before .before in
@@ -81,11 +69,11 @@ pub decode-path-spec : {M : Type 1} → statement M
 decode-path-spec =
     tie.close
     (tie.spec
-    sub-top
-    mul-first-word
-    element-copy-out-first-word
+    (λ c. search needs)
+    (λ c. search needs)
+    (λ c. search needs)
     first-word-requires
     decode-node-requires
     decode-below-requires
-    same-length
+    (λ c. search needs)
     returns)

@@ -12,9 +12,6 @@ use Rattle.tgt_read.proofs.held.Tie as tie
 one-shifted : (k : ℕ) → k ≤ 8 → 1 * 2 ^ k % 4294967296 ≡ 2 ^ k
 one-shifted k h = shl-exact {a = 1} 1 k 32 (omega arith) (omega arith) ∙ omega arith
 
-shl-result : tie.Need-shl-result
-shl-result c = search needs
-
 sub-result : tie.Need-sub-result
 sub-result c = let b = c .before .args .b in omega (arith, one-shifted (b .ct) (c .before .pre), pow-pos (b .ct))
 
@@ -22,4 +19,4 @@ returns : tie.Need-returns
 returns c = let b = c .before .before .args .b in ap (λ (n : ℕ). bitAnd (b .buf) (n - 1)) (one-shifted (b .ct) (c .before .before .pre)) ∙ and-mask (b .buf) (b .ct)
 
 pub held-spec : {M : Type 1} → statement M
-held-spec = tie.close (tie.spec shl-result sub-result returns)
+held-spec = tie.close (tie.spec (λ c. search needs) sub-result returns)

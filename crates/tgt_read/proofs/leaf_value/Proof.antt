@@ -8,9 +8,6 @@ use borrow.Author.Needs.{needs}
 use Rattle.tgt_read.proofs.leaf_value.Statement.{statement}
 use Rattle.tgt_read.proofs.leaf_value.Tie as tie
 
-element-copy-out-first-word : tie.Need-element-copy-out-first-word
-element-copy-out-first-word c = search needs
-
 first-word-requires : tie.Need-first-word-requires
 first-word-requires c κs = let s = c .before .before in
     let n : length (s .args .words .now) < 0x1_0000_0000_0000_0000 = search needs in
@@ -33,7 +30,7 @@ pub leaf-value-spec : {M : Type 1} → statement M
 leaf-value-spec =
     tie.close
     (tie.spec
-    element-copy-out-first-word
+    (λ c. search needs)
     first-word-requires
     mul-result
     shared-slice-read-result

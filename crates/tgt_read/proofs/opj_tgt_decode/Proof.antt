@@ -9,14 +9,8 @@ use borrow.Author.Needs.{needs}
 use Rattle.tgt_read.proofs.opj_tgt_decode.Statement.{statement}
 use Rattle.tgt_read.proofs.opj_tgt_decode.Tie as tie
 
-decode-path-requires : tie.Need-decode-path-requires
-decode-path-requires c κs = search needs
-
 leaf-value-requires : tie.Need-leaf-value-requires
 leaf-value-requires c κs = let s = c .before .before .before .before .before .before .before in subst (λ (n : ℕ). PathIn n (s .args .base) (s .args .row .now) (s .args .depth) (s .args .x)) (sym (c .before .before .before .decode-path .kept .0)) (s .pre .1)
-
-same-length : tie.Need-same-length
-same-length c = search needs
 
 returns : tie.Need-returns
 returns c = let s = c .before .before .before .before .before .before .before .before in
@@ -27,4 +21,4 @@ returns c = let s = c .before .before .before .before .before .before .before .b
 
 pub opj-tgt-decode-spec : {M : Type 1} → statement M
 opj-tgt-decode-spec =
-    tie.close (tie.spec decode-path-requires leaf-value-requires same-length returns)
+    tie.close (tie.spec (λ c κs. search needs) leaf-value-requires (λ c. search needs) returns)

@@ -42,12 +42,6 @@ returns c = let s = c .before .before .before .before .before .before .before .b
     sym (raise-stop src (leafOf (s .args .base) row (s .args .depth) (s .args .x)) (l .threshold) (l .words) (l .bio) (pathRead (r .last .0) (r .result .bio)) (says .0) (omega (arith, c .before .before .before .before .before .before .loop-test .taken)) (says .1 ∙ c .if1 .taken))
     ∙ l .inv .3
 
-add-threshold : tie.Need-add-threshold Inv-loop μ-loop
-add-threshold c = omega arith
-
-loop-less : tie.Need-loop-less Inv-loop μ-loop
-loop-less c = omega arith
-
 loop-again : tie.Need-loop-again Inv-loop μ-loop
 loop-again c = let s = c .before .before .before .before .before .before .before .before .before .before in
     let l = c .before .before .before .before .before .before .before .loop in
@@ -81,8 +75,8 @@ raise-spec =
     opj-tgt-decode-requires
     same-length
     returns
-    add-threshold
-    loop-less
+    (λ c. omega arith)
+    (λ c. omega arith)
     loop-again
     same-length-2
     returns-2)

@@ -13,12 +13,6 @@ use borrow.Author.Needs.{needs}
 use Rattle.tgt_read.proofs.read_planes.Statement.{statement}
 use Rattle.tgt_read.proofs.read_planes.Tie as tie
 
-decode-path-requires : tie.Need-decode-path-requires
-decode-path-requires c κs = search needs
-
-same-length : tie.Need-same-length
-same-length c = search needs
-
 returns : tie.Need-returns
 returns c =
     let s = c .before .before .before .before .before .before .before in
@@ -30,16 +24,7 @@ returns c =
     c .before .before .decode-path .ensures
     ∙ subst (λ (d : ℕ). readPath src base 1000 (reverse (pathOver row d x)) 0 ws (s .args .b) ≡ readZeroPlanesFrom src (leafOf base row d x) 1001 0 ws (s .args .b)) (sym (c .before .before .before .before .if1 .taken)) (sym (raised-at-once src base row x ws (s .args .b) (omega (arith, s .pre .1 .long, s .pre .1 .some)) (omega (arith, s .pre .1 .inside 0 (s .pre .1 .some)))))
 
-raise-requires : tie.Need-raise-requires
-raise-requires c κs = search needs
-
-same-length-2 : tie.Need-same-length-2
-same-length-2 c = search needs
-
-returns-2 : tie.Need-returns-2
-returns-2 c = search needs
-
 pub read-planes-spec : {M : Type 1} → statement M
 read-planes-spec =
     tie.close
-    (tie.spec decode-path-requires same-length returns raise-requires same-length-2 returns-2)
+    (tie.spec (λ c κs. search needs) (λ c. search needs) returns (λ c κs. search needs) (λ c. search needs) (λ c. search needs))

@@ -11,11 +11,8 @@ use Rattle.tgt_read.proofs.runs_on.Tie as tie
 returns : tie.Need-returns
 returns c = simp (le-ltb _ _ (c .if1 .taken))
 
-held-requires : tie.Need-held-requires
-held-requires c κs = search needs
-
 returns-2 : tie.Need-returns-2
 returns-2 c = let s = c .before .before .before in ap (λ (n : ℕ). eqb n 0) (c .held .ensures) ∙ simp (lt-ltb _ _ (c .before .if1 .left))
 
 pub runs-on-spec : {M : Type 1} → statement M
-runs-on-spec = tie.close (tie.spec returns held-requires returns-2)
+runs-on-spec = tie.close (tie.spec returns (λ c κs. search needs) returns-2)

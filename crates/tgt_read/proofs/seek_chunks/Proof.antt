@@ -34,9 +34,6 @@ sub-more c = let l = c .before .before .before .before .loop in
     let on = runs-on-is (l .bio) (l .more) (sym (c .before .before .before .runs-on .ensures) ∙ c .before .before .if1 .taken) in
     omega (arith, on .0)
 
-opj-bio-bytein-requires : tie.Need-opj-bio-bytein-requires Inv-loop μ-loop
-opj-bio-bytein-requires c κs = search needs
-
 loop-less : tie.Need-loop-less Inv-loop μ-loop
 loop-less c = let l = c .before .before .before .before .before .loop in
     let on = runs-on-is (l .bio) (l .more) (sym (c .before .before .before .before .runs-on .ensures) ∙ c .before .before .before .if1 .taken) in
@@ -101,7 +98,7 @@ seek-chunks-spec =
     runs-on-requires
     add-from
     sub-more
-    opj-bio-bytein-requires
+    (λ c κs. search needs)
     loop-less
     loop-again
     leading-zeros-requires

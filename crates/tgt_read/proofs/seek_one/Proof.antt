@@ -6,12 +6,6 @@ use borrow.Author.Needs.{needs}
 use Rattle.tgt_read.proofs.seek_one.Statement.{statement}
 use Rattle.tgt_read.proofs.seek_one.Tie as tie
 
-bit-in-requires : tie.Need-bit-in-requires
-bit-in-requires c κs = search needs
-
-add-raised : tie.Need-add-raised
-add-raised c = search needs
-
 returns : tie.Need-returns
 returns c = let s = c .before .before .before .before .before in
     let r = c .before .before .before .bit-in in
@@ -23,4 +17,4 @@ returns-2 c = let s = c .before .before .before .before .before in
     one-reaches (s .args .src .now) (s .args .value) (s .args .low) (s .args .b) (decoded (r .result)) (s .pre .1) (r .ensures) (c .if1 .left)
 
 pub seek-one-spec : {M : Type 1} → statement M
-seek-one-spec = tie.close (tie.spec bit-in-requires add-raised returns returns-2)
+seek-one-spec = tie.close (tie.spec (λ c κs. search needs) (λ c. search needs) returns returns-2)

@@ -17,39 +17,6 @@ low-after : (v from t m to : ℕ) → m ≡ min v t → to ≡ max from m → to
 unfolding lowAfter
 low-after v from t m to e f = f ∙ ap (max from) e
 
-mul-opj-uint-min : tie.Need-mul-opj-uint-min
-mul-opj-uint-min c = search needs
-
-slice-read-opj-uint-min : tie.Need-slice-read-opj-uint-min
-slice-read-opj-uint-min c = search needs
-
-opj-uint-min-requires : tie.Need-opj-uint-min-requires
-opj-uint-min-requires c κs = search needs
-
-opj-uint-max-requires : tie.Need-opj-uint-max-requires
-opj-uint-max-requires c κs = search needs
-
-add-words : tie.Need-add-words
-add-words c = search needs
-
-mul-words : tie.Need-mul-words
-mul-words c = search needs
-
-slice-write-words : tie.Need-slice-write-words
-slice-write-words c = search needs
-
-sub-zeros : tie.Need-sub-zeros
-sub-zeros c = search needs
-
-zeros-requires : tie.Need-zeros-requires
-zeros-requires c κs = search needs
-
-same-length : tie.Need-same-length
-same-length c = search needs
-
-same-length-2 : tie.Need-same-length-2
-same-length-2 c = search needs
-
 returns : tie.Need-returns
 returns c = let s = c .before .before .before .before .before .before .before .before .before .before in
     let ws = s .args .words .now in
@@ -58,9 +25,6 @@ returns c = let s = c .before .before .before .before .before .before .before .b
     let e = low-after (value ws (s .args .at)) (s .args .from) (s .args .threshold) (c .before .before .before .before .before .before .opj-uint-min .result) to (c .before .before .before .before .before .before .opj-uint-min .ensures) (c .before .before .before .before .before .opj-uint-max .ensures) in
     ap (λ (p : Output). record { words = set ws (s .args .at + 1) to; output = p; low = to }) (c .before .before .before .zeros .ensures)
     ∙ sym (code-to-threshold (s .args .threshold) (s .args .at) (s .args .from) ws o to e (c .if1 .taken))
-
-add-tell : tie.Need-add-tell
-add-tell c = search needs
 
 tell-requires : tie.Need-tell-requires
 tell-requires c κs = let s = c .before .before .before .before .before .before .before .before .before .before .before .before in
@@ -71,9 +35,6 @@ tell-requires c κs = let s = c .before .before .before .before .before .before 
 
 same-length-3 : tie.Need-same-length-3
 same-length-3 c = let s = c .before .before .before .before .before .before .before .before .before .before .before .before .before .before .before .before .before in c .before .before .before .before .tell .kept .0 ∙ length-set (s .args .words .now) (s .args .at + 1) (c .before .before .before .before .before .before .before .before .before .before .before .before .opj-uint-max .result)
-
-same-length-4 : tie.Need-same-length-4
-same-length-4 c = search needs
 
 returns-2 : tie.Need-returns-2
 returns-2 c = let s = c .before .before .before .before .before .before .before .before .before .before .before .before .before .before .before .before .before in
@@ -89,20 +50,20 @@ pub encode-from-spec : {M : Type 1} → statement M
 encode-from-spec =
     tie.close
     (tie.spec
-    mul-opj-uint-min
-    slice-read-opj-uint-min
-    opj-uint-min-requires
-    opj-uint-max-requires
-    add-words
-    mul-words
-    slice-write-words
-    sub-zeros
-    zeros-requires
-    same-length
-    same-length-2
+    (λ c. search needs)
+    (λ c. search needs)
+    (λ c κs. search needs)
+    (λ c κs. search needs)
+    (λ c. search needs)
+    (λ c. search needs)
+    (λ c. search needs)
+    (λ c. search needs)
+    (λ c κs. search needs)
+    (λ c. search needs)
+    (λ c. search needs)
     returns
-    add-tell
+    (λ c. search needs)
     tell-requires
     same-length-3
-    same-length-4
+    (λ c. search needs)
     returns-2)

@@ -12,48 +12,15 @@ use borrow.Author.Needs.{needs}
 use Rattle.tgt_write.proofs.encode_one.Statement.{statement}
 use Rattle.tgt_write.proofs.encode_one.Tie as tie
 
-mul-reached : tie.Need-mul-reached
-mul-reached c = search needs
-
-slice-read-reached : tie.Need-slice-read-reached
-slice-read-reached c = search needs
-
-reached-requires : tie.Need-reached-requires
-reached-requires c κs = search needs
-
 sub-low : tie.Need-sub-low
 sub-low c =
     let s = c .before .before .before .before in
     omega (arith, c .reached .ensures, bit-le (ltb (value (s .args .words .now) (s .args .at)) (s .args .threshold)), s .pre .2)
 
-add-words : tie.Need-add-words
-add-words c = search needs
-
-mul-words : tie.Need-mul-words
-mul-words c = search needs
-
-slice-write-words : tie.Need-slice-write-words
-slice-write-words c = search needs
-
-add-words-2 : tie.Need-add-words-2
-add-words-2 c = search needs
-
-mul-words-2 : tie.Need-mul-words-2
-mul-words-2 c = search needs
-
-slice-write-words-2 : tie.Need-slice-write-words-2
-slice-write-words-2 c = search needs
-
 bit-out-requires : tie.Need-bit-out-requires
 bit-out-requires c κs =
     let s = c .before .before .before .before .before in
     (s .pre .0, omega (arith, c .before .reached .ensures, bit-le (ltb (value (s .args .words .now) (s .args .at)) (s .args .threshold))))
-
-same-length : tie.Need-same-length
-same-length c = search needs
-
-same-length-2 : tie.Need-same-length-2
-same-length-2 c = search needs
 
 returns : tie.Need-returns
 returns c =
@@ -69,17 +36,17 @@ pub encode-one-spec : {M : Type 1} → statement M
 encode-one-spec =
     tie.close
     (tie.spec
-    mul-reached
-    slice-read-reached
-    reached-requires
+    (λ c. search needs)
+    (λ c. search needs)
+    (λ c κs. search needs)
     sub-low
-    add-words
-    mul-words
-    slice-write-words
-    add-words-2
-    mul-words-2
-    slice-write-words-2
+    (λ c. search needs)
+    (λ c. search needs)
+    (λ c. search needs)
+    (λ c. search needs)
+    (λ c. search needs)
+    (λ c. search needs)
     bit-out-requires
-    same-length
-    same-length-2
+    (λ c. search needs)
+    (λ c. search needs)
     returns)

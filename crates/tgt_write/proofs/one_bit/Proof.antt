@@ -8,11 +8,8 @@ use Rattle.tgt_write.proofs.one_bit.Tie as tie
 returns : tie.Need-returns
 returns c = simp (ne-eqb _ _ (c .if1 .taken))
 
-sub-result : tie.Need-sub-result
-sub-result c = search needs
-
 returns-2 : tie.Need-returns-2
 returns-2 c = simp (eq-eqb _ _ (c .if1 .left))
 
 pub one-bit-spec : {M : Type 1} → statement M
-one-bit-spec = tie.close (tie.spec returns sub-result returns-2)
+one-bit-spec = tie.close (tie.spec returns (λ c. search needs) returns-2)

@@ -23,9 +23,6 @@ loop-holds c = (c .before .pre, refl, refl)
 sub-left : tie.Need-sub-left Inv-loop μ-loop
 sub-left c = let t = c .before .if1 .taken in omega arith
 
-opj-bio-byteout-requires : tie.Need-opj-bio-byteout-requires Inv-loop μ-loop
-opj-bio-byteout-requires c κs = search needs
-
 loop-less : tie.Need-loop-less Inv-loop μ-loop
 loop-less c = let t = c .before .before .before .before .before .if1 .taken in
     let l = c .before .before .before .before .before .before .before .loop in
@@ -59,7 +56,7 @@ zeros-spec =
     μ-loop
     loop-holds
     sub-left
-    opj-bio-byteout-requires
+    (λ c κs. search needs)
     loop-less
     loop-again
     behind-bits-requires

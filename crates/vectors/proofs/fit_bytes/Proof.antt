@@ -4,11 +4,8 @@ use Rattle.io.proofs.Counting.{counts}
 use Rattle.vectors.proofs.fit_bytes.Statement.{statement}
 use Rattle.vectors.proofs.fit_bytes.Tie as tie
 
-least-requires : tie.Need-least-requires
-least-requires c κs = search needs
-
 returns : tie.Need-returns
 returns c = counts (c .least .result) (c .before .before .args .room .now) (c .least .ensures)
 
 pub fit-bytes-spec : {M : Type 1} → statement M
-fit-bytes-spec = tie.close (tie.spec least-requires returns)
+fit-bytes-spec = tie.close (tie.spec (λ c κs. search needs) returns)

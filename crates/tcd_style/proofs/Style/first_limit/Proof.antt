@@ -5,15 +5,9 @@ use Rattle.t800.specs.Segments.{firstLimit}
 use Rattle.tcd_style.proofs.Style.first_limit.Statement.{statement}
 use Rattle.tcd_style.proofs.Style.first_limit.Tie as tie
 
-terminates-all-requires : tie.Need-terminates-all-requires
-terminates-all-requires c κs = search needs
-
 returns : tie.Need-returns
 unfolding firstLimit
 returns c = simp (sym (c .before .terminates-all .ensures) ∙ c .if1 .taken)
-
-bypasses-requires : tie.Need-bypasses-requires
-bypasses-requires c κs = search needs
 
 returns-2 : tie.Need-returns-2
 unfolding firstLimit
@@ -25,4 +19,4 @@ returns-3 c = simp (sym (c .before .before .before .terminates-all .ensures) ∙
 
 pub first-limit-spec : {M : Type 1} → statement M
 first-limit-spec =
-    tie.close (tie.spec terminates-all-requires returns bypasses-requires returns-2 returns-3)
+    tie.close (tie.spec (λ c κs. search needs) returns (λ c κs. search needs) returns-2 returns-3)

@@ -6,15 +6,9 @@ use Rattle.t800.specs.Segments.{nextLimit}
 use Rattle.tcd_style.proofs.Style.next_limit.Statement.{statement}
 use Rattle.tcd_style.proofs.Style.next_limit.Tie as tie
 
-terminates-all-requires : tie.Need-terminates-all-requires
-terminates-all-requires c κs = search needs
-
 returns : tie.Need-returns
 unfolding nextLimit
 returns c = simp (sym (c .before .terminates-all .ensures) ∙ c .if1 .taken)
-
-bypasses-requires : tie.Need-bypasses-requires
-bypasses-requires c κs = search needs
 
 returns-2 : tie.Need-returns-2
 unfolding nextLimit
@@ -35,4 +29,4 @@ returns-4 c = simp (sym (c .before .before .before .terminates-all .ensures) ∙
 pub next-limit-spec : {M : Type 1} → statement M
 next-limit-spec =
     tie.close
-    (tie.spec terminates-all-requires returns bypasses-requires returns-2 returns-3 returns-4)
+    (tie.spec (λ c κs. search needs) returns (λ c κs. search needs) returns-2 returns-3 returns-4)
