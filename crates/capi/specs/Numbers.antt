@@ -7,7 +7,7 @@ use lib.Dec.{eqb}
 use Rattle.t800.specs.declared.Markers.{Markers}
 use Rattle.t800.specs.Packet.{ReadResult, refusedAnswer}
 use Rattle.t2_read_packet.specs.Answers.{readResult}
-use Rattle.t2_read_records.specs.Reading.{readNumbers}
+use Rattle.t2_read_numbers.specs.Reading.{readNumbers}
 use Rattle.capi.specs.Calls.{readAnswer}
 
 pub record NumbersCall : Type 0 where

@@ -264,7 +264,7 @@ fn read_words(
         };
     }
     let markers = Markers { sop, eph };
-    let r = t2_read_records::read_numbers(state, scratch, src, markers, reports, numbers, room);
+    let r = t2_read_numbers::read_numbers(state, scratch, src, markers, reports, numbers, room);
     put_five(
         answer,
         r.present as u64,
@@ -303,7 +303,7 @@ pub extern "C" fn tonkelvi_read(
         room,
         answer,
     );
-    let m = t2_read_records::to_fill(a, room);
+    let m = t2_read_numbers::to_fill(a, room);
     t2_records::fill(records, numbers, m);
     a.refusal
 }

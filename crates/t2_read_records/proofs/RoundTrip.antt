@@ -16,7 +16,8 @@ use Rattle.t2_theorems.specs.Calls as numbers
 use Rattle.t2_theorems.proofs.RoundTrip.{round-trip-of-calls}
 use Rattle.t2_records.specs.declared.Segment.{Segment}
 use Rattle.t2_records.specs.Segments.{wordsOf}
-use Rattle.t2_read_records.specs.Reading.{StructsRead, wrongListNumber, readStructs}
+use Rattle.t2_read_numbers.specs.Reading.{wrongListNumber}
+use Rattle.t2_read_records.specs.Reading.{StructsRead, readStructs}
 use Rattle.t2_read_records.specs.Calls.{Left, ReadMade, callOf, resultOf, StructsAreNumbers, structsOf, GivesStructs, ReaderMade, refusedMade, packetMade, ReadAsOwed, RoundTripOfStructs}
 use Rattle.t2_records.proofs.Stored.{words-determine}
 

@@ -28,9 +28,10 @@ use Rattle.t2_theorems.proofs.Numbers.{numbers-of-calls}
 use Rattle.t2_read_packet.specs.Answers.{readResult}
 use Rattle.t2_records.specs.declared.Segment.{Segment}
 use Rattle.t2_records.specs.Segments.{wordsOf, segmentAt, filled}
-use Rattle.t2_read_records.specs.Reading.{StructsRead, wrongListNumber, wrongList, readNumbers, toFill, structsRead, readStructs}
+use Rattle.t2_read_numbers.specs.Reading.{wrongListNumber, wrongList, readNumbers, toFill}
+use Rattle.t2_read_records.specs.Reading.{StructsRead, structsRead, readStructs}
 use Rattle.t2_records.proofs.Stored.{stored-none, words-length, filled-words}
-use Rattle.t2_read_records.proofs.Numbers.{numbers-refused, numbers-read}
+use Rattle.t2_read_numbers.proofs.Numbers.{numbers-refused, numbers-read}
 
 -- ---- what is stored, case by case
 

@@ -18,7 +18,8 @@ use Rattle.t2_theorems.specs.Calls.{Started, WriterMade, Follows, owedOf, allTe
 use Rattle.t2_read_packet.specs.Answers.{readResult}
 use Rattle.t2_records.specs.declared.Segment.{Segment}
 use Rattle.t2_records.specs.Segments.{wordsOf}
-use Rattle.t2_read_records.specs.Reading.{wrongListNumber, structsRead, readStructs}
+use Rattle.t2_read_numbers.specs.Reading.{wrongListNumber}
+use Rattle.t2_read_records.specs.Reading.{structsRead, readStructs}
 
 -- ---- a read into structs that was made
 

@@ -1,30 +1,17 @@
--- Reading one packet into a lent list of segment structs (document 01, "What turns a packet away"): t800's `read`, its record list being
--- the structs' words. `numbers` is a lent work list of four words a struct.
+-- Reading one packet into a lent list of segment structs (SCOPE S4, S7): t800's `read`, its record list being the structs' words.
+-- `numbers` is a lent work list of four words a struct.
 use Prim.Native.Nat.{ℕ, _*_}
-use mathlib.Core.Bool.{cond, not, _||_}
+use mathlib.Core.Bool.{cond}
 use mathlib.Core.List.{List}
 use lib.ListN.{length}
 use lib.Dec.{eqb}
 use Rattle.t800.specs.declared.Markers.{Markers}
 use Rattle.t800.specs.declared.ReadAnswer.{ReadAnswer}
-use Rattle.t800.specs.State.{notYetIncluded, reader, layer}
-use Rattle.t800.specs.Ranges.{validState}
-use Rattle.t800.specs.Packet.{ReadResult, refusedAnswer, read}
+use Rattle.t800.specs.Packet.{ReadResult, read}
 use Rattle.t2_read_packet.specs.Answers.{readResult}
 use Rattle.t2_records.specs.declared.Segment.{Segment}
 use Rattle.t2_records.specs.Segments.{wordsOf}
-
--- ---- the read
-
--- 3 for the work list, where neither 5 nor 6 comes before it
-unfoldable pub wrongListNumber : List ℕ → List ℕ → ℕ
-wrongListNumber ws scratch =
-    cond (not (validState reader ws (length scratch))) 5
-    (cond (eqb (layer ws) notYetIncluded) 6 3)
-
--- then no buffer is changed
-abbrev pub wrongList : List ℕ → List ℕ → List ℕ → List ℕ → ReadResult
-wrongList ws scratch reports records = readResult ws scratch reports records (refusedAnswer (wrongListNumber ws scratch))
+use Rattle.t2_read_numbers.specs.Reading.{wrongList}
 
 -- what a read leaves: the records as their words, which determine them, and the work list
 pub record StructsRead : Type 0 where
@@ -41,14 +28,3 @@ readStructs ws scratch m src reports numbers records =
     let done : StructsRead = record { result = read ws scratch m src reports words; numbers = read ws scratch m src reports numbers .records } in
     let wrong : StructsRead = record { result = wrongList ws scratch reports words; numbers = numbers } in
     cond (eqb (length numbers) (4 * length records)) done wrong
-
--- ---- its two steps
-
--- the read into numbers, with room for so many records
-unfoldable pub readNumbers : List ℕ → List ℕ → Markers → List ℕ → List ℕ → List ℕ → ℕ → ReadResult
-readNumbers ws scratch m src reports numbers room =
-    cond (eqb (length numbers) (4 * room)) (read ws scratch m src reports numbers) (wrongList ws scratch reports numbers)
-
--- how many records are then stored: the segments found, or all where the numbers were wiped
-unfoldable pub toFill : ReadAnswer → ℕ → ℕ
-toFill a room = cond (eqb (a .refusal) 0) (a .segments) (cond (eqb (a .refusal) 9 || eqb (a .refusal) 12 || eqb (a .refusal) 13) room 0)

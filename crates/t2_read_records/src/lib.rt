@@ -1,79 +1,9 @@
 // The read into the caller's list of segment structs, above the read on numbers.
 ghost use mathlib.Core.Path.{_≡_};
-ghost use Prim.Native.Nat.{_*_};
-ghost use lib.Dec.{eqb};
-ghost use Rattle.t2_read_packet.specs.Answers.{readResult};
-ghost use Rattle.t2_read_records.specs.Reading.{wrongListNumber, readNumbers, toFill, structsRead, readStructs};
+ghost use Rattle.t2_read_records.specs.Reading.{structsRead, readStructs};
 use t2_records::Segment;
 use t800::Markers;
 use t800::ReadAnswer;
-
-// Four words for each record.
-fn four_each(words: usize, room: usize) -> bool
-    ensures { λ r. ⌜ r ≡ eqb words (4 * room) ⌝ }
-{
-    if words / 4 != room {
-        return false;
-    }
-    words % 4 == 0
-}
-
-// 5 and 6 are looked for before the list's 3.
-fn wrong_list(state: &[u32], scratch: &[u32]) -> u32
-    ensures { λ r. ⌜ r ≡ wrongListNumber (now (state .entry)) (now (scratch .entry)) ⌝ }
-{
-    if !tcd_state::valid_state(tcd_style::READER, state, scratch.len()) {
-        return t2_read_packet::BAD_STATE;
-    }
-    if state[3] == tcd_style::NOT_YET_INCLUDED {
-        return t2_read_packet::NO_MORE_LAYERS;
-    }
-    t2_read_packet::WRONG_LIST
-}
-
-// The read into numbers, which must be four for each record that there is room for.
-pub fn read_numbers(
-    state: &mut [u32],
-    scratch: &mut [u32],
-    src: &[u8],
-    markers: Markers,
-    reports: &mut [u32],
-    numbers: &mut [u32],
-    room: usize,
-) -> ReadAnswer
-    ensures { λ r. ⌜ readResult (now (state .exit)) (now (scratch .exit)) (now (reports .exit)) (now (numbers .exit)) r ≡ readNumbers (now (state .entry)) (now (scratch .entry)) markers (now (src .entry)) (now (reports .entry)) (now (numbers .entry)) room ⌝ }
-{
-    if !four_each(numbers.len(), room) {
-        return ReadAnswer {
-            refusal: wrong_list(state, scratch),
-            present: 0,
-            taken: 0,
-            segments: 0,
-            sop: 0,
-            eph: 0,
-        };
-    }
-    t2::read(state, scratch, src, markers, reports, numbers)
-}
-
-// How many records a read stores: as many as it found, all where it wiped them, and none where it changed nothing.
-pub fn to_fill(a: ReadAnswer, room: usize) -> usize
-    ensures { λ r. ⌜ r ≡ toFill a room ⌝ }
-{
-    if a.refusal == 0 {
-        return a.segments as usize;
-    }
-    if a.refusal == 9 {
-        return room;
-    }
-    if a.refusal == 12 {
-        return room;
-    }
-    if a.refusal == 13 {
-        return room;
-    }
-    0
-}
 
 // The read into numbers, and then the caller's records.
 pub fn read(
@@ -88,8 +18,8 @@ pub fn read(
     ensures { λ r. ⌜ structsRead (now (state .exit)) (now (scratch .exit)) (now (reports .exit)) (now (numbers .exit)) (now (records .exit)) r ≡ readStructs (now (state .entry)) (now (scratch .entry)) markers (now (src .entry)) (now (reports .entry)) (now (numbers .entry)) (now (records .entry)) ⌝ }
 {
     let room = records.len();
-    let a = read_numbers(state, scratch, src, markers, reports, numbers, room);
-    let m = to_fill(a, room);
+    let a = t2_read_numbers::read_numbers(state, scratch, src, markers, reports, numbers, room);
+    let m = t2_read_numbers::to_fill(a, room);
     t2_records::fill(records, numbers, m);
     a
 }

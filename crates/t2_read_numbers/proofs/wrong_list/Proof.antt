@@ -1,4 +1,4 @@
--- `t2_read_records::wrong_list` meets its contract.
+-- `t2_read_numbers::wrong_list` meets its contract.
 use mathlib.Core.Path.{sym, _∙_}
 use native.Mathlib.Omega.{arith}
 use lib.ListN.{length}
@@ -6,10 +6,10 @@ use borrow.Author.Tests.{not-true, not-false}
 use Rattle.t800.specs.State.{reader}
 use Rattle.tcd_state.proofs.Laws.ValidStates.{valid-state}
 use Rattle.t2_read_header.proofs.Laws.HeaderEnd.{thirteen-words}
-use Rattle.t2_read_records.proofs.Numbers.{wrong-5, wrong-6, wrong-3}
+use Rattle.t2_read_numbers.proofs.Numbers.{wrong-5, wrong-6, wrong-3}
 use borrow.Author.Needs.{needs}
-use Rattle.t2_read_records.proofs.wrong_list.Statement.{statement}
-use Rattle.t2_read_records.proofs.wrong_list.Tie as tie
+use Rattle.t2_read_numbers.proofs.wrong_list.Statement.{statement}
+use Rattle.t2_read_numbers.proofs.wrong_list.Tie as tie
 
 returns : tie.Need-returns
 unfolding reader

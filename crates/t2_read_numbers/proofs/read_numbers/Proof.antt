@@ -1,13 +1,13 @@
--- `t2_read_records::read_numbers` meets its contract.
+-- `t2_read_numbers::read_numbers` meets its contract.
 use mathlib.Core.Path.{sym, ap, _∙_}
 use Prim.Native.Nat.{ℕ}
 use borrow.Author.Tests.{not-true, not-false}
 use Rattle.t800.specs.Packet.{refusedAnswer}
 use Rattle.t2_read_packet.specs.Answers.{readResult}
-use Rattle.t2_read_records.proofs.Numbers.{numbers-refused, numbers-read}
+use Rattle.t2_read_numbers.proofs.Numbers.{numbers-refused, numbers-read}
 use borrow.Author.Needs.{needs}
-use Rattle.t2_read_records.proofs.read_numbers.Statement.{statement}
-use Rattle.t2_read_records.proofs.read_numbers.Tie as tie
+use Rattle.t2_read_numbers.proofs.read_numbers.Statement.{statement}
+use Rattle.t2_read_numbers.proofs.read_numbers.Tie as tie
 
 returns : tie.Need-returns
 returns c =

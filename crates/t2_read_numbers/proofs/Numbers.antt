@@ -14,7 +14,7 @@ use Rattle.t800.specs.State.{reader, layer}
 use Rattle.t800.specs.Ranges.{validState}
 use Rattle.t800.specs.Packet.{read}
 use Rattle.t800.proofs.Laws.Tests.{on-eq}
-use Rattle.t2_read_records.specs.Reading.{wrongListNumber, wrongList, readNumbers, toFill}
+use Rattle.t2_read_numbers.specs.Reading.{wrongListNumber, wrongList, readNumbers, toFill}
 
 -- ---- four words for each record
 

@@ -1,7 +1,7 @@
--- `t2_read_records::to_fill` meets its contract.
-use Rattle.t2_read_records.proofs.Numbers.{fill-found, fill-9, fill-12, fill-13, fill-none}
-use Rattle.t2_read_records.proofs.to_fill.Statement.{statement}
-use Rattle.t2_read_records.proofs.to_fill.Tie as tie
+-- `t2_read_numbers::to_fill` meets its contract.
+use Rattle.t2_read_numbers.proofs.Numbers.{fill-found, fill-9, fill-12, fill-13, fill-none}
+use Rattle.t2_read_numbers.proofs.to_fill.Statement.{statement}
+use Rattle.t2_read_numbers.proofs.to_fill.Tie as tie
 
 returns : tie.Need-returns
 returns c = let s = c .before .before in fill-found (s .args .a) (s .args .room) (c .if1 .taken)

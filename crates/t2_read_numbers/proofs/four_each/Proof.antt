@@ -1,7 +1,7 @@
--- `t2_read_records::four_each` meets its contract.
-use Rattle.t2_read_records.proofs.Numbers.{not-four-each, four-each}
-use Rattle.t2_read_records.proofs.four_each.Statement.{statement}
-use Rattle.t2_read_records.proofs.four_each.Tie as tie
+-- `t2_read_numbers::four_each` meets its contract.
+use Rattle.t2_read_numbers.proofs.Numbers.{not-four-each, four-each}
+use Rattle.t2_read_numbers.proofs.four_each.Statement.{statement}
+use Rattle.t2_read_numbers.proofs.four_each.Tie as tie
 
 returns : tie.Need-returns
 returns c = let s = c .before in not-four-each (s .args .words) (s .args .room) (c .if1 .taken)

@@ -1,0 +1,75 @@
+// The read on numbers with room for so many records, and how many records are then to be stored.
+ghost use mathlib.Core.Path.{_≡_};
+ghost use Prim.Native.Nat.{_*_};
+ghost use lib.Dec.{eqb};
+ghost use Rattle.t2_read_packet.specs.Answers.{readResult};
+ghost use Rattle.t2_read_numbers.specs.Reading.{wrongListNumber, readNumbers, toFill};
+use t800::Markers;
+use t800::ReadAnswer;
+
+// Four words for each record.
+fn four_each(words: usize, room: usize) -> bool
+    ensures { λ r. ⌜ r ≡ eqb words (4 * room) ⌝ }
+{
+    if words / 4 != room {
+        return false;
+    }
+    words % 4 == 0
+}
+
+// 5 and 6 are looked for before the list's 3.
+fn wrong_list(state: &[u32], scratch: &[u32]) -> u32
+    ensures { λ r. ⌜ r ≡ wrongListNumber (now (state .entry)) (now (scratch .entry)) ⌝ }
+{
+    if !tcd_state::valid_state(tcd_style::READER, state, scratch.len()) {
+        return t2_read_packet::BAD_STATE;
+    }
+    if state[3] == tcd_style::NOT_YET_INCLUDED {
+        return t2_read_packet::NO_MORE_LAYERS;
+    }
+    t2_read_packet::WRONG_LIST
+}
+
+// The read into numbers, which must be four for each record that there is room for.
+pub fn read_numbers(
+    state: &mut [u32],
+    scratch: &mut [u32],
+    src: &[u8],
+    markers: Markers,
+    reports: &mut [u32],
+    numbers: &mut [u32],
+    room: usize,
+) -> ReadAnswer
+    ensures { λ r. ⌜ readResult (now (state .exit)) (now (scratch .exit)) (now (reports .exit)) (now (numbers .exit)) r ≡ readNumbers (now (state .entry)) (now (scratch .entry)) markers (now (src .entry)) (now (reports .entry)) (now (numbers .entry)) room ⌝ }
+{
+    if !four_each(numbers.len(), room) {
+        return ReadAnswer {
+            refusal: wrong_list(state, scratch),
+            present: 0,
+            taken: 0,
+            segments: 0,
+            sop: 0,
+            eph: 0,
+        };
+    }
+    t2::read(state, scratch, src, markers, reports, numbers)
+}
+
+// How many records a read stores: as many as it found, all where it wiped them, and none where it changed nothing.
+pub fn to_fill(a: ReadAnswer, room: usize) -> usize
+    ensures { λ r. ⌜ r ≡ toFill a room ⌝ }
+{
+    if a.refusal == 0 {
+        return a.segments as usize;
+    }
+    if a.refusal == 9 {
+        return room;
+    }
+    if a.refusal == 12 {
+        return room;
+    }
+    if a.refusal == 13 {
+        return room;
+    }
+    0
+}
