@@ -10,6 +10,9 @@ returns c =
     let a = c .before .before .before .before .before .before .before .before .before .args in
     write-unlisted (a .state .now) (a .scratch .now) (contribution (a .counts .now) (a .lengths .now) (a .marks .now)) (a .body .now) (record { sop = a .sop; eph = a .eph }) (a .number) (a .output .now) (a .answer .now) (c .if1 .taken)
 
+put-one-requires : tie.Need-put-one-requires
+put-one-requires c κs = c .before .before .before .before .before .before .before .before .before .before .before .if1 .left
+
 returns-2 : tie.Need-returns-2
 returns-2 c =
     let a = c .before .before .before .before .before .before .before .before .before .before .before .before .before .before .before .before .before .before .before .before .before .before .before .args in
@@ -22,10 +25,10 @@ tonkelvi-write-spec =
     tie.close
     (tie.spec
     returns
-    (λ c κs. search needs)
-    (λ c κs. search needs)
-    (λ c. search needs)
-    (λ c. search needs)
-    (λ c. search needs)
-    (λ c. search needs)
+    (λ c κs. tt)
+    put-one-requires
+    (λ c. c .before .before .before .before .before .before .before .before .before .before .write .kept .0)
+    (λ c. c .before .before .before .before .before .before .before .before .before .before .write .kept .1 .0)
+    (λ c. c .before .before .before .before .before .before .before .before .before .before .write .kept .1 .1 .1 .1 .1 .1 .1 .1 .0)
+    (λ c. c .before .before .put-one .kept .0)
     returns-2)
