@@ -57,13 +57,13 @@ use Rattle.t2_records.proofs.fill as p
 use Rattle.t2_records.proofs.fill.Symbol as p-def
 use Rattle.t2_records.proofs.fill.Symbol.{name as #p}
 use Rattle.t2_records.proofs.fill.Met as p-thm
-use Rattle.capi.specs.Calls.{ReadCall, readCall}
-use Rattle.capi.specs.Numbers.{numbersCall}
-use Rattle.capi.proofs.Laws.{filled-is-call}
-use Rattle.capi.proofs.read_words as g
-use Rattle.capi.proofs.read_words.Symbol as g-def
-use Rattle.capi.proofs.read_words.Symbol.{name as #g}
-use Rattle.capi.proofs.read_words.Met as g-thm
+use Rattle.capi_parts.specs.Calls.{ReadCall, readCall}
+use Rattle.capi_parts.specs.Numbers.{numbersCall}
+use Rattle.capi_parts.proofs.Laws.{filled-is-call}
+use Rattle.capi_parts.proofs.read_words as g
+use Rattle.capi_parts.proofs.read_words.Symbol as g-def
+use Rattle.capi_parts.proofs.read_words.Symbol.{name as #g}
+use Rattle.capi_parts.proofs.read_words.Met as g-thm
 use Rattle.capi.proofs.tonkelvi_read.Key.{name as #me}
 use Rattle.capi.proofs.tonkelvi_read as f
 use Rattle.capi.proofs.tonkelvi_read.Statement as stated
@@ -344,6 +344,6 @@ tonkelvi-read-spec 𝓤 H 𝓜 𝓖 𝓡 =
     entered 𝓤 H (tripleOf 𝓤 H (𝓖 .A) f.signature (f.spec 𝓤 H (𝓖 .A) (𝓜 .mem) (𝓡 .run)))
     (tables 𝓤 H 𝓜 𝓡 code.env .C) (tables 𝓤 H 𝓜 𝓡 code.env .Λ) #me code.function (code.unfolded 𝓤 H 𝓜 𝓡)
     (f-meets 𝓤 H (𝓖 .A) (givenOf 𝓤 H 𝓜 𝓖) (𝓜 .mem) (𝓡 .run) (tablesOf 𝓤 H 𝓜 (tables 𝓤 H 𝓜 𝓡 code.env))
-    (cited 𝓤 H (Core 𝓤 H (𝓖 .A) (𝓜 .mem) (𝓡 .run)) 𝓜 𝓡 code.env #g g-def.routine code.calls-capi·read-words (g-thm.met 𝓤 H 𝓜 𝓖 𝓡))
+    (cited 𝓤 H (Core 𝓤 H (𝓖 .A) (𝓜 .mem) (𝓡 .run)) 𝓜 𝓡 code.env #g g-def.routine code.calls-capi-parts·read-words (g-thm.met 𝓤 H 𝓜 𝓖 𝓡))
     (cited 𝓤 H (Count 𝓤 H (𝓖 .A) (𝓜 .mem) (𝓡 .run)) 𝓜 𝓡 code.env #c c-def.routine code.calls-t2-read-numbers·to-fill (c-thm.met 𝓤 H 𝓜 𝓖 𝓡))
     (cited 𝓤 H (Fill 𝓤 H (𝓖 .A) (𝓜 .mem) (𝓡 .run)) 𝓜 𝓡 code.env #p p-def.routine code.calls-t2-records·fill (p-thm.met 𝓤 H 𝓜 𝓖 𝓡)))

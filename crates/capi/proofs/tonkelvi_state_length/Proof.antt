@@ -1,7 +1,7 @@
 -- `capi::tonkelvi_state_length` meets its contract.
 use mathlib.Core.Path.{ap, _∙_}
 use borrow.Author.Needs.{needs}
-use Rattle.capi.specs.Calls.{stateLengthOf}
+use Rattle.capi_parts.specs.Calls.{stateLengthOf}
 use Rattle.capi.proofs.tonkelvi_state_length.Statement.{statement}
 use Rattle.capi.proofs.tonkelvi_state_length.Tie as tie
 

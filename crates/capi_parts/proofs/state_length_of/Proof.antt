@@ -1,10 +1,10 @@
--- `capi::state_length_of` meets its contract.
+-- `capi_parts::state_length_of` meets its contract.
 use mathlib.Core.Path.{_∙_, sym}
 use borrow.Author.Needs.{needs}
 use Rattle.tcd_layout.proofs.Laws.Bands.{shape-not-refused}
-use Rattle.capi.proofs.Laws.{length-refused, length-given}
-use Rattle.capi.proofs.state_length_of.Statement.{statement}
-use Rattle.capi.proofs.state_length_of.Tie as tie
+use Rattle.capi_parts.proofs.Laws.{length-refused, length-given}
+use Rattle.capi_parts.proofs.state_length_of.Statement.{statement}
+use Rattle.capi_parts.proofs.state_length_of.Tie as tie
 
 returns : tie.Need-returns
 returns c = let s = c .before .before .args in length-refused (s .count) (s .bands) (sym (c .before .bad-shape .ensures) ∙ c .if1 .taken)

@@ -1,8 +1,8 @@
--- `capi::put_two` meets its contract.
+-- `capi_parts::put_two` meets its contract.
 use borrow.Author.Needs.{needs}
-use Rattle.capi.proofs.Laws.{two-set}
-use Rattle.capi.proofs.put_two.Statement.{statement}
-use Rattle.capi.proofs.put_two.Tie as tie
+use Rattle.capi_parts.proofs.Laws.{two-set}
+use Rattle.capi_parts.proofs.put_two.Statement.{statement}
+use Rattle.capi_parts.proofs.put_two.Tie as tie
 
 returns : tie.Need-returns
 returns c = two-set (c .args .answer .now) (c .args .a) (c .args .b) (c .pre)

@@ -15,6 +15,7 @@ use Rattle.t800.specs.declared.WriteAnswer.{WriteAnswer}
 use Rattle.t800.specs.declared.ReadAnswer.{ReadAnswer}
 use Rattle.t800.specs.State.{stateLength}
 use Rattle.t800.specs.Ranges.{badShape}
+use Rattle.t800.specs.Start.{StartResult, start}
 use Rattle.t800.specs.WriteHeader.{Contribution}
 use Rattle.t800.specs.Packet.{measure, write, ReadResult, refusedAnswer}
 use Rattle.t800.proofs.Laws.Tests.{if-true, if-false}
@@ -23,8 +24,8 @@ use Rattle.t2_records.specs.declared.Segment.{Segment}
 use Rattle.t2_records.specs.Segments.{wordsOf, filled}
 use Rattle.t2_read_numbers.specs.Reading.{readNumbers, toFill}
 use Rattle.t2_read_records.proofs.Structs.{none-stored, filled-is-read}
-use Rattle.capi.specs.Calls.{stateLengthOf, measured, measureCall, written, writeCall, readAnswer, ReadCall, readOf, readCall}
-use Rattle.capi.specs.Numbers.{NumbersCall, numbersOf, numbersCall}
+use Rattle.capi_parts.specs.Calls.{stateLengthOf, measured, measureCall, written, writeCall, readAnswer, ReadCall, readOf, readCall}
+use Rattle.capi_parts.specs.Numbers.{NumbersCall, numbersOf, numbersCall}
 
 -- ---- all words of a list set
 
@@ -49,6 +50,10 @@ five-long l a b c d h =
     omega arith
 
 -- ---- the calls
+
+pub started-with : (r n : ℕ) (bs cs : List Band) (style : ℕ) (planes lent : List ℕ) (x : StartResult) → x ≡ start r n bs style planes lent → bs ≡ cs
+    → x ≡ start r n cs style planes lent
+started-with r n bs cs style planes lent x e f = e ∙ ap (λ (ds : List Band). start r n ds style planes lent) f
 
 pub length-refused : (n : ℕ) (bs : List Band) → badShape n (take n bs) ≡ true → 0 ≡ stateLengthOf n bs
 unfolding stateLengthOf

@@ -1,8 +1,8 @@
--- `capi::put_five` meets its contract.
+-- `capi_parts::put_five` meets its contract.
 use borrow.Author.Needs.{needs}
-use Rattle.capi.proofs.Laws.{five-long, five-set}
-use Rattle.capi.proofs.put_five.Statement.{statement}
-use Rattle.capi.proofs.put_five.Tie as tie
+use Rattle.capi_parts.proofs.Laws.{five-long, five-set}
+use Rattle.capi_parts.proofs.put_five.Statement.{statement}
+use Rattle.capi_parts.proofs.put_five.Tie as tie
 
 slice-write-answer-5 : tie.Need-slice-write-answer-5
 slice-write-answer-5 c = five-long (c .args .answer .now) (c .args .a) (c .args .b) (c .args .c) (c .args .d) (c .pre)

@@ -1,8 +1,8 @@
--- `capi::read_words` meets its contract.
+-- `capi_parts::read_words` meets its contract.
 use borrow.Author.Needs.{needs}
-use Rattle.capi.proofs.Laws.{read-unlisted, read-listed}
-use Rattle.capi.proofs.read_words.Statement.{statement}
-use Rattle.capi.proofs.read_words.Tie as tie
+use Rattle.capi_parts.proofs.Laws.{read-unlisted, read-listed}
+use Rattle.capi_parts.proofs.read_words.Statement.{statement}
+use Rattle.capi_parts.proofs.read_words.Tie as tie
 
 returns : tie.Need-returns
 returns c =

@@ -8,7 +8,7 @@ use Rattle.t800.specs.declared.Markers.{Markers}
 use Rattle.t800.specs.Packet.{ReadResult, refusedAnswer}
 use Rattle.t2_read_packet.specs.Answers.{readResult}
 use Rattle.t2_read_numbers.specs.Reading.{readNumbers}
-use Rattle.capi.specs.Calls.{readAnswer}
+use Rattle.capi_parts.specs.Calls.{readAnswer}
 
 pub record NumbersCall : Type 0 where
   pub result : ReadResult

@@ -1,8 +1,8 @@
--- `capi::put_one` meets its contract.
+-- `capi_parts::put_one` meets its contract.
 use borrow.Author.Needs.{needs}
-use Rattle.capi.proofs.Laws.{one-set}
-use Rattle.capi.proofs.put_one.Statement.{statement}
-use Rattle.capi.proofs.put_one.Tie as tie
+use Rattle.capi_parts.proofs.Laws.{one-set}
+use Rattle.capi_parts.proofs.put_one.Statement.{statement}
+use Rattle.capi_parts.proofs.put_one.Tie as tie
 
 returns : tie.Need-returns
 returns c = one-set (c .args .answer .now) (c .args .a) (c .pre)
