@@ -91,7 +91,7 @@ uint32_t tonkelvi_measure(
     bool sop, bool eph,
     uint64_t *answer, size_t n_answer);
 
-/* Writes the next packet to the front of `output`: SOP with the low 16 bits of `number`, header, EPH, body. Output behind it is
+/* Writes the next packet to the front of `output`: SOP with the low 16 bits of `number`, header, EPH, body. Output after it is
  * unchanged; state and scratch get the state after the packet.
  * answer, 1 word: the packet's bytes. Refusals: 5, 6, 3, 7, 8, 9, 10, 11. */
 uint32_t tonkelvi_write(
@@ -115,7 +115,7 @@ struct tonkelvi_segment {
 
 /* Reads the next packet's markers and header from the front of `src`. State and scratch get the state after the packet.
  * reports, 4 words a block: 0 absent, 1 first time, 2 again; zero planes; block planes; passes. Planes are 0 unless the first is 1.
- * records: the packet's segments, in order, at the front of the list; the structs behind them are unchanged. 164 records a block are
+ * records: the packet's segments, in order, at the front of the list; the structs after them are unchanged. 164 records a block are
  * always enough.
  * numbers: a work list of exactly 4 words for each struct of `records`, with any content. Where the call gives 0 the words at its front
  * are those of the segments, field by field, and the others are unchanged.

@@ -46,12 +46,12 @@ module _ (rs : List Segment) where
   found-stored xs fs l e =
       let n : ℕ = length fs in
       let front : List ℕ = recordWords fs in
-      let behind : List ℕ = drop (length front) xs in
+      let after : List ℕ = drop (length front) xs in
       let k : length front ≡ 4 * n = record-words-length fs in
-      let both : length (front ++ behind) ≡ length front + length behind = length-append front behind in
-      filled-words (front ++ behind) n rs (omega arith) (omega arith)
-      ∙ ap (λ (j : ℕ). take j (front ++ behind) ++ drop j (wordsOf rs)) (sym k)
-      ∙ ap (λ (z : List ℕ). z ++ drop (length front) (wordsOf rs)) (take-append-seam front behind)
+      let both : length (front ++ after) ≡ length front + length after = length-append front after in
+      filled-words (front ++ after) n rs (omega arith) (omega arith)
+      ∙ ap (λ (j : ℕ). take j (front ++ after) ++ drop j (wordsOf rs)) (sym k)
+      ∙ ap (λ (z : List ℕ). z ++ drop (length front) (wordsOf rs)) (take-append-seam front after)
 
   -- all, from zeros
   all-stored : (xs : List ℕ) → length xs ≡ 4 * length rs → wordsOf (filled (wiped xs) (length rs) rs) ≡ wiped (wordsOf rs)

@@ -1,4 +1,4 @@
--- Demand 3 of the read into structs (document 01, "The round trip"), as t2's Calls.antt says it of the read into numbers.
+-- Demand 3 of the read into structs (SCOPE S15), as t2_theorems says it of the read into numbers (specs/Calls.antt there).
 use mathlib.Core.Path.{_≡_}
 use mathlib.Core.Logic.{_≢_}
 use Prim.Native.Nat.{ℕ, _*_, _<_}
