@@ -17,6 +17,9 @@ number-requires c κs = search needs
 number-requires-2 : tie.Need-number-requires-2 Inv-loop μ-loop
 number-requires-2 c κs = search needs
 
+least-requires : tie.Need-least-requires Inv-loop μ-loop
+least-requires c κs = search needs
+
 loop-holds : tie.Need-loop-holds Inv-loop μ-loop
 loop-holds c = refl
 
@@ -35,6 +38,9 @@ loop-less c = search needs
 loop-again : tie.Need-loop-again Inv-loop μ-loop
 loop-again c = search needs
 
+fault-at-requires : tie.Need-fault-at-requires Inv-loop μ-loop
+fault-at-requires c κs = search needs
+
 same-length : tie.Need-same-length Inv-loop μ-loop
 same-length c = search needs
 
@@ -49,11 +55,13 @@ run-on-spec =
     μ-loop
     number-requires
     number-requires-2
+    least-requires
     loop-holds
     sub-left
     call-requires
     plus-requires
     loop-less
     loop-again
+    fault-at-requires
     same-length
     returns)
