@@ -237,6 +237,24 @@ impl Precinct {
         }
     }
 
+    /// A fresh precinct by the crate's own functions: each tree reset, and a writer's zero planes set block by block.
+    pub fn started(writer: bool, bands: &[[u32; 3]], style: u32, planes: &[u32], empty: bool) -> Precinct {
+        let mut words = vec![if writer { 1 } else { 2 }, bands.len() as u32, style, 0];
+        words.extend(bands.as_flattened());
+        words.resize(crate::model::layout(bands).1, 0);
+        let mut precinct = Precinct::from_words(&words, empty);
+        let mut planes = planes.iter();
+        for band in &mut precinct.bands {
+            opj_tgt_reset(band.inclusion);
+            opj_tgt_reset(band.zero_planes);
+            for (i, block) in band.enc.iter_mut().enumerate() {
+                block.numbps = *planes.next().unwrap();
+                opj_tgt_setvalue(band.zero_planes, i as u32, band.planes as i32 - block.numbps as i32);
+            }
+        }
+        precinct
+    }
+
     pub fn words(&self) -> Vec<u32> {
         let mut words = vec![self.role, self.bands.len() as u32, self.style, self.layer];
         for i in 0..3 {
