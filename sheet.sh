@@ -1,6 +1,6 @@
 #!/bin/sh
-# The sheet of drawings, one row a packet: ./sheet.sh [FOLDER..]; files are fine too. Without a path it makes three drawings of a steel frame
-# first, with Debian's encoder. What is missing of Debian's packages is installed; Rattle's kit (`rt`) must be there.
+# The sheet of drawings, one row a packet: ./sheet.sh [FOLDER..]; files are fine too. Without a folder it makes three drawings of a steel
+# frame first, with Debian's encoder. What is missing of Debian's packages is installed; Rattle's kit (`rt`) must be there.
 set -eu
 root=$(cd "$(dirname "$0")" && pwd)
 . "$root/tools/need.sh"

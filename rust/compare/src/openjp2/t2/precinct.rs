@@ -274,7 +274,7 @@ impl Precinct {
         self.tcp.csty = if sop { 2 } else { 0 } | if eph { 4 } else { 0 };
     }
 
-    /// Gives the blocks their passes of the next layer. The crate looks for them behind those of the layers before, which are not kept:
+    /// Gives the blocks their passes of the next layer. The crate looks for them after those of the layers before, which are not kept:
     /// the pointers lie as far before the lists. Without a body each block's bytes are 0, whatever its passes say.
     pub fn give(&mut self, counts: &[u32], lengths: &[u32], marks: &[u8], body: Option<&[u8]>) {
         self.passes.clear();
@@ -407,7 +407,7 @@ impl Precinct {
     }
 }
 
-/// The segments that new passes go into: from the last one on, or from the one behind it if that is full.
+/// The segments that new passes go into: from the last one on, or from the one after it if that is full.
 fn first_new_segment(block: &opj_tcd_cblk_dec_t) -> usize {
     match segments(block).last() {
         None => 0,
