@@ -1,4 +1,4 @@
-// Runs fixed lists of packet calls and compares every answer. The lists are the files of data/, which tools/make_vectors.py wrote: most
+// Runs lists of packet calls and compares every answer. Its arguments name the lists, files of data/ that tools/make_vectors.py wrote: most
 // answers are those of crate openjp2 0.6.1's own code, and those of refusals that the crate has not are by the scope (docs/SCOPE.md) alone.
 ghost use mathlib.Core.Path.{_≡_};
 ghost use Prim.Native.Nat.{_≤_};
@@ -6,6 +6,7 @@ ghost use lib.ListN.{length};
 ghost use Rattle.io.specs.Counts.{Counts};
 use t800::Band;
 use t800::Markers;
+use t800::MeasureAnswer;
 use t800::ReadAnswer;
 use t800::WriteAnswer;
 
@@ -465,17 +466,28 @@ fn start_in(
 
 // ---- measure and write
 
+// What a packet call was asked besides its lists.
+struct Asked {
+    kind: u64,
+    markers: Markers,
+    packet: u32,
+}
+
 fn measured(
     list: &[u8],
     at: usize,
-    markers: Markers,
+    asked: Asked,
     counts: &[u32],
     lengths: &[u32],
     marks: &[u8],
     state: &[u32],
     scratch: &mut [u32],
 ) -> Compared {
-    let r = t2::measure(state, scratch, counts, lengths, marks, markers);
+    let r = t2::measure(state, scratch, counts, lengths, marks, asked.markers);
+    expect_measured(list, at, r, scratch)
+}
+
+fn expect_measured(list: &[u8], at: usize, r: MeasureAnswer, scratch: &[u32]) -> Compared {
     let a = expect(list, so_far(at), r.refusal as u64);
     let b = expect(list, a, r.header);
     let c = expect(list, b, r.body);
@@ -500,8 +512,7 @@ fn expect_written(
 fn written_to(
     list: &[u8],
     at: usize,
-    markers: Markers,
-    packet: u32,
+    asked: Asked,
     counts: &[u32],
     lengths: &[u32],
     marks: &[u8],
@@ -517,8 +528,8 @@ fn written_to(
         lengths,
         marks,
         body,
-        markers,
-        packet,
+        asked.markers,
+        asked.packet,
         output,
     );
     expect_written(list, at, r, state, scratch, output)
@@ -527,8 +538,7 @@ fn written_to(
 fn written_of(
     list: &[u8],
     at: usize,
-    markers: Markers,
-    packet: u32,
+    asked: Asked,
     counts: &[u32],
     lengths: &[u32],
     marks: &[u8],
@@ -543,8 +553,7 @@ fn written_of(
     written_to(
         list,
         n.next,
-        markers,
-        packet,
+        asked,
         counts,
         lengths,
         marks,
@@ -558,8 +567,7 @@ fn written_of(
 fn written(
     list: &[u8],
     at: usize,
-    markers: Markers,
-    packet: u32,
+    asked: Asked,
     counts: &[u32],
     lengths: &[u32],
     marks: &[u8],
@@ -572,8 +580,7 @@ fn written(
     written_of(
         list,
         n.next,
-        markers,
-        packet,
+        asked,
         counts,
         lengths,
         marks,
@@ -586,9 +593,7 @@ fn written(
 fn with_marks(
     list: &[u8],
     at: usize,
-    kind: u64,
-    markers: Markers,
-    packet: u32,
+    asked: Asked,
     counts: &[u32],
     lengths: &[u32],
     marks: &mut [u8],
@@ -596,28 +601,16 @@ fn with_marks(
     scratch: &mut [u32],
 ) -> Compared {
     let next = fill_bytes(list, at, marks);
-    if kind == MEASURE {
-        return measured(list, next, markers, counts, lengths, marks, state, scratch);
+    if asked.kind == MEASURE {
+        return measured(list, next, asked, counts, lengths, marks, state, scratch);
     }
-    written(
-        list,
-        next,
-        markers,
-        packet,
-        counts,
-        lengths,
-        marks,
-        state,
-        scratch,
-    )
+    written(list, next, asked, counts, lengths, marks, state, scratch)
 }
 
 fn with_lengths(
     list: &[u8],
     at: usize,
-    kind: u64,
-    markers: Markers,
-    packet: u32,
+    asked: Asked,
     counts: &[u32],
     lengths: &mut [u32],
     state: &mut [u32],
@@ -630,9 +623,7 @@ fn with_lengths(
     with_marks(
         list,
         n.next,
-        kind,
-        markers,
-        packet,
+        asked,
         counts,
         lengths,
         &mut marks[..size],
@@ -644,9 +635,7 @@ fn with_lengths(
 fn with_counts(
     list: &[u8],
     at: usize,
-    kind: u64,
-    markers: Markers,
-    packet: u32,
+    asked: Asked,
     counts: &mut [u32],
     state: &mut [u32],
     scratch: &mut [u32],
@@ -658,9 +647,7 @@ fn with_counts(
     with_lengths(
         list,
         n.next,
-        kind,
-        markers,
-        packet,
+        asked,
         counts,
         &mut lengths[..size],
         state,
@@ -671,25 +658,14 @@ fn with_counts(
 fn contribute(
     list: &[u8],
     at: usize,
-    kind: u64,
+    asked: Asked,
     state: &mut [u32],
     scratch: &mut [u32],
 ) -> Compared {
-    let m = number(list, at);
-    let packet = number(list, m.next);
-    let n = number(list, packet.next);
+    let n = number(list, at);
     let mut counts = blocks_room();
     let size = fit(n.value, &counts);
-    with_counts(
-        list,
-        n.next,
-        kind,
-        markers_of(m.value),
-        to_word(packet.value),
-        &mut counts[..size],
-        state,
-        scratch,
-    )
+    with_counts(list, n.next, asked, &mut counts[..size], state, scratch)
 }
 
 // ---- read
@@ -780,19 +756,17 @@ fn with_input(
     )
 }
 
-fn read_in(list: &[u8], at: usize, state: &mut [u32], scratch: &mut [u32]) -> Compared {
-    let m = number(list, at);
-    let n = number(list, m.next);
+fn read_in(
+    list: &[u8],
+    at: usize,
+    markers: Markers,
+    state: &mut [u32],
+    scratch: &mut [u32],
+) -> Compared {
+    let n = number(list, at);
     let mut input = bytes_room(0);
     let size = fit_bytes(n.value, &input);
-    with_input(
-        list,
-        n.next,
-        markers_of(m.value),
-        &mut input[..size],
-        state,
-        scratch,
-    )
+    with_input(list, n.next, markers, &mut input[..size], state, scratch)
 }
 
 // ---- one call after another
@@ -804,10 +778,18 @@ fn packet_call(
     state: &mut [u32],
     scratch: &mut [u32],
 ) -> Compared {
+    let m = number(list, at);
+    let markers = markers_of(m.value);
     if kind == READ {
-        return read_in(list, at, state, scratch);
+        return read_in(list, m.next, markers, state, scratch);
     }
-    contribute(list, at, kind, state, scratch)
+    let packet = number(list, m.next);
+    let asked = Asked {
+        kind,
+        markers,
+        packet: to_word(packet.value),
+    };
+    contribute(list, packet.next, asked, state, scratch)
 }
 
 fn with_scratch(list: &[u8], at: usize, kind: u64, state: &mut [u32]) -> Compared {
@@ -900,20 +882,12 @@ fn call(list: &[u8], at: usize, words: usize, state: &mut [u32]) -> Done {
     ended(c, size)
 }
 
-// How many answers were as listed, of how many, and what is wrong with the list itself.
+// How many answers were as listed, of how many, and whether the lists were there and whole.
 struct Score {
     good: u64,
     of: u64,
-    fault: u32,
+    whole: bool,
 }
-
-const WHOLE: u32 = 0;
-
-const MISSING: u32 = 1;
-
-const LONG: u32 = 2;
-
-const CUT: u32 = 3;
 
 fn plus(sum: u64, n: u32) -> u64 {
     if sum < 0xffff_ffff {
@@ -923,20 +897,15 @@ fn plus(sum: u64, n: u32) -> u64 {
     }
 }
 
-fn no_score(fault: u32) -> Score {
+fn no_score(whole: bool) -> Score {
     Score {
         good: 0,
         of: 0,
-        fault,
+        whole,
     }
 }
 
-// The last call must end where the list does.
-fn fault_at(list: &[u8], end: usize) -> u32 {
-    if end == list.len() { WHOLE } else { CUT }
-}
-
-// A list begins with its calls and its answers, and goes on with the calls, of a byte each or more.
+// A list begins with its calls and its answers, and goes on with the calls, of a byte each or more. It must end where the last one does.
 fn run_on(list: &[u8], state: &mut [u32]) -> Score {
     let calls = number(list, 0);
     let answers = number(list, calls.next);
@@ -954,7 +923,7 @@ fn run_on(list: &[u8], state: &mut [u32]) -> Score {
     Score {
         good,
         of: answers.value,
-        fault: fault_at(list, next),
+        whole: next == list.len(),
     }
 }
 
@@ -968,7 +937,7 @@ fn run_file(fd: i32) -> Score {
     let mut room = io::large_buffer();
     let n = io::read_full(fd, &mut room);
     if n == 65536 {
-        return no_score(LONG);
+        return no_score(false);
     }
     run(&room[..n])
 }
@@ -976,7 +945,7 @@ fn run_file(fd: i32) -> Score {
 fn score_of(file: &[u8]) -> Score {
     let fd = os::open_read(file);
     if fd < 0 {
-        return no_score(MISSING);
+        return no_score(false);
     }
     let s = run_file(fd);
     libc::close(fd);
@@ -985,75 +954,47 @@ fn score_of(file: &[u8]) -> Score {
 
 // ---- what is written
 
-fn print_fault(fault: u32) {
-    if fault == MISSING {
-        io::write_all(1, b"; the list is missing");
-    }
-    if fault == LONG {
-        io::write_all(1, b"; the list is too long for its room");
-    }
-    if fault == CUT {
-        io::write_all(1, b"; the list does not end where its last call does");
-    }
-}
-
 fn print(s: Score) {
     io::write_all(1, b": ");
     io::print_decimal(1, s.good);
     io::write_all(1, b" of ");
     io::print_decimal(1, s.of);
-    print_fault(s.fault);
+    if !s.whole {
+        io::write_all(1, b", a list is missing, cut or too long");
+    }
     io::write_all(1, b"\n");
-}
-
-fn first_fault(a: u32, b: u32) -> u32 {
-    if a == WHOLE { b } else { a }
 }
 
 fn sum(a: Score, b: Score) -> Score {
     Score {
         good: plus(a.good, to_word(b.good)),
         of: plus(a.of, to_word(b.of)),
-        fault: first_fault(a.fault, b.fault),
+        whole: both(a.whole, b.whole),
     }
 }
 
-// A list's line; the sum with the lists before.
-fn group(file: &[u8], about: &[u8], before: Score) -> Score {
-    let s = score_of(file);
-    io::write_all(1, file);
-    io::write_all(1, about);
+// The line of the list that argument i names; the sum with the lists before.
+fn listed(i: usize, before: Score) -> Score {
+    let mut name = io::buffer();
+    let n = os::arg(i, &mut name);
+    let s = score_of(&name[..n]);
+    io::write_all(1, &name[..n]);
     print(s);
     sum(before, s)
 }
 
+fn run_all(arguments: usize) -> Score {
+    let mut all = no_score(true);
+    let mut i: usize = 1;
+    while i < arguments {
+        all = listed(i, all);
+        i += 1;
+    }
+    all
+}
+
 fn main() {
-    let hand = group(
-        b"hand",
-        b", packets of the scope beside its table and slips near them",
-        no_score(WHOLE),
-    );
-    let published = group(
-        b"published",
-        b", worked headers as recalled from T.800",
-        hand,
-    );
-    let writes = group(b"writes", b", packets written", published);
-    let loaded = group(b"loaded", b", packets written from loaded states", writes);
-    let reads = group(b"reads", b", packets read as they were written", loaded);
-    let damaged = group(
-        b"damaged",
-        b", packets damaged, cut or made of other bytes",
-        reads,
-    );
-    let markers = group(
-        b"markers",
-        b", packets with a marker missing, cut or where none is due",
-        damaged,
-    );
-    let reloaded = group(b"reloaded", b", packets read from loaded states", markers);
-    let big = group(b"big", b", packets of big geometries", reloaded);
-    let refusals = group(b"refusals", b", refusals by the scope alone", big);
+    let all = run_all(os::arg_count());
     io::write_all(1, b"all");
-    print(refusals);
+    print(all);
 }

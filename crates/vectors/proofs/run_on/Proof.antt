@@ -38,9 +38,6 @@ loop-less c = search needs
 loop-again : tie.Need-loop-again Inv-loop μ-loop
 loop-again c = search needs
 
-fault-at-requires : tie.Need-fault-at-requires Inv-loop μ-loop
-fault-at-requires c κs = search needs
-
 same-length : tie.Need-same-length Inv-loop μ-loop
 same-length c = search needs
 
@@ -62,6 +59,5 @@ run-on-spec =
     plus-requires
     loop-less
     loop-again
-    fault-at-requires
     same-length
     returns)
