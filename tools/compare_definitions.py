@@ -1,7 +1,7 @@
 #!/usr/bin/env python3
 """Compares the definitions of crates/t800 with crate openjp2's own answers on random runs of calls. In the repository's root:
 
-    (cd rust && OPENJP2_SRC=.. cargo build --release --bin crate_answers)       # OPENJP2_SRC names the src folder of the crate's sources
+    (cd rust && OPENJP2_SRC=FOLDER cargo build --release --bin crate_answers)   # FOLDER is the src folder of the crate's sources
     python3 tools/compare_definitions.py --runs 600 --seed 1 [--jobs 2] [--keep DIR]
 
 crate_answers runs the code of crate openjp2 0.6.1; rust/compare/src/answers.rs says how it is asked. Each run is one precinct with some

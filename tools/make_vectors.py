@@ -1,7 +1,7 @@
 #!/usr/bin/env python3
 """Writes the lists of crates/vectors: calls of the engine with the answers that they must give. In the repository's root:
 
-    (cd rust && OPENJP2_SRC=.. cargo build --release --bin crate_answers)       # OPENJP2_SRC names the src folder of the crate's sources
+    (cd rust && OPENJP2_SRC=FOLDER cargo build --release --bin crate_answers)   # FOLDER is the src folder of the crate's sources
     python3 tools/make_vectors.py
 
 This gives the files that are there byte for byte; --seed gives others. crate_answers runs the code of crate openjp2 0.6.1
@@ -9,16 +9,30 @@ This gives the files that are there byte for byte; --seed gives others. crate_an
 it, comes from the crate, but for those of the lists `hand` and `refusals` that the scope (docs/SCOPE.md) gives alone: the crate has no such
 refusal, and there the number stands in this file, with the buffers as the scope leaves them.
 
+The lists, which crates/vectors/args names:
+
+    hand        packets of the scope that are no rows of its table, and slips near them
+    published   worked headers as recalled from T.800
+    writes      packets written                       loaded      packets written from loaded states
+    reads       packets read as they were written     reloaded    packets read from loaded states
+    damaged     packets damaged, cut or made of other bytes
+    markers     packets with a marker missing, cut or where none is due
+    big         packets of big geometries
+    refusals    refusals by the scope alone
+
 A list is a file of bytes, crates/vectors/data/NAME. A number below 251 is one byte; else 252, 253, 254 or 255 and then 1, 2, 4 or 8 bytes,
 the highest first. In a row of numbers 251, how often, and a number stand for that number so often. A list is the number of its calls, the
 number of its answers, and then each call; it ends with the last one:
 
     0 load      n, row of words
     1 start     role, band count, row of nine numbers of bands, style, words of the state, n, row of block planes; answer, check(state)
-    2 measure   words of scratch, SOP + 2 EPH, packet number, n, row of counts, n, row of lengths, n, marks (bytes); refusal, header, body, check(scratch)
-    3 write     the same up to the marks, body bytes, output bytes; refusal, bytes, front n, body n, rest, front (bytes), check(state), check(scratch)
-    4 read      words of scratch, SOP + 2 EPH, n, input (bytes), words of reports, words of records; refusal, present, taken, segments, SOP mark,
-                EPH mark, then of reports and of records: n, rest, row of n words; check(state), check(scratch)
+    2 measure   words of scratch, SOP + 2 EPH, packet number, n, row of counts, n, row of lengths, n, marks (bytes);
+                refusal, header, body, check(scratch)
+    3 write     the same up to the marks, body bytes, output bytes;
+                refusal, bytes, front n, body n, rest, front (bytes), check(state), check(scratch)
+    4 read      words of scratch, SOP + 2 EPH, n, input (bytes), words of reports, words of records;
+                refusal, present, taken, segments, SOP mark, EPH mark, then of reports and of records: n, rest, row of n words;
+                check(state), check(scratch)
     5 poke      place and word: the state's word there is set
 
 A list that is lent is filled before: state 7, scratch 5, output 165, reports 9, records 8; a body has (7 i + 3) mod 256 at i.
@@ -33,7 +47,7 @@ import compare_definitions as generator
 from compare_definitions import AMPLE, Oracle, Run, Unexpected, add_program, hexed, spaced
 
 STATE, SCRATCH, OUTPUT, REPORTS, RECORDS = 7, 5, 165, 9, 8
-STATE_MOST, COUNTS_MOST, PASSES_MOST, BYTES_MOST, RECORDS_MOST = 147463, 12288, 700, 4000, 49152
+STATE_MOST, COUNTS_MOST, PASSES_MOST, BYTES_MOST, RECORDS_MOST, LIST_MOST = 147463, 12288, 700, 4000, 49152, 65535
 HEADER_WORDS = 13
 
 
@@ -155,6 +169,7 @@ class Calls:
         return numbers([self.calls, self.answers]) + self.data
 
     def write_file(self, folder):
+        assert len(self.bytes()) <= LIST_MOST
         with open(os.path.join(folder, self.name), "wb") as f:
             f.write(bytes(self.bytes()))
 
