@@ -1,16 +1,9 @@
 #!/bin/sh
-# The sheet of a folder of drawings, one row a packet: ./sheet.sh [FOLDER]. Without a folder it makes three drawings of a steel frame first,
-# with Debian's encoder. What is missing of Debian's packages is installed; Rattle's kit (`rt`) must be there.
+# The sheet of drawings, one row a packet: ./sheet.sh [FOLDER..]; files are fine too. Without a folder it makes three drawings of a steel
+# frame first, with Debian's encoder. What is missing of Debian's packages is installed; Rattle's kit (`rt`) must be there.
 set -eu
-cd "$(dirname "$0")"
-
-# need COMMAND PACKAGE
-need() {
-    command -v "$1" > /dev/null && return
-    echo "installing $2" >&2
-    sudo=; [ "$(id -u)" = 0 ] || sudo=sudo
-    $sudo apt-get install -y -q "$2" > /dev/null || { $sudo apt-get update -q > /dev/null; $sudo apt-get install -y -q "$2" > /dev/null; }
-}
+root=$(cd "$(dirname "$0")" && pwd)
+. "$root/tools/need.sh"
 
 # A frame of WIDTH x HEIGHT: columns and beams as double lines, bracing in every second bay, a border.
 frame() {
@@ -28,15 +21,17 @@ frame() {
     }'
 }
 
-folder=${1:-target/drawings}
 if [ $# = 0 ]; then
-    need opj_compress libopenjp2-tools
+    need libopenjp2-tools command -v opj_compress
+    cd "$root"
+    folder=target/drawings
     mkdir -p "$folder"
     frame 900 640 > "$folder/frame.pgm"
     opj_compress -i "$folder/frame.pgm" -o "$folder/layers.jp2" -r 40,10,1 -n 5 -SOP -EPH > /dev/null
     opj_compress -i "$folder/frame.pgm" -o "$folder/tiles.j2k" -r 20,1 -t 300,320 -p RPCL -c '[128,128]' > /dev/null
     opj_compress -i "$folder/frame.pgm" -o "$folder/lossy.j2k" -q 30,45 -I -p CPRL -b 32,32 > /dev/null
+    set -- "$folder"
 fi
-need cargo cargo
-(cd rust && cargo build --offline --quiet --release -p tonkelvi-cli) >&2
-exec rust/target/release/tonkelvi sheet "$folder"
+need cargo cargo --version
+(cd "$root/rust" && cargo build --offline --quiet --release -p tonkelvi-cli) >&2
+exec "$root/rust/target/release/tonkelvi" sheet "$@"

@@ -1,18 +1,18 @@
 #!/usr/bin/env python3
-"""Compares the definitions of crates/t800 with the crate's own answers on random runs of calls.
+"""Compares the definitions of crates/t800 with crate openjp2's own answers on random runs of calls. In the repository's root:
 
-    python3 tools/compare_definitions.py ORACLE --runs 600 --seed 1 [--jobs 2] [--keep DIR]
+    (cd rust && OPENJP2_SRC=FOLDER cargo build --release --bin crate_answers)   # FOLDER is the src folder of the crate's sources
+    python3 tools/compare_definitions.py --runs 600 --seed 1 [--jobs 2] [--keep DIR]
 
-ORACLE is the program that runs the code of crate openjp2 0.6.1 behind a line protocol (start, load, dump, write, read). Each run is one
-precinct with some calls on it. The calls come from a seeded generator; every answer, and the whole state after every call, comes from
-ORACLE and none from a model here. A run becomes one row of crates/t800/proofs/Table.antt. Rows stand in chunks, each a crate of a temporary
-repository beside a copy of crates/t800, outside the project and no part of its gate; `rt check` computes the definitions on them and
-proves `failing 0 rows ≡ []`.
+crate_answers runs the code of crate openjp2 0.6.1; rust/compare/src/answers.rs says how it is asked. Each run is one precinct with some
+calls on it. The calls come from a seeded generator; every answer, and the whole state after every call, comes from the crate. A run
+becomes one row of crates/t800/proofs/Table.antt. Rows stand in chunks, each a crate of a temporary repository beside a copy of
+crates/t800, outside the project and no part of its tests; `rt check` computes the definitions on them and proves `failing 0 rows ≡ []`.
 
 How answers are matched: write `ok` 0, `panic` 9, `failed` 11; read `ok` 0, `failed width` 9, `failed align` 12. Where a call fails on a
-short output and the same call panics with room enough, document 01 puts 9 before 11, and the row says 9; such calls are counted. The
-crate has none of the other numbers, and they are not compared. After a call that fails ORACLE itself puts the precinct back, so what the
-state after it shows is that the definition leaves it alone, as document 01 wants; the crate leaves its trees as far as it came.
+short output and the same call panics with room enough, the scope (docs/SCOPE.md) puts 9 before 11, and the row says 9; such calls are
+counted. The crate has none of the other numbers, and they are not compared. After a call that fails, crate_answers puts the precinct back,
+while the crate leaves its trees as far as it came: that a refused call leaves the state alone is the scope's demand, which the row checks.
 
 The exit status is 0 only if every chunk is proved and no answer was outside that list. For a chunk that is not proved the failing runs
 are named, and for the smallest of all the calls up to the first one that differs.
@@ -34,10 +34,19 @@ AMPLE = 1 << 20
 BODY_MOST = 300          # longer bodies are not built: the header alone is computed
 SEGMENT_MOST = (1 << 31) - 1
 COST_MOST = 300000       # of a chunk, by `cost_of`: some seconds, and below 2 GB
+PROGRAM = os.path.join(os.path.dirname(os.path.abspath(__file__)), "..", "rust", "target", "release", "crate_answers")
+
+
+def add_program(parser):
+    parser.add_argument("program", nargs="?", default=PROGRAM, help="crate_answers, if it is not in rust/target/release")
 
 
 class Oracle:
+    """The crate, asked line by line."""
+
     def __init__(self, program):
+        if not os.path.exists(program):
+            raise SystemExit("there is no %s: the head of this file says how it is built" % os.path.normpath(program))
         self.proc = subprocess.Popen([program], stdin=subprocess.PIPE, stdout=subprocess.PIPE, text=True, bufsize=1)
 
     def ask(self, line):
@@ -45,7 +54,7 @@ class Oracle:
         self.proc.stdin.flush()
         answer = self.proc.stdout.readline()
         if not answer:
-            raise SystemExit("the oracle ended at: " + line)
+            raise SystemExit("crate_answers ended at: " + line)
         return answer.rstrip()
 
     def words(self):
@@ -60,7 +69,7 @@ class Oracle:
 
 
 class Unexpected(Exception):
-    """An answer that has no number in document 01."""
+    """An answer that has no number in the scope."""
 
 
 # ---- rows as text
@@ -101,7 +110,7 @@ def level_sizes(w, h):
 # ---- one run
 
 class Run:
-    """A precinct, the steps of its row, and what was asked of the oracle for them."""
+    """A precinct, the steps of its row, and what was asked of the crate for them."""
 
     def __init__(self, rng, oracles, tally, bands, style, planes, kind):
         self.rng, self.tally, self.kind = rng, tally, kind
@@ -118,7 +127,7 @@ class Run:
         self.depths = [len(level_sizes(w, h)) for w, h, _ in bands for _ in range(w * h)]
         self.cost = 0
 
-    # the oracle's side
+    # the crate's side
 
     def tell(self, side, line):
         answer = (self.writer if side == "writer" else self.reader).ask(line)
@@ -219,7 +228,7 @@ class Run:
         elif answer in ("failed width", "failed align"):
             told = [9 if answer == "failed width" else 12, 0, 0, 0, 0, 0]
             reports, records = [], []
-            # a record for each segment that could come first: each has three bits or more of the input, or is of one block behind its end
+            # a record for each segment that could come first: each has three bits or more of the input, or is of one block after its end
             lent = min(164 * self.blocks, 8 * len(data) // 3 + 164 + self.blocks)
         else:
             raise Unexpected(answer)
@@ -351,7 +360,7 @@ def ending_in_ff(rng, run, how, sop):
 
 
 def stuffed(bits):
-    """Bits as bytes, with the stuffed bit behind FF, and zeros up to the last byte's end."""
+    """Bits as bytes, with the stuffed bit after FF, and zeros up to the last byte's end."""
     out, byte, left = [], 0, 8
     for b in bits + [0] * 7:
         left -= 1
@@ -420,7 +429,7 @@ def marker_trouble(rng, data, eph):
 
 
 def hunted(rng, run, sop, eph, base, wanted, tries):
-    """An input that the oracle answers as wanted, on a reader as it is now; or the last one tried."""
+    """An input that the crate answers as wanted, on a reader as it is now; or the last one tried."""
     words = run.reader.words()
     data = list(base)
     for _ in range(tries):
@@ -533,16 +542,16 @@ def absent_packet(rng, sop, eph):
 
 def some_input(rng, run, sop, eph, front):
     """An input for a read, where the crate's writer made `front` for it."""
-    behind = some_bytes(rng, 6)
+    more = some_bytes(rng, 6)
     if rng.random() < 0.05:
-        return absent_packet(rng, sop, eph) + behind
+        return absent_packet(rng, sop, eph) + more
     mode = rng.random()
     if mode < 0.40:
-        return front + behind
+        return front + more
     if mode < 0.60:
-        return damaged(rng, front + behind)
+        return damaged(rng, front + more)
     if mode < 0.70:
-        return marker_trouble(rng, front + behind, eph)
+        return marker_trouble(rng, front + more, eph)
     if mode < 0.78:
         return some_bytes(rng, 20)
     if mode < 0.83:
@@ -750,7 +759,7 @@ def explain(repository, run):
 
 def main():
     parser = argparse.ArgumentParser(description=__doc__, formatter_class=argparse.RawDescriptionHelpFormatter)
-    parser.add_argument("oracle")
+    add_program(parser)
     parser.add_argument("--runs", type=int, default=600)
     parser.add_argument("--seed", type=int, default=1)
     parser.add_argument("--jobs", type=int, default=1)
@@ -765,7 +774,7 @@ def main():
     repository = Repository(where, args.jobs)
 
     tally = collections.Counter()
-    oracles = [Oracle(args.oracle) for _ in range(3)]
+    oracles = [Oracle(args.program) for _ in range(3)]
     runs, odd = [], []
     for i in range(args.runs):
         try:
@@ -801,7 +810,7 @@ def main():
                 print("  each of its rows holds by itself")
                 holding.add(name)
 
-    print("seed %d: %d runs, %d calls, %d of %d chunks proved, %.0f s (%.0f s of them to ask the oracle), %d MB at most a process" % (
+    print("seed %d: %d runs, %d calls, %d of %d chunks proved, %.0f s (%.0f s of them to ask the crate), %d MB at most a process" % (
         args.seed, len(runs), sum(v for k, v in tally.items() if re.fullmatch(r"(writes|heads|reads) \d+", k)), len(holding), len(chunks),
         time.time() - began, made - began, resource.getrusage(resource.RUSAGE_CHILDREN).ru_maxrss // 1024))
     print("  styles %d, shapes %d, most blocks %d, pass counts written %d, layers of loaded states %d" % (

@@ -1,24 +1,38 @@
 #!/usr/bin/env python3
-"""Writes the lists of crates/vectors: calls of the engine with the answers that they must give.
+"""Writes the lists of crates/vectors: calls of the engine with the answers that they must give. In the repository's root:
 
-    python3 tools/make_vectors.py ORACLE [--seed 6] [--model FILE]
+    (cd rust && OPENJP2_SRC=FOLDER cargo build --release --bin crate_answers)   # FOLDER is the src folder of the crate's sources
+    python3 tools/make_vectors.py
 
-ORACLE is the program that runs the code of crate openjp2 0.6.1 behind a line protocol (see compare_definitions.py, whose generator makes
-the random runs). Every answer of a list, and the state behind it, comes from ORACLE, but for those of the lists `hand` and `refusals` that
-document 01 gives alone: the crate has no such refusal, and there the number stands in this file, with the buffers as document 01 leaves
-them. With --model, a Python file with document 01's calls (start_writer, start_reader, measure, write, read), each call is run on it too and any
-difference ends this program.
+This gives the files that are there byte for byte; --seed gives others. crate_answers runs the code of crate openjp2 0.6.1
+(rust/compare/src/answers.rs), and compare_definitions.py's generator makes the random runs. Every answer of a list, and the state after
+it, comes from the crate, but for those of the lists `hand` and `refusals` that the scope (docs/SCOPE.md) gives alone: the crate has no such
+refusal, and there the number stands in this file, with the buffers as the scope leaves them.
 
-A list is a constant array of words in crates/vectors/src/NAME.rt, four bytes to a word, the first lowest. A number below 251 is one byte;
-else 252, 253, 254 or 255 and then 1, 2, 4 or 8 bytes, the highest first. In a row of numbers 251, how often, and a number stand for that
-number so often. A list is its calls, its answers, and then each call:
+The lists, which crates/vectors/args names:
+
+    hand        packets of the scope that are no rows of its table, and slips near them
+    published   worked headers as recalled from T.800
+    writes      packets written                       loaded      packets written from loaded states
+    reads       packets read as they were written     reloaded    packets read from loaded states
+    damaged     packets damaged, cut or made of other bytes
+    markers     packets with a marker missing, cut or where none is due
+    big         packets of big geometries
+    refusals    refusals by the scope alone
+
+A list is a file of bytes, crates/vectors/data/NAME. A number below 251 is one byte; else 252, 253, 254 or 255 and then 1, 2, 4 or 8 bytes,
+the highest first. In a row of numbers 251, how often, and a number stand for that number so often. A list is the number of its calls, the
+number of its answers, and then each call; it ends with the last one:
 
     0 load      n, row of words
     1 start     role, band count, row of nine numbers of bands, style, words of the state, n, row of block planes; answer, check(state)
-    2 measure   words of scratch, SOP + 2 EPH, packet number, n, row of counts, n, row of lengths, n, marks (bytes); refusal, header, body, check(scratch)
-    3 write     the same up to the marks, body bytes, output bytes; refusal, bytes, front n, body n, rest, front (bytes), check(state), check(scratch)
-    4 read      words of scratch, SOP + 2 EPH, n, input (bytes), words of reports, words of records; refusal, present, taken, segments, SOP mark,
-                EPH mark, then of reports and of records: n, rest, row of n words; check(state), check(scratch)
+    2 measure   words of scratch, SOP + 2 EPH, packet number, n, row of counts, n, row of lengths, n, marks (bytes);
+                refusal, header, body, check(scratch)
+    3 write     the same up to the marks, body bytes, output bytes;
+                refusal, bytes, front n, body n, rest, front (bytes), check(state), check(scratch)
+    4 read      words of scratch, SOP + 2 EPH, n, input (bytes), words of reports, words of records;
+                refusal, present, taken, segments, SOP mark, EPH mark, then of reports and of records: n, rest, row of n words;
+                check(state), check(scratch)
     5 poke      place and word: the state's word there is set
 
 A list that is lent is filled before: state 7, scratch 5, output 165, reports 9, records 8; a body has (7 i + 3) mod 256 at i.
@@ -26,15 +40,14 @@ check(xs) is h = length; for each x: h = (h * 65599 + x + 1) mod 4294967291.
 """
 import argparse
 import collections
-import importlib.util
 import os
 import random
 
 import compare_definitions as generator
-from compare_definitions import AMPLE, Oracle, Run, Unexpected, hexed, spaced
+from compare_definitions import AMPLE, Oracle, Run, Unexpected, add_program, hexed, spaced
 
 STATE, SCRATCH, OUTPUT, REPORTS, RECORDS = 7, 5, 165, 9, 8
-STATE_MOST, COUNTS_MOST, PASSES_MOST, BYTES_MOST, RECORDS_MOST = 147463, 12288, 700, 4000, 49152
+STATE_MOST, COUNTS_MOST, PASSES_MOST, BYTES_MOST, RECORDS_MOST, LIST_MOST = 147463, 12288, 700, 4000, 49152, 65535
 HEADER_WORDS = 13
 
 
@@ -63,7 +76,7 @@ def numbers(xs):
 
 
 def row(xs):
-    """Numbers, those that come often behind one another once."""
+    """Numbers, those that come often in a row once."""
     out, at = [], 0
     while at < len(xs):
         times = 1
@@ -84,16 +97,11 @@ def three(bands):
     return (list(bands) + [(0, 0, 0)] * 3)[:3]
 
 
-def same(a, b, what):
-    if a != b:
-        raise SystemExit("the model differs at %s: %s, not %s" % (what, a, b))
-
-
 class Calls:
     """One list in the making. `crate` counts the answers that came from the crate."""
 
-    def __init__(self, name, comment, model):
-        self.name, self.comment, self.model = name, comment, model
+    def __init__(self, name):
+        self.name = name
         self.data, self.calls, self.answers, self.crate = [], 0, 0, 0
         self.state = []
 
@@ -116,10 +124,6 @@ class Calls:
         bands = three(bands)
         after = [STATE] * size if answer else list(words)
         assert size == len(after) <= STATE_MOST and len(planes) <= COUNTS_MOST
-        if self.model:
-            lent = [STATE] * size
-            code = (self.model.start_writer if role == 1 else self.model.start_reader)(count, bands, style, planes, lent)
-            same((code, lent), (answer, after), "start")
         self.add([1] + numbers([role, count]) + row([x for b in bands for x in b]) + numbers([style, size]) + counted(planes) + numbers([answer, check(after)]), from_crate)
         self.state = after
 
@@ -128,13 +132,9 @@ class Calls:
         return numbers([scratch, sop + 2 * eph, packet]) + counted(counts) + counted(lengths) + number(len(marks)) + list(marks)
 
     def measure(self, sop, eph, counts, lengths, marks, answer, after=None, scratch=None, from_crate=True):
-        """answer: refusal, header, body; after: the state behind the packet."""
+        """answer: refusal, header, body; after: the state after the packet."""
         scratch = len(self.state) if scratch is None else scratch
         left = [SCRATCH] * scratch if answer[0] else list(after)
-        if self.model:
-            lent = [SCRATCH] * scratch
-            told = self.model.measure(list(self.state), lent, sop, eph, counts, lengths, marks)
-            same((tuple(told), lent), (tuple(answer), left), "measure")
         self.add([2] + self.lists(scratch, sop, eph, 0, counts, lengths, marks) + numbers(list(answer) + [check(left)]), from_crate)
 
     def write(self, sop, eph, packet, counts, lengths, marks, body, room, refusal, front=(), after=None, scratch=None, from_crate=True):
@@ -145,10 +145,6 @@ class Calls:
         rest = 0 if refusal == 11 else OUTPUT
         output = (list(front) + body_of(body) + [rest] * (room - size)) if refusal == 0 else [rest] * room
         assert body <= BYTES_MOST and len(output) == room <= BYTES_MOST
-        if self.model:
-            state, lent, out = list(self.state), [SCRATCH] * scratch, [OUTPUT] * room
-            told = self.model.write(state, lent, sop, eph, packet, counts, lengths, marks, body_of(body), out)
-            same((tuple(told), state, lent, out), ((refusal, size), after, left, output), "write")
         front = list(front) if refusal == 0 else []
         self.add([3] + self.lists(scratch, sop, eph, packet, counts, lengths, marks) + numbers([body, room, refusal, size])
                  + numbers([len(front), body if refusal == 0 else 0, rest]) + front + numbers([check(after), check(left)]), from_crate)
@@ -165,11 +161,6 @@ class Calls:
         rests = [0 if wiped else REPORTS, 0 if wiped else RECORDS]
         want = [x + [rest] * (n - len(x)) for x, rest, n in zip(rows, rests, (reports, records))]
         assert len(data) <= BYTES_MOST and max(reports, records) <= RECORDS_MOST and [len(x) for x in want] == [reports, records]
-        if self.model and reports % 4 == 0 and records % 4 == 0:
-            state, lent = list(self.state), [SCRATCH] * scratch
-            lists = [[rest] * 4 for rest in [REPORTS] * (reports // 4)], [[rest] * 4 for rest in [RECORDS] * (records // 4)]
-            answer = self.model.read(state, lent, sop, eph, data, *lists)
-            same((list(answer), state, lent, [[x for r in rs for x in r] for rs in lists]), (list(told), after, left, want), "read")
         self.add([4] + numbers([scratch, sop + 2 * eph, len(data)]) + list(data) + numbers([reports, records] + list(told))
                  + [b for x, rest in zip(rows, rests) for b in numbers([len(x), rest]) + row(x)] + numbers([check(after), check(left)]), from_crate)
         self.state = after
@@ -177,20 +168,10 @@ class Calls:
     def bytes(self):
         return numbers([self.calls, self.answers]) + self.data
 
-    def write_file(self, folder, seed):
-        write_list(folder, self.name, self.bytes(), self.comment, seed)
-
-
-def write_list(folder, name, data, comment, seed):
-    data = data + [0] * (-len(data) % 4)
-    words = [int.from_bytes(bytes(data[i:i + 4]), "little") for i in range(0, len(data), 4)]
-    with open(os.path.join(folder, name + ".rt"), "w", encoding="utf-8") as f:
-        f.write("// %s. Written by tools/make_vectors.py%s; its head says how a list is read.\n" % (comment, ", seed %d" % seed if seed is not None else ""))
-        f.write("pub const %s: [u32; %d] = [\n" % (name.upper(), len(words)))
-        for w in words:
-            f.write("    0x%08x,\n" % w)
-        f.write("];\n")
-    print("  %-10s %5d words" % (name, len(words)))
+    def write_file(self, folder):
+        assert len(self.bytes()) <= LIST_MOST
+        with open(os.path.join(folder, self.name), "wb") as f:
+            f.write(bytes(self.bytes()))
 
 
 # ---- runs of the generator as calls
@@ -270,7 +251,7 @@ def put_random(calls, oracles, seed, kinds, side, answers, most):
             continue
         if not fits(run, side):
             continue
-        part = Calls(calls.name, "", calls.model)
+        part = Calls(calls.name)
         put_run(part, run, side)
         if part.answers and len(part.data) <= most * part.answers:
             calls.data += part.data
@@ -349,8 +330,9 @@ def last(n, total):
     return [0] * (n - 1) + [total]
 
 
-def hand_list(model, oracle):
-    calls = Calls("hand", "Document 01's packets that are no rows of its table, and the slips that it names", model)
+def hand_list(oracle):
+    """The scope's packets that are no rows of its table, and the slips that it names."""
+    calls = Calls("hand")
     w = Asked(calls, oracle)
     w.start(1, ONE, 0, [8])
     w.write([1], [5], [0], room=5)
@@ -374,7 +356,7 @@ def hand_list(model, oracle):
         w.start(2, ONE, 0, [])
         w.read(fronts[0], rows=[[0, 1, first[0], first[1]]])
         w.read(fronts[1], reports=[[2, 0, 0, second[0]]], rows=[[0, 0, second[0], second[1]]])
-    # no 00 behind a last FF
+    # no 00 after a last FF
     w.start(1, ONE, 0, [8])
     front = w.write([16], last(16, 511), [0] * 16, front="feadff00")
     w.start(2, ONE, 0, [])
@@ -391,8 +373,10 @@ def bits(text):
     return generator.stuffed([int(x) for x in text if x in "01"])
 
 
-def published_list(model, oracle):
-    calls = Calls("published", "Worked packet headers recalled from T.800, not looked up, and so read and written by the crate: a tag tree (B.10.2), two packets (B.10.8), two of a codestream (J.10.1)", model)
+def published_list(oracle):
+    """Worked packet headers recalled from T.800, not looked up, and so read and written by the crate: a tag tree (B.10.2), two packets
+    (B.10.8), two of a codestream (J.10.1)."""
+    calls = Calls("published")
     w = Asked(calls, oracle)
     # B.10.8: zero planes 3 4 7 / 3 3 6; its first packet spends one length bit more than it must, so that it is read and not written
     band, planes = [(3, 2, 10)], [7, 6, 3, 7, 7, 4]
@@ -437,9 +421,9 @@ def words_in_range(role, oracle):
     return bands, oracle.words()
 
 
-def refusal_list(model, oracle):
-    """Refusals that the crate has not."""
-    calls = Calls("refusals", "Refusals that the crate has not, by document 01's numbers and order", model)
+def refusal_list(oracle):
+    """Refusals that the crate has not, by the scope's numbers and order."""
+    calls = Calls("refusals")
     given = dict(from_crate=False)
     for answer, count, bands, style, planes, size in (
             (1, 0, ONE, 0xc0, [], 5), (1, 4, ONE, 0, [], 5), (1, 1, [(65, 1, 999)], 0x40, [], 5), (1, 1, [(1, 65, 8)], 0, [8], 23),
@@ -524,7 +508,7 @@ def reader_order(calls, given):
 
 
 def started(role, bands, style):
-    """The words of a started state as document 01 says them, for blocks of the same planes as their band."""
+    """The words of a started state as the scope says them, for blocks of the same planes as their band."""
     words = [role, len(bands), style, 0] + [x for b in three(bands) for x in b]
     for w, h, _ in bands:
         nodes = sum(generator.level_sizes(w, h))
@@ -562,8 +546,9 @@ def big_case(calls, oracles, seed, bands, style, most):
         reader.read(front, sop, eph)
 
 
-def big_list(model, oracles, seed):
-    calls = Calls("big", "The crate's answers on big geometries, up to three bands of 64 × 64", model)
+def big_list(oracles, seed):
+    """Big geometries, up to three bands of 64 × 64."""
+    calls = Calls("big")
     for bands, style, most in (
             ([(64, 64, 9)], 0, 8), ([(64, 64, 8)], 4, 5), ([(64, 64, 7), (64, 64, 8), (64, 64, 9)], 1, 8), ([(64, 1, 12), (1, 64, 12), (33, 63, 10)], 0, 6),
             ([(63, 64, 7), (64, 63, 6)], 0x2a, 5), ([(32, 32, 20), (31, 33, 21), (17, 16, 22)], 5, 4), ([(5, 64, 998), (64, 3, 998), (0, 64, 1)], 4, 4),
@@ -576,38 +561,30 @@ def big_list(model, oracles, seed):
 
 def main():
     parser = argparse.ArgumentParser(description=__doc__, formatter_class=argparse.RawDescriptionHelpFormatter)
-    parser.add_argument("oracle")
+    add_program(parser)
     parser.add_argument("--seed", type=int, default=6)
-    parser.add_argument("--model")
     parser.add_argument("--out", help="another folder for the lists")
     args = parser.parse_args()
-    model = None
-    if args.model:
-        spec = importlib.util.spec_from_file_location("model", args.model)
-        model = importlib.util.module_from_spec(spec)
-        spec.loader.exec_module(model)
-    folder = args.out or os.path.join(os.path.dirname(os.path.abspath(__file__)), "..", "crates", "vectors", "src")
-    oracles = [Oracle(args.oracle) for _ in range(3)]
+    folder = args.out or os.path.join(os.path.dirname(os.path.abspath(__file__)), "..", "crates", "vectors", "data")
+    oracles = [Oracle(args.program) for _ in range(3)]
 
-    crate = "The crate's answers to random runs: "
-    lists = [hand_list(model, oracles[0]), published_list(model, oracles[0])]
-    for name, text, kinds, side, answers in (
-            ("writes", "packets written", [generator.writer_run, generator.trip_run], "writer", 110),
-            ("loaded", "packets written from loaded states", [generator.loaded_writer_run], "writer", 60),
-            ("reads", "packets read as they were written", [generator.trip_run], "reader", 70),
-            ("damaged", "packets damaged, cut or made of other bytes", [generator.reader_run], "reader", 90),
-            ("markers", "packets with a marker missing, cut or where none is due", [marker_run], "reader", 60),
-            ("reloaded", "packets read from loaded states", [generator.loaded_reader_run], "reader", 60)):
-        lists.append(put_random(Calls(name, crate + text, model), oracles, args.seed, kinds, side, answers, 60))
-    lists.append(big_list(model, oracles, args.seed))
-    lists.append(refusal_list(model, oracles[0]))
-    for calls in lists:
-        calls.write_file(folder, args.seed if calls.name not in ("hand", "published", "refusals") else None)
+    lists = [hand_list(oracles[0]), published_list(oracles[0])]
+    for name, kinds, side, answers in (
+            ("writes", [generator.writer_run, generator.trip_run], "writer", 110),
+            ("loaded", [generator.loaded_writer_run], "writer", 60),
+            ("reads", [generator.trip_run], "reader", 70),
+            ("damaged", [generator.reader_run], "reader", 90),
+            ("markers", [marker_run], "reader", 60),
+            ("reloaded", [generator.loaded_reader_run], "reader", 60)):
+        lists.append(put_random(Calls(name), oracles, args.seed, kinds, side, answers, 60))
+    lists.append(big_list(oracles, args.seed))
+    lists.append(refusal_list(oracles[0]))
     for o in oracles:
         o.close()
     for calls in lists:
-        print("  %-10s %4d answers, %4d of them the crate's" % (calls.name, calls.answers, calls.crate))
-    print("the crate's answers: %d" % sum(c.crate for c in lists))
+        calls.write_file(folder)
+        print("  %-10s %5d bytes, %4d answers, %4d of them the crate's" % (calls.name, len(calls.bytes()), calls.answers, calls.crate))
+    print("the crate's answers: %d of %d" % (sum(c.crate for c in lists), sum(c.answers for c in lists)))
 
 
 if __name__ == "__main__":

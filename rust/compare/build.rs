@@ -1,5 +1,5 @@
-//! Takes the items of crate openjp2 that code packets out of its sources, whole and unchanged, if the sources are there: in the folder
-//! that OPENJP2_SRC names, or else in ../shared/docs/src/src beside the repository. Without them the comparison with the crate is left out.
+//! Takes the items of crate openjp2 that code packets out of its sources, whole and unchanged. OPENJP2_SRC names the folder of the sources,
+//! src of the unpacked crate; without it the comparison with the crate is left out.
 //! OPENJPEG_SRC may name the folder of OpenJPEG's t2.c (src/lib/openjp2 of Debian's source package openjpeg2), for the benchmark.
 use std::path::{Path, PathBuf};
 use std::process::Command;
@@ -70,17 +70,19 @@ const TYPES: &[&str] = &[
 ];
 
 fn main() {
-    println!("cargo:rustc-check-cfg=cfg(openjp2, openjpeg)");
+    println!("cargo:rustc-check-cfg=cfg(openjp2, openjpeg, python)");
+    println!("cargo:rerun-if-changed=build.rs");
     openjpeg();
-    println!("cargo:rerun-if-env-changed=OPENJP2_SRC");
-    let src = match std::env::var_os("OPENJP2_SRC") {
-        Some(folder) => PathBuf::from(folder),
-        None => Path::new(env!("CARGO_MANIFEST_DIR")).join("../../../shared/docs/src/src"),
-    };
-    if !src.join("t2.rs").exists() {
-        println!("cargo:warning=crate openjp2's sources are not in {}: the comparison with the crate is left out", src.display());
-        return;
+    if Command::new("python3").arg("--version").output().is_ok_and(|output| output.status.success()) {
+        println!("cargo:rustc-cfg=python");
     }
+    println!("cargo:rerun-if-env-changed=OPENJP2_SRC");
+    let Some(src) = std::env::var_os("OPENJP2_SRC").filter(|folder| !folder.is_empty()) else {
+        println!("cargo:warning=OPENJP2_SRC is not set: the comparison with crate openjp2's own code is left out");
+        return;
+    };
+    let src = PathBuf::from(src);
+    assert!(src.join("t2.rs").exists(), "OPENJP2_SRC is {}, which has no t2.rs", src.display());
     println!("cargo:rustc-cfg=openjp2");
     println!("cargo:rustc-env=OPENJP2_SRC={}", src.canonicalize().unwrap().display());
     let types: Vec<String> = TYPES.iter().map(|name| name.to_string()).collect();

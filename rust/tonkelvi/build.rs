@@ -19,10 +19,21 @@ fn main() {
 fn build() -> PathBuf {
     let root = Path::new(env!("CARGO_MANIFEST_DIR")).join("../..");
     println!("cargo:rerun-if-changed={}", root.join("crates").display());
-    // `rt staticlib` proves one crate after another; `rt check` proves those below the library on all cores.
-    rt(&root, &["check", "t2segs"]);
+    println!("cargo:rerun-if-changed={}", root.join("crates.txt").display());
+    // `rt staticlib` proves one crate after another; `rt check` proves those that the library depends on on all cores.
+    let crates = std::fs::read_to_string(root.join("crates.txt")).expect("crates.txt");
+    let mut words = vec!["check"];
+    words.extend(dependencies(&crates, "capi"));
+    rt(&root, &words);
     rt(&root, &["staticlib", "capi"]);
     root.join("target/staticlib")
+}
+
+/// The crates of the repository that crates.txt, lines of `NAME: NAME NAME ..`, gives a crate as dependencies.
+fn dependencies<'a>(crates: &'a str, name: &str) -> Vec<&'a str> {
+    let lines = || crates.lines().filter_map(|line| line.split('#').next()?.split_once(':'));
+    let (_, all) = lines().find(|(crate_name, _)| crate_name.trim() == name).expect("the crate in crates.txt");
+    all.split_whitespace().filter(|word| lines().any(|(crate_name, _)| crate_name.trim() == *word)).collect()
 }
 
 fn rt(root: &Path, words: &[&str]) {

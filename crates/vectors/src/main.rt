@@ -1,38 +1,18 @@
-// Runs fixed lists of packet calls and compares every answer: tools/make_vectors.py made the lists (seed in the head of each) from what crate openjp2 0.6.1's own code answered, and from document 01 alone for the refusals that the crate has not.
+// Runs lists of packet calls and compares every answer. Its arguments name the lists, files of data/ that tools/make_vectors.py wrote: most
+// answers are those of crate openjp2 0.6.1's own code, and those of refusals that the crate has not are by the scope (docs/SCOPE.md) alone.
 ghost use mathlib.Core.Path.{_≡_};
 ghost use Prim.Native.Nat.{_≤_};
 ghost use lib.ListN.{length};
 ghost use Rattle.io.specs.Counts.{Counts};
-
-mod big;
-mod damaged;
-mod hand;
-mod loaded;
-mod markers;
-mod published;
-mod reads;
-mod refusals;
-mod reloaded;
-mod writes;
-
-use big::BIG;
-use damaged::DAMAGED;
-use hand::HAND;
-use loaded::LOADED;
-use markers::MARKERS;
-use published::PUBLISHED;
-use reads::READS;
-use refusals::REFUSALS;
-use reloaded::RELOADED;
 use t800::Band;
 use t800::Markers;
+use t800::MeasureAnswer;
 use t800::ReadAnswer;
 use t800::WriteAnswer;
-use writes::WRITES;
 
-// ---- a list: bytes, four to a word, the first lowest
+// ---- a list: its bytes, as tools/make_vectors.py says them
 
-// A number of the list, and the place behind it.
+// A number of the list, and the place after it.
 struct Taken {
     value: u64,
     next: usize,
@@ -48,24 +28,9 @@ fn skip(at: usize, n: usize) -> usize {
     at
 }
 
-// Nothing is found beyond the end but zeros.
-fn word(list: &[u32], i: usize) -> u32 {
-    if i < list.len() { list[i] } else { 0 }
-}
-
-fn byte(list: &[u32], at: usize) -> u8 {
-    let w = word(list, at / 4);
-    let k = at % 4;
-    if k == 0 {
-        return (w % 256) as u8;
-    }
-    if k == 1 {
-        return (w / 256 % 256) as u8;
-    }
-    if k == 2 {
-        return (w / 65536 % 256) as u8;
-    }
-    (w / 16777216) as u8
+// Zero beyond the end.
+fn byte(list: &[u8], at: usize) -> u8 {
+    if at < list.len() { list[at] } else { 0 }
 }
 
 fn wide_word(w: u32) -> u64 {
@@ -77,7 +42,7 @@ fn wide(b: u8) -> u64 {
 }
 
 // So many bytes, the highest first.
-fn long_number(list: &[u32], at: usize, bytes: u32) -> Taken {
+fn long_number(list: &[u8], at: usize, bytes: u32) -> Taken {
     let mut value: u64 = 0;
     let mut next = at;
     let mut left = bytes;
@@ -90,7 +55,7 @@ fn long_number(list: &[u32], at: usize, bytes: u32) -> Taken {
 }
 
 // A byte below 252 is the number itself; above, it says how many bytes the number takes.
-fn number(list: &[u32], at: usize) -> Taken {
+fn number(list: &[u8], at: usize) -> Taken {
     let first = wide(byte(list, at));
     let next = skip(at, 1);
     if first < 252 {
@@ -123,7 +88,7 @@ fn to_byte(n: u64) -> u8 {
     if n <= 255 { n as u8 } else { 0 }
 }
 
-// A number of a row, how often it comes again, and the place behind it.
+// A number of a row, how often it comes again, and the place after it.
 struct Repeated {
     value: u64,
     left: u64,
@@ -143,7 +108,7 @@ fn one_less(n: u64) -> u64 {
 }
 
 // A byte 251 says that how often and what follow.
-fn take(list: &[u32], at: usize) -> Repeated {
+fn take(list: &[u8], at: usize) -> Repeated {
     if wide(byte(list, at)) == 251 {
         let times = number(list, skip(at, 1));
         let n = number(list, times.next);
@@ -161,7 +126,7 @@ fn take(list: &[u32], at: usize) -> Repeated {
     }
 }
 
-fn turn(list: &[u32], r: Repeated) -> Repeated {
+fn turn(list: &[u8], r: Repeated) -> Repeated {
     if 0 < r.left {
         return Repeated {
             value: r.value,
@@ -172,8 +137,8 @@ fn turn(list: &[u32], r: Repeated) -> Repeated {
     take(list, r.next)
 }
 
-// The place behind the row.
-fn fill(list: &[u32], at: usize, to: &mut [u32]) -> usize {
+// The place after the row.
+fn fill(list: &[u8], at: usize, to: &mut [u32]) -> usize {
     let mut r = begin(at);
     let mut i: usize = 0;
     while i < to.len() {
@@ -184,7 +149,7 @@ fn fill(list: &[u32], at: usize, to: &mut [u32]) -> usize {
     r.next
 }
 
-fn fill_bytes(list: &[u32], at: usize, to: &mut [u8]) -> usize {
+fn fill_bytes(list: &[u8], at: usize, to: &mut [u8]) -> usize {
     let mut next = at;
     let mut i: usize = 0;
     while i < to.len() {
@@ -242,7 +207,7 @@ fn fill_body(to: &mut [u8]) {
 
 // ---- comparing
 
-// The place in the list behind what was compared, and whether all was as listed.
+// The place in the list after what was compared, and whether all was as listed.
 struct Compared {
     next: usize,
     good: bool,
@@ -252,7 +217,7 @@ fn both(a: bool, b: bool) -> bool {
     if a { b } else { false }
 }
 
-fn expect(list: &[u32], so_far: Compared, value: u64) -> Compared {
+fn expect(list: &[u8], so_far: Compared, value: u64) -> Compared {
     let n = number(list, so_far.next);
     let same = n.value == value;
     Compared {
@@ -276,12 +241,12 @@ fn checksum(words: &[u32]) -> u64 {
     sum
 }
 
-fn expect_checksum(list: &[u32], so_far: Compared, words: &[u32]) -> Compared {
+fn expect_checksum(list: &[u8], so_far: Compared, words: &[u32]) -> Compared {
     expect(list, so_far, checksum(words))
 }
 
 // So many words of a row, and from there on one word over and over.
-fn expect_row(list: &[u32], at: usize, listed: usize, rest: u64, words: &[u32]) -> Compared {
+fn expect_row(list: &[u8], at: usize, listed: usize, rest: u64, words: &[u32]) -> Compared {
     let mut r = begin(at);
     let mut good = true;
     let mut i: usize = 0;
@@ -293,7 +258,7 @@ fn expect_row(list: &[u32], at: usize, listed: usize, rest: u64, words: &[u32]) 
     Compared { next: r.next, good }
 }
 
-fn expect_words(list: &[u32], so_far: Compared, words: &[u32]) -> Compared {
+fn expect_words(list: &[u8], so_far: Compared, words: &[u32]) -> Compared {
     let n = number(list, so_far.next);
     let rest = number(list, n.next);
     let listed = to_size(n.value);
@@ -305,7 +270,7 @@ fn expect_words(list: &[u32], so_far: Compared, words: &[u32]) -> Compared {
     }
 }
 
-fn wanted_word(list: &[u32], r: Repeated, i: usize, listed: usize, rest: u64) -> Repeated {
+fn wanted_word(list: &[u8], r: Repeated, i: usize, listed: usize, rest: u64) -> Repeated {
     if i < listed {
         return turn(list, r);
     }
@@ -316,7 +281,7 @@ fn wanted_word(list: &[u32], r: Repeated, i: usize, listed: usize, rest: u64) ->
     }
 }
 
-fn wanted_byte(list: &[u32], at: usize, i: usize, front: usize, body: usize, rest: u64) -> u64 {
+fn wanted_byte(list: &[u8], at: usize, i: usize, front: usize, body: usize, rest: u64) -> u64 {
     if i < front {
         return wide(byte(list, skip(at, i)));
     }
@@ -328,7 +293,7 @@ fn wanted_byte(list: &[u32], at: usize, i: usize, front: usize, body: usize, res
 }
 
 // So many listed bytes, so many of a body, and from there on one byte over and over.
-fn expect_output(list: &[u32], so_far: Compared, output: &[u8]) -> Compared {
+fn expect_output(list: &[u8], so_far: Compared, output: &[u8]) -> Compared {
     let f = number(list, so_far.next);
     let b = number(list, f.next);
     let rest = number(list, b.next);
@@ -459,7 +424,7 @@ fn start_for(
 }
 
 fn start_with(
-    list: &[u32],
+    list: &[u8],
     at: usize,
     role: u32,
     count: u32,
@@ -475,7 +440,7 @@ fn start_with(
 }
 
 fn start_in(
-    list: &[u32],
+    list: &[u8],
     at: usize,
     role: u32,
     count: u32,
@@ -501,17 +466,28 @@ fn start_in(
 
 // ---- measure and write
 
-fn measured(
-    list: &[u32],
-    at: usize,
+// What a packet call was asked besides its lists.
+struct Asked {
+    kind: u64,
     markers: Markers,
+    packet: u32,
+}
+
+fn measured(
+    list: &[u8],
+    at: usize,
+    asked: Asked,
     counts: &[u32],
     lengths: &[u32],
     marks: &[u8],
     state: &[u32],
     scratch: &mut [u32],
 ) -> Compared {
-    let r = t2::measure(state, scratch, counts, lengths, marks, markers);
+    let r = t2::measure(state, scratch, counts, lengths, marks, asked.markers);
+    expect_measured(list, at, r, scratch)
+}
+
+fn expect_measured(list: &[u8], at: usize, r: MeasureAnswer, scratch: &[u32]) -> Compared {
     let a = expect(list, so_far(at), r.refusal as u64);
     let b = expect(list, a, r.header);
     let c = expect(list, b, r.body);
@@ -519,7 +495,7 @@ fn measured(
 }
 
 fn expect_written(
-    list: &[u32],
+    list: &[u8],
     at: usize,
     r: WriteAnswer,
     state: &[u32],
@@ -534,10 +510,9 @@ fn expect_written(
 }
 
 fn written_to(
-    list: &[u32],
+    list: &[u8],
     at: usize,
-    markers: Markers,
-    packet: u32,
+    asked: Asked,
     counts: &[u32],
     lengths: &[u32],
     marks: &[u8],
@@ -553,18 +528,17 @@ fn written_to(
         lengths,
         marks,
         body,
-        markers,
-        packet,
+        asked.markers,
+        asked.packet,
         output,
     );
     expect_written(list, at, r, state, scratch, output)
 }
 
 fn written_of(
-    list: &[u32],
+    list: &[u8],
     at: usize,
-    markers: Markers,
-    packet: u32,
+    asked: Asked,
     counts: &[u32],
     lengths: &[u32],
     marks: &[u8],
@@ -579,8 +553,7 @@ fn written_of(
     written_to(
         list,
         n.next,
-        markers,
-        packet,
+        asked,
         counts,
         lengths,
         marks,
@@ -592,10 +565,9 @@ fn written_of(
 }
 
 fn written(
-    list: &[u32],
+    list: &[u8],
     at: usize,
-    markers: Markers,
-    packet: u32,
+    asked: Asked,
     counts: &[u32],
     lengths: &[u32],
     marks: &[u8],
@@ -608,8 +580,7 @@ fn written(
     written_of(
         list,
         n.next,
-        markers,
-        packet,
+        asked,
         counts,
         lengths,
         marks,
@@ -620,11 +591,9 @@ fn written(
 }
 
 fn with_marks(
-    list: &[u32],
+    list: &[u8],
     at: usize,
-    kind: u64,
-    markers: Markers,
-    packet: u32,
+    asked: Asked,
     counts: &[u32],
     lengths: &[u32],
     marks: &mut [u8],
@@ -632,28 +601,16 @@ fn with_marks(
     scratch: &mut [u32],
 ) -> Compared {
     let next = fill_bytes(list, at, marks);
-    if kind == MEASURE {
-        return measured(list, next, markers, counts, lengths, marks, state, scratch);
+    if asked.kind == MEASURE {
+        return measured(list, next, asked, counts, lengths, marks, state, scratch);
     }
-    written(
-        list,
-        next,
-        markers,
-        packet,
-        counts,
-        lengths,
-        marks,
-        state,
-        scratch,
-    )
+    written(list, next, asked, counts, lengths, marks, state, scratch)
 }
 
 fn with_lengths(
-    list: &[u32],
+    list: &[u8],
     at: usize,
-    kind: u64,
-    markers: Markers,
-    packet: u32,
+    asked: Asked,
     counts: &[u32],
     lengths: &mut [u32],
     state: &mut [u32],
@@ -666,9 +623,7 @@ fn with_lengths(
     with_marks(
         list,
         n.next,
-        kind,
-        markers,
-        packet,
+        asked,
         counts,
         lengths,
         &mut marks[..size],
@@ -678,11 +633,9 @@ fn with_lengths(
 }
 
 fn with_counts(
-    list: &[u32],
+    list: &[u8],
     at: usize,
-    kind: u64,
-    markers: Markers,
-    packet: u32,
+    asked: Asked,
     counts: &mut [u32],
     state: &mut [u32],
     scratch: &mut [u32],
@@ -694,9 +647,7 @@ fn with_counts(
     with_lengths(
         list,
         n.next,
-        kind,
-        markers,
-        packet,
+        asked,
         counts,
         &mut lengths[..size],
         state,
@@ -705,32 +656,21 @@ fn with_counts(
 }
 
 fn contribute(
-    list: &[u32],
+    list: &[u8],
     at: usize,
-    kind: u64,
+    asked: Asked,
     state: &mut [u32],
     scratch: &mut [u32],
 ) -> Compared {
-    let m = number(list, at);
-    let packet = number(list, m.next);
-    let n = number(list, packet.next);
+    let n = number(list, at);
     let mut counts = blocks_room();
     let size = fit(n.value, &counts);
-    with_counts(
-        list,
-        n.next,
-        kind,
-        markers_of(m.value),
-        to_word(packet.value),
-        &mut counts[..size],
-        state,
-        scratch,
-    )
+    with_counts(list, n.next, asked, &mut counts[..size], state, scratch)
 }
 
 // ---- read
 
-fn expect_answer(list: &[u32], at: usize, r: ReadAnswer) -> Compared {
+fn expect_answer(list: &[u8], at: usize, r: ReadAnswer) -> Compared {
     let a = expect(list, so_far(at), r.refusal as u64);
     let b = expect(list, a, r.present as u64);
     let c = expect(list, b, r.taken);
@@ -740,7 +680,7 @@ fn expect_answer(list: &[u32], at: usize, r: ReadAnswer) -> Compared {
 }
 
 fn expect_read(
-    list: &[u32],
+    list: &[u8],
     at: usize,
     r: ReadAnswer,
     state: &[u32],
@@ -756,7 +696,7 @@ fn expect_read(
 }
 
 fn read_into(
-    list: &[u32],
+    list: &[u8],
     at: usize,
     markers: Markers,
     input: &[u8],
@@ -770,7 +710,7 @@ fn read_into(
 }
 
 fn with_reports(
-    list: &[u32],
+    list: &[u8],
     at: usize,
     markers: Markers,
     input: &[u8],
@@ -794,7 +734,7 @@ fn with_reports(
 }
 
 fn with_input(
-    list: &[u32],
+    list: &[u8],
     at: usize,
     markers: Markers,
     input: &mut [u8],
@@ -816,44 +756,50 @@ fn with_input(
     )
 }
 
-fn read_in(list: &[u32], at: usize, state: &mut [u32], scratch: &mut [u32]) -> Compared {
-    let m = number(list, at);
-    let n = number(list, m.next);
+fn read_in(
+    list: &[u8],
+    at: usize,
+    markers: Markers,
+    state: &mut [u32],
+    scratch: &mut [u32],
+) -> Compared {
+    let n = number(list, at);
     let mut input = bytes_room(0);
     let size = fit_bytes(n.value, &input);
-    with_input(
-        list,
-        n.next,
-        markers_of(m.value),
-        &mut input[..size],
-        state,
-        scratch,
-    )
+    with_input(list, n.next, markers, &mut input[..size], state, scratch)
 }
 
 // ---- one call after another
 
 fn packet_call(
-    list: &[u32],
+    list: &[u8],
     at: usize,
     kind: u64,
     state: &mut [u32],
     scratch: &mut [u32],
 ) -> Compared {
+    let m = number(list, at);
+    let markers = markers_of(m.value);
     if kind == READ {
-        return read_in(list, at, state, scratch);
+        return read_in(list, m.next, markers, state, scratch);
     }
-    contribute(list, at, kind, state, scratch)
+    let packet = number(list, m.next);
+    let asked = Asked {
+        kind,
+        markers,
+        packet: to_word(packet.value),
+    };
+    contribute(list, packet.next, asked, state, scratch)
 }
 
-fn with_scratch(list: &[u32], at: usize, kind: u64, state: &mut [u32]) -> Compared {
+fn with_scratch(list: &[u8], at: usize, kind: u64, state: &mut [u32]) -> Compared {
     let n = number(list, at);
     let mut scratch = state_room(SCRATCH);
     let size = fit(n.value, &scratch);
     packet_call(list, n.next, kind, state, &mut scratch[..size])
 }
 
-// The place behind a call, the words of the state in use, and 1 for an answer as listed.
+// The place after a call, the words of the state in use, and 1 for an answer as listed.
 struct Done {
     next: usize,
     words: usize,
@@ -872,7 +818,7 @@ fn ended(c: Compared, words: usize) -> Done {
     }
 }
 
-fn load(list: &[u32], at: usize, state: &mut [u32]) -> Done {
+fn load(list: &[u8], at: usize, state: &mut [u32]) -> Done {
     let n = number(list, at);
     let size = fit(n.value, state);
     let next = fill(list, n.next, &mut state[..size]);
@@ -889,7 +835,7 @@ fn put(state: &mut [u32], i: usize, value: u32) {
     }
 }
 
-fn poke(list: &[u32], at: usize, words: usize, state: &mut [u32]) -> Done {
+fn poke(list: &[u8], at: usize, words: usize, state: &mut [u32]) -> Done {
     let i = number(list, at);
     let value = number(list, i.next);
     put(state, to_size(i.value), to_word(value.value));
@@ -900,12 +846,12 @@ fn poke(list: &[u32], at: usize, words: usize, state: &mut [u32]) -> Done {
     }
 }
 
-fn start(list: &[u32], at: usize, state: &mut [u32]) -> Done {
+fn start(list: &[u8], at: usize, state: &mut [u32]) -> Done {
     let role = number(list, at);
     let count = number(list, role.next);
     let mut g = [0u32; 9];
-    let behind = fill(list, count.next, &mut g);
-    let style = number(list, behind);
+    let after = fill(list, count.next, &mut g);
+    let style = number(list, after);
     let n = number(list, style.next);
     let size = fit(n.value, state);
     let c = start_in(
@@ -920,7 +866,7 @@ fn start(list: &[u32], at: usize, state: &mut [u32]) -> Done {
     ended(c, size)
 }
 
-fn call(list: &[u32], at: usize, words: usize, state: &mut [u32]) -> Done {
+fn call(list: &[u8], at: usize, words: usize, state: &mut [u32]) -> Done {
     let kind = number(list, at);
     if kind.value == LOAD {
         return load(list, kind.next, state);
@@ -936,10 +882,11 @@ fn call(list: &[u32], at: usize, words: usize, state: &mut [u32]) -> Done {
     ended(c, size)
 }
 
-// How many answers were as listed, of how many.
+// How many answers were as listed, of how many, and whether the lists were there and whole.
 struct Score {
     good: u64,
     of: u64,
+    whole: bool,
 }
 
 fn plus(sum: u64, n: u32) -> u64 {
@@ -950,14 +897,22 @@ fn plus(sum: u64, n: u32) -> u64 {
     }
 }
 
-// A list begins with its calls and its answers, and goes on with the calls.
-fn run_on(list: &[u32], state: &mut [u32]) -> Score {
+fn no_score(whole: bool) -> Score {
+    Score {
+        good: 0,
+        of: 0,
+        whole,
+    }
+}
+
+// A list begins with its calls and its answers, and goes on with the calls, of a byte each or more. It must end where the last one does.
+fn run_on(list: &[u8], state: &mut [u32]) -> Score {
     let calls = number(list, 0);
     let answers = number(list, calls.next);
     let mut next = answers.next;
     let mut words: usize = 0;
     let mut good: u64 = 0;
-    let mut left = calls.value;
+    let mut left = least(calls.value, list.len());
     while 0 < left {
         left -= 1;
         let d = call(list, next, words, state);
@@ -968,20 +923,45 @@ fn run_on(list: &[u32], state: &mut [u32]) -> Score {
     Score {
         good,
         of: answers.value,
+        whole: next == list.len(),
     }
 }
 
-fn run(list: &[u32]) -> Score {
+fn run(list: &[u8]) -> Score {
     let mut state = state_room(0);
     run_on(list, &mut state)
 }
 
-fn print(name: &[u8], s: Score) {
-    io::write_all(1, name);
+// A file that fills the room may be longer than it.
+fn run_file(fd: i32) -> Score {
+    let mut room = io::large_buffer();
+    let n = io::read_full(fd, &mut room);
+    if n == 65536 {
+        return no_score(false);
+    }
+    run(&room[..n])
+}
+
+fn score_of(file: &[u8]) -> Score {
+    let fd = os::open_read(file);
+    if fd < 0 {
+        return no_score(false);
+    }
+    let s = run_file(fd);
+    libc::close(fd);
+    s
+}
+
+// ---- what is written
+
+fn print(s: Score) {
     io::write_all(1, b": ");
     io::print_decimal(1, s.good);
     io::write_all(1, b" of ");
     io::print_decimal(1, s.of);
+    if !s.whole {
+        io::write_all(1, b", a list is missing, cut or too long");
+    }
     io::write_all(1, b"\n");
 }
 
@@ -989,86 +969,32 @@ fn sum(a: Score, b: Score) -> Score {
     Score {
         good: plus(a.good, to_word(b.good)),
         of: plus(a.of, to_word(b.of)),
+        whole: both(a.whole, b.whole),
     }
 }
 
-// ---- the groups
-
-fn hand_score() -> Score {
-    let list = HAND;
-    run(&list)
-}
-
-fn published_score() -> Score {
-    let list = PUBLISHED;
-    run(&list)
-}
-
-fn writes_score() -> Score {
-    let list = WRITES;
-    run(&list)
-}
-
-fn loaded_score() -> Score {
-    let list = LOADED;
-    run(&list)
-}
-
-fn reads_score() -> Score {
-    let list = READS;
-    run(&list)
-}
-
-fn damaged_score() -> Score {
-    let list = DAMAGED;
-    run(&list)
-}
-
-fn markers_score() -> Score {
-    let list = MARKERS;
-    run(&list)
-}
-
-fn reloaded_score() -> Score {
-    let list = RELOADED;
-    run(&list)
-}
-
-fn big_score() -> Score {
-    let list = BIG;
-    run(&list)
-}
-
-fn refusals_score() -> Score {
-    let list = REFUSALS;
-    run(&list)
-}
-
-// A group's line; the sum with the groups before.
-fn group(name: &[u8], before: Score, s: Score) -> Score {
-    print(name, s);
+// The line of the list that argument i names; the sum with the lists before.
+fn listed(i: usize, before: Score) -> Score {
+    let mut name = io::buffer();
+    let n = os::arg(i, &mut name);
+    let s = score_of(&name[..n]);
+    io::write_all(1, &name[..n]);
+    print(s);
     sum(before, s)
 }
 
+fn run_all(arguments: usize) -> Score {
+    let mut all = no_score(true);
+    let mut i: usize = 1;
+    while i < arguments {
+        all = listed(i, all);
+        i += 1;
+    }
+    all
+}
+
 fn main() {
-    let none = Score { good: 0, of: 0 };
-    let hand = group(
-        b"document 01's other packets, and slips near them",
-        none,
-        hand_score(),
-    );
-    let published = group(
-        b"worked headers as recalled from T.800",
-        hand,
-        published_score(),
-    );
-    let writes = group(b"writes", published, writes_score());
-    let loaded = group(b"writes from loaded states", writes, loaded_score());
-    let reads = group(b"reads", loaded, reads_score());
-    let damaged = group(b"damaged reads", reads, damaged_score());
-    let markers = group(b"marker cases", damaged, markers_score());
-    let reloaded = group(b"reads from loaded states", markers, reloaded_score());
-    let big = group(b"big geometries", reloaded, big_score());
-    let refusals = group(b"refusals by document 01 alone", big, refusals_score());
-    print(b"all", refusals);
+    let all = run_all(os::arg_count());
+    io::write_all(1, b"all");
+    print(all);
 }

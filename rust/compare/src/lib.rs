@@ -1,4 +1,6 @@
-//! The engine against document 01, written once more as plain Rust, and against crate openjp2's own packet functions.
+//! The engine against the scope (docs/SCOPE.md), written once more as plain Rust, and against crate openjp2's own packet functions.
+#[cfg(openjp2)]
+pub mod answers;
 mod inputs;
 pub mod model;
 #[cfg(openjp2)]

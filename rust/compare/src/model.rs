@@ -1,4 +1,5 @@
-//! Document 01 as plain Rust, written from its text: start, measure, write and read on lent lists of words. Nothing here is fast.
+//! The scope (docs/SCOPE.md) as plain Rust, written from its text: start, measure, write and read on lent lists of words. Nothing here
+//! is fast.
 
 const WRITER: u32 = 1;
 const READER: u32 = 2;
@@ -229,7 +230,7 @@ fn put_number(bits: &mut Vec<u8>, value: u64, width: u32) {
     }
 }
 
-/// Bytes of these bits: seven in a byte behind FF, and a 00 behind a last FF.
+/// Bytes of these bits: seven in a byte after FF, and a 00 after a last FF.
 fn pack(bits: &[u8]) -> Vec<u8> {
     let mut bytes: Vec<u8> = Vec::new();
     let mut left = bits;
@@ -268,7 +269,7 @@ impl Bits<'_> {
         (0..width).fold(0, |sum, _| (sum << 1) | self.next())
     }
 
-    /// The place behind the header, or nothing where the input ends with the FF of the last bit.
+    /// The place after the header, or nothing where the input ends with the FF of the last bit.
     fn end(&self) -> Option<usize> {
         if self.byte != 0xff {
             return Some(self.next.min(self.src.len()));
@@ -336,7 +337,7 @@ pub struct Coded {
     body: u64,
 }
 
-/// The refusals that measuring and writing share, then the header without markers and the state behind it.
+/// The refusals that measuring and writing share, then the header without markers and the state after it.
 fn code(state: &[u32], scratch: usize, counts: &[u32], lengths: &[u32], marks: &[u8]) -> Result<Coded, u32> {
     if !in_range(WRITER, state, scratch) {
         return Err(5);
@@ -507,7 +508,7 @@ pub struct Told {
     pub records: Vec<[u32; 4]>,
 }
 
-/// The blocks behind a first bit 1.
+/// The blocks after a first bit 1.
 fn read_blocks(words: &mut [u32], bits: &mut Bits, room: usize) -> Result<Told, u32> {
     let (places, _, _) = layout(&bands_of(words));
     let (style, layer) = (words[2], words[3]);
@@ -614,13 +615,13 @@ pub fn read(
         records.fill([0; 4]);
         return refusal;
     }
-    let (eph_mark, behind) = marker(eph, src, end, 2, 0x92);
+    let (eph_mark, after) = marker(eph, src, end, 2, 0x92);
     words[3] += 1;
     state.copy_from_slice(&words);
     scratch.copy_from_slice(&words);
     reports.copy_from_slice(told.reports.as_flattened());
     numbers[..4 * told.records.len()].copy_from_slice(told.records.as_flattened());
     records[..told.records.len()].copy_from_slice(&told.records);
-    answer.copy_from_slice(&[u64::from(present), (end + behind) as u64, told.records.len() as u64, sop_mark, eph_mark]);
+    answer.copy_from_slice(&[u64::from(present), (end + after) as u64, told.records.len() as u64, sop_mark, eph_mark]);
     0
 }

@@ -1,5 +1,5 @@
-//! Each call made twice, by the engine and by document 01's plain Rust, on equal copies of every buffer; and where the call lies in the
-//! crate's domain, by the crate too. Anything unequal ends the run with all arguments.
+//! Each call made twice, by the engine and by the scope's plain Rust (model.rs), on equal copies of every buffer; and where the call lies
+//! in the crate's domain, by the crate too. Anything unequal ends the run with all arguments.
 use crate::model;
 use std::fmt::Debug;
 use tonkelvi::words;

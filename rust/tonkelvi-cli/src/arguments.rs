@@ -44,7 +44,7 @@ pub struct Arguments {
     pub jobs: usize,
 }
 
-/// Reads the words behind the program's name; the error is a sentence.
+/// Reads the words after the program's name; the error is a sentence.
 pub fn parse(words: impl IntoIterator<Item = OsString>) -> Result<Arguments, String> {
     let mut words = words.into_iter();
     let command = match words.next().map(|word| word.to_string_lossy().into_owned()).as_deref() {

@@ -42,7 +42,7 @@ struct OneBox {
     content: Range<usize>,
 }
 
-/// The box that begins at `at`; its end may lie behind the file's.
+/// The box that begins at `at`; its end may lie after the file's.
 fn one_box(file: &[u8], at: usize) -> Option<OneBox> {
     let short = u32::from_be_bytes(array(file, at)?);
     let kind = array(file, at + 4)?;

@@ -96,7 +96,7 @@ mod tests {
     fn english_is_the_engine_crates() {
         let english = Catalogue::of("en_GB.UTF-8").unwrap();
         for refusal in tonkelvi::Refusal::ALL {
-            assert_eq!(english.sentence(Message::Refused(refusal)), refusal.sentence());
+            assert_eq!(english.sentence(Message::Refused(*refusal)), refusal.sentence());
         }
     }
 

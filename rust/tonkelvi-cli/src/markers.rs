@@ -53,7 +53,7 @@ impl<'a> Fields<'a> {
     }
 }
 
-/// A rectangle: its first column and row, and those behind its last.
+/// A rectangle: its first column and row, and those after its last.
 #[derive(Clone, Copy, PartialEq, Eq, Debug, Default)]
 pub struct Rect {
     pub x0: u32,

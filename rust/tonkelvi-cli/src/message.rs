@@ -1,10 +1,10 @@
-//! The numbers of all messages; their sentences stand in the catalogue.
+//! The numbers of all messages; their sentences stand in the catalogue. Numbers below 100 are the engine's, those above the command's own.
 use tonkelvi::Refusal;
 
 /// What a row can say.
 #[derive(Clone, Copy, PartialEq, Eq, Debug)]
 pub enum Message {
-    /// The engine turned the packet away: 1 to 13.
+    /// The engine turned the packet away; the number is the refusal's.
     Refused(Refusal),
     /// The SOP mark is not in order.
     Sop,
@@ -22,7 +22,7 @@ pub enum Message {
     BodyPast,
     /// A tile ends before its last packet.
     Missing,
-    /// Bytes are left behind a tile's last packet.
+    /// Bytes are left after a tile's last packet.
     Left,
     /// A block has more zero planes than its band has planes.
     ZeroPlanes,
@@ -41,26 +41,26 @@ impl Message {
     pub fn all() -> Vec<Message> {
         use Message::*;
         let own = [Sop, Eph, Unread, Foreign, Cut, Damaged, BodyPast, Missing, Left, ZeroPlanes, Packed, TooMany, SingleBit, Differs];
-        Refusal::ALL.into_iter().map(Refused).chain(own).collect()
+        Refusal::ALL.iter().copied().map(Refused).chain(own).collect()
     }
 
     pub fn number(self) -> u32 {
         match self {
             Message::Refused(refusal) => refusal.number(),
-            Message::Sop => 14,
-            Message::Eph => 15,
-            Message::Unread => 20,
-            Message::Foreign => 21,
-            Message::Cut => 22,
-            Message::Damaged => 23,
-            Message::BodyPast => 24,
-            Message::Missing => 25,
-            Message::Left => 26,
-            Message::ZeroPlanes => 27,
-            Message::Packed => 28,
-            Message::TooMany => 29,
-            Message::SingleBit => 30,
-            Message::Differs => 31,
+            Message::Sop => 101,
+            Message::Eph => 102,
+            Message::Unread => 110,
+            Message::Foreign => 111,
+            Message::Cut => 112,
+            Message::Damaged => 113,
+            Message::BodyPast => 114,
+            Message::Missing => 115,
+            Message::Left => 116,
+            Message::ZeroPlanes => 117,
+            Message::Packed => 118,
+            Message::TooMany => 119,
+            Message::SingleBit => 120,
+            Message::Differs => 121,
         }
     }
 
@@ -82,6 +82,7 @@ mod tests {
     fn numbers_rise() {
         let numbers: Vec<u32> = Message::all().into_iter().map(Message::number).collect();
         assert!(numbers.windows(2).all(|two| two[0] < two[1]));
+        assert!(Message::all().into_iter().all(|m| matches!(m, Message::Refused(_)) == (m.number() < 100)));
         assert!(numbers.iter().all(|&n| Message::from_number(n).map(Message::number) == Some(n)));
     }
 }

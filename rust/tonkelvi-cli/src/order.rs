@@ -1,4 +1,4 @@
-//! The order of a tile's packets: the five progressions of T.800 B.12, one behind the other where POC says so.
+//! The order of a tile's packets: the five progressions of T.800 B.12, one after the other where POC says so.
 use crate::markers::{Order, Volume};
 use std::collections::VecDeque;
 

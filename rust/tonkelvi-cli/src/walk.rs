@@ -94,7 +94,7 @@ struct Tile {
 const MOST_VOLUMES: usize = 9362;
 
 impl Tile {
-    /// Takes up a segment of a tile-part header; progressions that a later tile-part names come behind the others.
+    /// Takes up a segment of a tile-part header; progressions that a later tile-part names come after the others.
     fn take(&mut self, marker: u16, segment: &[u8], components: usize) -> Option<()> {
         let known = self.header.volumes.len();
         self.header.take(marker, segment, components)?;
@@ -138,7 +138,7 @@ impl<'a> Walk<'a> {
         Ok(u16::from(bytes[0]) << 8 | u16::from(bytes[1]))
     }
 
-    /// The content of the marker segment whose marker is at `at`, and the place behind it; FF30 to FF3F stand alone (A.1).
+    /// The content of the marker segment whose marker is at `at`, and the place after it; FF30 to FF3F stand alone (A.1).
     fn segment(&self, at: usize) -> Result<(&'a [u8], usize), Fault> {
         match self.u16_at(at)? {
             0xff30..=0xff3f => return Ok((&[], at + 2)),
@@ -188,7 +188,7 @@ impl<'a> Walk<'a> {
         }
     }
 
-    /// Reads the tile-part whose SOT is at `at`; answers the place behind it.
+    /// Reads the tile-part whose SOT is at `at`; answers the place after it.
     fn part(&mut self, at: usize) -> Result<usize, Fault> {
         let part = self.part_header(at)?;
         let (number, end, cut) = (part.tile, part.end, part.cut);
@@ -235,7 +235,7 @@ impl<'a> Walk<'a> {
         Ok(Part { tile: number, body: body..have, end, cut: end > have })
     }
 
-    /// The place behind a tile-part; length 0 says that it goes up to EOC.
+    /// The place after a tile-part; length 0 says that it goes up to EOC.
     fn part_end(&self, at: usize, length: u32) -> usize {
         let ends = self.data.ends_with(&markers::EOC.to_be_bytes());
         match length {
@@ -271,7 +271,7 @@ impl<'a> Walk<'a> {
         Ok(started)
     }
 
-    /// Reads the packet at `at`; answers the place behind it.
+    /// Reads the packet at `at`; answers the place after it.
     fn packet(&mut self, tile: &mut Tile, part: &Part, at: usize) -> Result<usize, Note> {
         let settings = Settings { main: &self.main, tile: &tile.header };
         let started = tile.started.as_mut().expect("laid out before");

@@ -40,7 +40,7 @@ fn a_file_that_is_not_there_and_the_next_one() {
     let output = tonkelvi(&["sheet", "--lang", "de", "none.jp2", "openjpeg_poc.j2k"], "");
     let rows = text(&output);
     assert_eq!(output.status.code(), Some(1));
-    assert_eq!(rows.lines().nth(1), Some("none.jp2,,,,,,0,,,,,,20,Die Datei kann nicht gelesen werden."));
+    assert_eq!(rows.lines().nth(1), Some("none.jp2,,,,,,0,,,,,,110,Die Datei kann nicht gelesen werden."));
     assert_eq!(rows.lines().count(), 38);
 }
 
@@ -67,7 +67,7 @@ fn json_lines() {
 fn check_names_single_bits() {
     let output = tonkelvi(&["check", "ffmpeg_sampled.jp2"], "");
     assert_eq!(output.status.code(), Some(0));
-    assert_eq!(text(&output).lines().filter(|row| row.contains(",30,")).count(), 2);
+    assert_eq!(text(&output).lines().filter(|row| row.contains(",120,")).count(), 2);
     let said = String::from_utf8(output.stderr).unwrap();
     assert_eq!(said, "ffmpeg_sampled.jp2: 21 packets, 19 written the same, 2 of a single 0 bit, 0 different\n");
     assert!(tonkelvi(&["check", "--quiet", "ffmpeg_sampled.jp2"], "").stderr.is_empty());
@@ -79,7 +79,7 @@ fn explain_and_help() {
     assert!(text(&output).starts_with("12: L'entrée se termine par un octet FF"));
     assert_eq!(output.status.code(), Some(0));
     assert!(text(&tonkelvi(&["--help"], "")).contains("tonkelvi sheet"));
-    for words in [&["explain", "16"][..], &["explain"], &["sheet"], &[], &["sheet", "--lang", "xx", "."]] {
+    for words in [&["explain", "99"][..], &["explain"], &["sheet"], &[], &["sheet", "--lang", "xx", "."]] {
         let output = tonkelvi(words, "");
         assert_eq!((output.status.code(), output.stdout.len()), (Some(2), 0), "{words:?}");
     }

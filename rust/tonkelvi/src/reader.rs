@@ -36,7 +36,7 @@ pub struct Segment {
 pub struct Packet {
     /// The header's first bit is 1.
     pub present: bool,
-    /// Bytes of header and markers: the body begins behind them.
+    /// Bytes of header and markers: the body begins after them.
     pub taken: usize,
     pub sop: Mark,
     pub eph: Mark,

@@ -1,7 +1,8 @@
-//! The thirteen refusals.
+//! The refusals.
 use std::fmt;
 
 /// Why a call was turned away. The number is the one that the C functions answer.
+#[non_exhaustive]
 #[derive(Clone, Copy, PartialEq, Eq, PartialOrd, Ord, Hash, Debug)]
 #[repr(u32)]
 pub enum Refusal {
@@ -22,7 +23,7 @@ pub enum Refusal {
 
 impl Refusal {
     /// All of them, in the order of their numbers.
-    pub const ALL: [Refusal; 13] = [
+    pub const ALL: &'static [Refusal] = &[
         Refusal::Shape,
         Refusal::Style,
         Refusal::List,
@@ -38,14 +39,14 @@ impl Refusal {
         Refusal::Records,
     ];
 
-    /// 1 to 13.
+    /// Its number, from 1 on.
     pub fn number(self) -> u32 {
         self as u32
     }
 
     /// The refusal with this number, if there is one.
     pub fn from_number(number: u32) -> Option<Refusal> {
-        Refusal::ALL.into_iter().find(|r| r.number() == number)
+        Refusal::ALL.iter().copied().find(|r| r.number() == number)
     }
 
     /// One sentence that says when it is given.
@@ -80,6 +81,6 @@ impl std::error::Error for Refusal {}
 pub(crate) fn checked(number: u32) -> Result<(), Refusal> {
     match number {
         0 => Ok(()),
-        _ => Err(Refusal::from_number(number).expect("the engine answers 0 to 13")),
+        _ => Err(Refusal::from_number(number).expect("the engine answers 0 or a refusal's number")),
     }
 }

@@ -1,5 +1,5 @@
 //! The engine's calls as they are exported, on lent slices of words and of segment records. Each takes slices of any length with any
-//! content: its contract has no precondition, and it turns away what it cannot use under one of the thirteen numbers.
+//! content: its contract has no precondition, and it turns away what it cannot use under a refusal's number.
 
 /// A segment as the engine records it.
 #[repr(C)]

@@ -1,4 +1,4 @@
-//! include/tonkelvi.h with a C compiler, if there is one.
+//! include/tonkelvi.h with the C compiler, which cargo links with too.
 use std::path::Path;
 use std::process::Command;
 
@@ -14,11 +14,7 @@ fn header() {
         .arg("-o")
         .arg(&program)
         .status();
-    let Ok(built) = built else {
-        println!("no C compiler: left out");
-        return;
-    };
-    assert!(built.success());
+    assert!(built.expect("the C compiler, cc").success());
     assert_eq!(Command::new(program).status().unwrap().code(), Some(0), "the line of header.c that failed");
 }
 

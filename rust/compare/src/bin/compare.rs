@@ -1,4 +1,5 @@
-//! compare [CALLS [SEED]]: at least so many calls, by the engine, by document 01's plain Rust and, inside its domain, by the crate.
+//! compare [CALLS [SEED]]: at least so many calls, by the engine, by the scope's plain Rust (model.rs) and, where the crate can answer
+//! them, by the crate.
 use compare::trials::Trials;
 use std::time::Instant;
 

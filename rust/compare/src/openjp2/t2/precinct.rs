@@ -237,6 +237,24 @@ impl Precinct {
         }
     }
 
+    /// A fresh precinct by the crate's own functions: each tree reset, and a writer's zero planes set block by block.
+    pub fn started(writer: bool, bands: &[[u32; 3]], style: u32, planes: &[u32], empty: bool) -> Precinct {
+        let mut words = vec![if writer { 1 } else { 2 }, bands.len() as u32, style, 0];
+        words.extend(bands.as_flattened());
+        words.resize(crate::model::layout(bands).1, 0);
+        let mut precinct = Precinct::from_words(&words, empty);
+        let mut planes = planes.iter();
+        for band in &mut precinct.bands {
+            opj_tgt_reset(band.inclusion);
+            opj_tgt_reset(band.zero_planes);
+            for (i, block) in band.enc.iter_mut().enumerate() {
+                block.numbps = *planes.next().unwrap();
+                opj_tgt_setvalue(band.zero_planes, i as u32, band.planes as i32 - block.numbps as i32);
+            }
+        }
+        precinct
+    }
+
     pub fn words(&self) -> Vec<u32> {
         let mut words = vec![self.role, self.bands.len() as u32, self.style, self.layer];
         for i in 0..3 {
@@ -256,7 +274,7 @@ impl Precinct {
         self.tcp.csty = if sop { 2 } else { 0 } | if eph { 4 } else { 0 };
     }
 
-    /// Gives the blocks their passes of the next layer. The crate looks for them behind those of the layers before, which are not kept:
+    /// Gives the blocks their passes of the next layer. The crate looks for them after those of the layers before, which are not kept:
     /// the pointers lie as far before the lists. Without a body each block's bytes are 0, whatever its passes say.
     pub fn give(&mut self, counts: &[u32], lengths: &[u32], marks: &[u8], body: Option<&[u8]>) {
         self.passes.clear();
@@ -389,7 +407,7 @@ impl Precinct {
     }
 }
 
-/// The segments that new passes go into: from the last one on, or from the one behind it if that is full.
+/// The segments that new passes go into: from the last one on, or from the one after it if that is full.
 fn first_new_segment(block: &opj_tcd_cblk_dec_t) -> usize {
     match segments(block).last() {
         None => 0,
