@@ -190,7 +190,8 @@ class Run:
                 self.tally["9 where a short output made the crate fail first"] += 1
         else:
             raise Unexpected(spaced(answer))
-        call = "record { contribution = record { counts = %s; lengths = %s; marks = %s }; markers = %s; number = %d; scratch = %d; body = %d; output = %d }" % (
+        call = "record { contribution = record { counts = %s; lengths = %s; marks = %s }; markers = %s; "\
+            "number = %d; scratch = %d; body = %d; output = %d }" % (
             nats(counts), nats(lengths), nats(marks), markers(sop, eph), number, len(words), sum(lengths), room if body == "*" else 0)
         name = "writes" if body == "*" else "heads"
         self.steps.append("%s (%s) %d %s" % (name, call, why, nats(front)))
@@ -200,7 +201,8 @@ class Run:
             self.passes = [p + c for p, c in zip(self.passes, counts)]
             self.counts.update(c for c in counts if c)
         self.calls.append(("writer", name, dict(
-            before=words, sop=sop, eph=eph, number=number, counts=counts, lengths=lengths, marks=marks, room=room, refusal=why, front=front, after=self.holds("writer"))))
+            before=words, sop=sop, eph=eph, number=number, counts=counts, lengths=lengths, marks=marks, room=room,
+            refusal=why, front=front, after=self.holds("writer"))))
         return front if why == 0 else None
 
     def cost_of(self, words, answer):
@@ -245,7 +247,8 @@ class Run:
             self.tally["reads with 999 zero planes"] += bool(told[1]) and any(x == NOT_YET for x in reports[1::4])
             self.tally["reads with a length of 2^31 or more"] += any(x >= 1 << 31 for x in records[3::4])
         self.calls.append(("reader", "reads", dict(
-            sop=sop, eph=eph, data=data, reports=4 * self.blocks, records=4 * lent, told=told, rows=(reports, records), after=self.holds("reader"))))
+            sop=sop, eph=eph, data=data, reports=4 * self.blocks, records=4 * lent, told=told,
+            rows=(reports, records), after=self.holds("reader"))))
         return told[0]
 
     def row(self, steps=None):
@@ -289,7 +292,8 @@ def some_shape(rng):
 
 def some_count(rng, many):
     if rng.random() < many:
-        return rng.choice([9, 10, 11, 12, 13, 36, 37, 109, 110, 164] + [rng.randrange(1, 165) for _ in range(6)] + [rng.randrange(6, 37) for _ in range(6)])
+        return rng.choice([9, 10, 11, 12, 13, 36, 37, 109, 110, 164] + [rng.randrange(1, 165) for _ in range(6)]
+            + [rng.randrange(6, 37) for _ in range(6)])
     return rng.choice([1, 1, 1, 2, 2, 3, 4, 5, 6, 7, 8])
 
 
@@ -378,7 +382,8 @@ def some_bytes(rng, most):
     out = []
     if mode == 3:
         # a run of ones about as long as an increment can be
-        bits = rng.choice([[1, 1, 1, 0], [1, 1, 0], [1, 1, 1, 1, 0]]) if rng.random() < 0.6 else [1] + [rng.randrange(2) for _ in range(rng.randrange(9))]
+        bits = rng.choice([[1, 1, 1, 0], [1, 1, 0], [1, 1, 1, 1, 0]]) if rng.random() < 0.6 else (
+            [1] + [rng.randrange(2) for _ in range(rng.randrange(9))])
         bits += [1] * rng.choice([rng.randrange(33), 27, 28, 29, 30]) + [0] + [rng.randrange(2) for _ in range(8 * n)]
         return stuffed(bits)
     for _ in range(n):
@@ -460,12 +465,14 @@ def some_state(rng, role, bands, style, layer):
     def incl():
         if wild and rng.random() < 0.3:
             return rng.randrange(1000)
-        return min(NOT_YET, max(0, rng.choice([layer, layer, layer - 1, layer + 1, layer + 2, layer - 3, NOT_YET, rng.randrange(layer + 1) if far else layer])))
+        return min(NOT_YET, max(0, rng.choice([layer, layer, layer - 1, layer + 1, layer + 2, layer - 3, NOT_YET,
+            rng.randrange(layer + 1) if far else layer])))
 
     def incl_low():
         if wild and rng.random() < 0.3:
             return rng.randrange(1000)
-        return min(NOT_YET, max(0, rng.choice([layer, layer, layer - 1, layer - 1, layer + 1, layer - 2, 0 if far or layer < 5 else layer])))
+        return min(NOT_YET, max(0, rng.choice([layer, layer, layer - 1, layer - 1, layer + 1, layer - 2,
+            0 if far or layer < 5 else layer])))
 
     def zero():
         if (wild and rng.random() < 0.1) or (far and rng.random() < 0.1):
@@ -566,9 +573,11 @@ def reader_run(rng, run):
     run.writer.ask("start writer %d %d %s %d %s" % (run.empty, len(run.bands), geometry, run.style, spaced(run.planes)))
     how = rng.choice(["matching", "matching", "matching", "some"])
     for _ in range(rng.randrange(1, 6)):
-        counts, lengths, marks = some_contribution(rng, run, how, rng.choice([3, 5, 8, 12, 24]), rng.choice([0, 0.3, 0.6, 1]), 0.25 if run.blocks < 5 else 0.06)
+        counts, lengths, marks = some_contribution(rng, run, how, rng.choice([3, 5, 8, 12, 24]), rng.choice([0, 0.3, 0.6, 1]),
+            0.25 if run.blocks < 5 else 0.06)
         sop, eph = rng.randrange(2), rng.randrange(2)
-        answer = run.writer.ask("write %d %d %d %d / %s / %s / %s / !" % (sop, eph, some_number(rng), AMPLE, spaced(counts), spaced(lengths), spaced(marks))).split()
+        answer = run.writer.ask("write %d %d %d %d / %s / %s / %s / !"
+            % (sop, eph, some_number(rng), AMPLE, spaced(counts), spaced(lengths), spaced(marks))).split()
         if answer[0] == "ok":
             front = list(bytes.fromhex(answer[2]))
             run.passes = [p + c for p, c in zip(run.passes, counts)]
@@ -603,11 +612,13 @@ def trip_run(rng, run):
             if run.blocks and rng.random() < 0.12:
                 counts, lengths, marks = ending_in_ff(rng, run, "matching", sop)
             else:
-                counts, lengths, marks = some_contribution(rng, run, "matching", bits, rng.choice([0, 0.3, 0.6, 1]), 0.25 if run.blocks < 5 else 0.06)
+                counts, lengths, marks = some_contribution(rng, run, "matching", bits, rng.choice([0, 0.3, 0.6, 1]),
+                    0.25 if run.blocks < 5 else 0.06)
             if not large:
                 while sum(lengths) > BODY_MOST:
                     lengths = [n // 2 for n in lengths]
-            front = run.write(sop, eph, some_number(rng), counts, lengths, marks, "!" if large else "*", rng.choice(["exact", "exact", "more", "short"]))
+            front = run.write(sop, eph, some_number(rng), counts, lengths, marks, "!" if large else "*",
+                rng.choice(["exact", "exact", "more", "short"]))
             if front is not None:
                 waiting.append((sop, eph, front))
         while waiting and rng.random() < 0.8:
@@ -655,7 +666,8 @@ def loaded_reader_run(rng, run):
             layer += 1
 
 
-KINDS = [("writer", writer_run, 22), ("reader", reader_run, 24), ("trip", trip_run, 22), ("loaded writer", loaded_writer_run, 18), ("loaded reader", loaded_reader_run, 14)]
+KINDS = [("writer", writer_run, 22), ("reader", reader_run, 24), ("trip", trip_run, 22), ("loaded writer", loaded_writer_run, 18),
+    ("loaded reader", loaded_reader_run, 14)]
 
 
 def make_run(seed, i, oracles, tally):
@@ -678,7 +690,8 @@ use mathlib.Core.List.{List, [], _∷_}
 use Rattle.t800.specs.declared.Band.{Band}
 use Rattle.t800.specs.declared.Markers.{Markers}
 use Rattle.t800.specs.WriteHeader.{Contribution}
-use Rattle.t800.proofs.Table.{Writing, Reading, Step, loads-writer, loads-reader, holds-writer, holds-reader, writes, heads, reads, Row, rowHolds, failing}
+use Rattle.t800.proofs.Table.{Writing, Reading, Step, loads-writer, loads-reader, holds-writer, holds-reader, writes, heads, reads}
+use Rattle.t800.proofs.Table.{Row, rowHolds, failing}
 
 """
 

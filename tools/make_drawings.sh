@@ -16,7 +16,10 @@ awk 'BEGIN {
     }
 }' > "$work/text.ppm"
 awk 'NR <= 3 {print; next} {for (i = 1; i <= NF; i++) print $i}' "$work/text.ppm" > "$work/list.ppm"
-{ printf 'P6\n61 47\n255\n'; tail -n +4 "$work/list.ppm" | awk '{printf "\\%03o\n", $1}' | while read -r byte; do printf "$byte"; done; } > "$work/drawing.ppm"
+{
+    printf 'P6\n61 47\n255\n'
+    tail -n +4 "$work/list.ppm" | awk '{printf "\\%03o\n", $1}' | while read -r byte; do printf "$byte"; done
+} > "$work/drawing.ppm"
 
 quiet() { "$@" > /dev/null 2>&1 || echo "failed: $*" >&2; }
 

@@ -124,7 +124,8 @@ class Calls:
         bands = three(bands)
         after = [STATE] * size if answer else list(words)
         assert size == len(after) <= STATE_MOST and len(planes) <= COUNTS_MOST
-        self.add([1] + numbers([role, count]) + row([x for b in bands for x in b]) + numbers([style, size]) + counted(planes) + numbers([answer, check(after)]), from_crate)
+        self.add([1] + numbers([role, count]) + row([x for b in bands for x in b]) + numbers([style, size]) + counted(planes)
+            + numbers([answer, check(after)]), from_crate)
         self.state = after
 
     def lists(self, scratch, sop, eph, packet, counts, lengths, marks):
@@ -162,7 +163,8 @@ class Calls:
         want = [x + [rest] * (n - len(x)) for x, rest, n in zip(rows, rests, (reports, records))]
         assert len(data) <= BYTES_MOST and max(reports, records) <= RECORDS_MOST and [len(x) for x in want] == [reports, records]
         self.add([4] + numbers([scratch, sop + 2 * eph, len(data)]) + list(data) + numbers([reports, records] + list(told))
-                 + [b for x, rest in zip(rows, rests) for b in numbers([len(x), rest]) + row(x)] + numbers([check(after), check(left)]), from_crate)
+                 + [b for x, rest in zip(rows, rests) for b in numbers([len(x), rest]) + row(x)]
+                 + numbers([check(after), check(left)]), from_crate)
         self.state = after
 
     def bytes(self):
@@ -186,17 +188,20 @@ def put_run(calls, run, side):
         if who != side:
             continue
         if name == "start":
-            calls.start(1 if side == "writer" else 2, len(run.bands), run.bands, run.style, run.planes if side == "writer" else [], len(c["after"]), 0, c["after"])
+            calls.start(1 if side == "writer" else 2, len(run.bands), run.bands, run.style, run.planes if side == "writer" else [],
+                len(c["after"]), 0, c["after"])
         elif name == "load":
             calls.load(c["words"])
         elif name == "reads":
             calls.read(c["sop"], c["eph"], c["data"], c["reports"], c["records"], c["told"], c["rows"], c["after"])
         elif name == "writes":
             body = sum(c["lengths"])
-            calls.write(c["sop"], c["eph"], c["number"], c["counts"], c["lengths"], c["marks"], body, c["room"], c["refusal"], c["front"], c["after"])
+            calls.write(c["sop"], c["eph"], c["number"], c["counts"], c["lengths"], c["marks"], body, c["room"], c["refusal"],
+                c["front"], c["after"])
         else:
             total = sum(c["lengths"])
-            calls.measure(c["sop"], c["eph"], c["counts"], c["lengths"], c["marks"], (c["refusal"], len(c["front"]), total) if c["refusal"] == 0 else (c["refusal"], 0, 0), c["after"])
+            calls.measure(c["sop"], c["eph"], c["counts"], c["lengths"], c["marks"],
+                (c["refusal"], len(c["front"]), total) if c["refusal"] == 0 else (c["refusal"], 0, 0), c["after"])
             if c["refusal"] == 0:
                 # the crate has no measuring: its state moved on, and that of the list does not
                 return
@@ -225,7 +230,8 @@ def marker_run(rng, run):
     for _ in range(rng.randrange(2, 6)):
         counts, lengths, marks = generator.some_contribution(rng, run, "matching", 5, 0.6, 0)
         sop, eph = rng.choice([(0, 1), (1, 0), (1, 1)])
-        answer = run.writer.ask("write %d %d %d %d / %s / %s / %s / !" % (sop, eph, generator.some_number(rng), AMPLE, spaced(counts), spaced(lengths), spaced(marks))).split()
+        answer = run.writer.ask("write %d %d %d %d / %s / %s / %s / !"
+            % (sop, eph, generator.some_number(rng), AMPLE, spaced(counts), spaced(lengths), spaced(marks))).split()
         if answer[0] != "ok":
             raise Unexpected(spaced(answer))
         run.passes = [p + c for p, c in zip(run.passes, counts)]
@@ -271,7 +277,8 @@ class Asked:
 
     def start(self, role, bands, style, planes):
         self.bands = bands
-        self.ask("start %s 0 %d %s %d %s" % ("writer" if role == 1 else "reader", len(bands), spaced(spaced(b) for b in bands), style, spaced(planes)))
+        self.ask("start %s 0 %d %s %d %s" % ("writer" if role == 1 else "reader", len(bands), spaced(spaced(b) for b in bands), style,
+            spaced(planes)))
         words = self.oracle.words()
         self.calls.start(role, len(bands), bands, style, planes, len(words), 0, words)
 
@@ -316,7 +323,8 @@ class Asked:
             first, told, got = [[int(x) for x in part.split()] for part in answer[3:].split("/")]
             if (reports and told != [x for r in reports for x in r]) or (rows and got != [x for r in rows for x in r]):
                 raise SystemExit("the crate reads %s" % answer)
-            self.calls.read(sop, eph, data, 4 * blocks, 4 * (first[2] if records is None else records), [0] + first, (told, got), self.oracle.words())
+            self.calls.read(sop, eph, data, 4 * blocks, 4 * (first[2] if records is None else records), [0] + first, (told, got),
+                self.oracle.words())
         else:
             refusal = {"failed width": 9, "failed align": 12}[answer]
             self.calls.read(sop, eph, data, 4 * blocks, 4 * (4 if records is None else records), [refusal, 0, 0, 0, 0, 0])
@@ -363,7 +371,8 @@ def hand_list(oracle):
     w.read(front[:3])
     w.read(front, rows=[[0, 1, 16, 511]])
     # a missing marker treated as a refusal
-    for data in ("e5", "e500", "e50000", "ff91000400", "ff9100040001e5", "ff9100040001e5ff", "ff9100040001e5ff91", "ff9200040001e5ff92", "e5ff92", ""):
+    for data in ("e5", "e500", "e50000", "ff91000400", "ff9100040001e5", "ff9100040001e5ff", "ff9100040001e5ff91", "ff9200040001e5ff92",
+        "e5ff92", ""):
         w.start(2, ONE, 0, [])
         w.read(list(bytes.fromhex(data)), 1, 1, records=2)
     return calls
@@ -444,7 +453,8 @@ def refusal_list(oracle):
         block = first + 2 * 3 * 3
         bad = [(0, 3 - role), (0, 0), (1, 0), (1, 4), (2, 64), (3, 1000), (4, 65), (5, 65), (6, 999), (7, 1), (9, 1), (12, 1),
                (first, 1000), (first + 1, 1000), (first + 2, 2), (block - 3, 1000), (block - 2, 1000), (block - 1, 2),
-               (block, 165), (block, 0), (block + 1, 2), (block + 1, 33), (block + 1, 0), (block + 2, 5), (block + 3, 11), (block + 5, 3), (block + 6, 1), (block + 7, 1)]
+               (block, 165), (block, 0), (block + 1, 2), (block + 1, 33), (block + 1, 0), (block + 2, 5), (block + 3, 11),
+               (block + 5, 3), (block + 6, 1), (block + 7, 1)]
         calls.load(words)
         for at, value in bad:
             calls.poke(at, value)
@@ -481,7 +491,8 @@ def writer_order(calls, given):
             (3, [1, 1, 1], [0] * 3, [0] * 3, 0, 0), (3, [], [], [], 0, 9), (3, [(1 << 32) - 1, 1], [], [], 0, 9),
             (7, [165, 1], [top] + [0] * 165, [0] * 166, 0, 0), (7, [0, 165], [0] * 165, [0] * 165, 0, 99),
             (8, [1, 1], [top, 0], [0, 0], 0, 0), (8, [2, 1], [top // 2, top // 2, 0], [0] * 3, 0, 0),
-            (8, [8, 1], [top - 1] + [0] * 6 + [1, top], [1] + [0] * 8, 0, 0), (9, [8, 1], [top - 1] + [0] * 6 + [1, 0], [1] + [0] * 8, 0, 0),
+            (8, [8, 1], [top - 1] + [0] * 6 + [1, top], [1] + [0] * 8, 0, 0),
+            (9, [8, 1], [top - 1] + [0] * 6 + [1, 0], [1] + [0] * 8, 0, 0),
             (10, [1, 1], [2, 2], [0, 0], 3, 0), (10, [1, 1], [2, 2], [0, 0], 5, 0), (10, [1, 1], [2, 2], [0, 0], 0, 40),
             (11, [1, 1], [2, 2], [0, 0], 4, 0), (11, [1, 1], [2, 2], [0, 0], 4, 6)):
         calls.write(0, 0, 0, counts, lengths, marks, body, room, number, **given)
@@ -550,8 +561,10 @@ def big_list(oracles, seed):
     """Big geometries, up to three bands of 64 × 64."""
     calls = Calls("big")
     for bands, style, most in (
-            ([(64, 64, 9)], 0, 8), ([(64, 64, 8)], 4, 5), ([(64, 64, 7), (64, 64, 8), (64, 64, 9)], 1, 8), ([(64, 1, 12), (1, 64, 12), (33, 63, 10)], 0, 6),
-            ([(63, 64, 7), (64, 63, 6)], 0x2a, 5), ([(32, 32, 20), (31, 33, 21), (17, 16, 22)], 5, 4), ([(5, 64, 998), (64, 3, 998), (0, 64, 1)], 4, 4),
+            ([(64, 64, 9)], 0, 8), ([(64, 64, 8)], 4, 5), ([(64, 64, 7), (64, 64, 8), (64, 64, 9)], 1, 8),
+            ([(64, 1, 12), (1, 64, 12), (33, 63, 10)], 0, 6),
+            ([(63, 64, 7), (64, 63, 6)], 0x2a, 5), ([(32, 32, 20), (31, 33, 21), (17, 16, 22)], 5, 4),
+            ([(5, 64, 998), (64, 3, 998), (0, 64, 1)], 4, 4),
             ([(64, 64, 0), (2, 1, 3)], 0, 5), ([(9, 9, 6), (10, 10, 7)], 1, 6)):
         big_case(calls, oracles, seed, bands, style, most)
     return calls

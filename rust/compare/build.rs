@@ -125,7 +125,8 @@ fn openjpeg() {
     let Some(src) = std::env::var_os("OPENJPEG_SRC") else { return };
     let out = PathBuf::from(std::env::var("OUT_DIR").unwrap());
     let public = "#define OPJ_HAVE_STDINT_H 1\n#define OPJ_VERSION_MAJOR 2\n#define OPJ_VERSION_MINOR 5\n#define OPJ_VERSION_BUILD 0\n";
-    let private = "#define OPJ_HAVE_INTTYPES_H 1\n#define OPJ_PACKAGE_VERSION \"2\"\n#define OPJ_HAVE_POSIX_MEMALIGN\n#define _POSIX_C_SOURCE 200112L\n";
+    let private = "#define OPJ_HAVE_INTTYPES_H 1\n#define OPJ_PACKAGE_VERSION \"2\"\n#define OPJ_HAVE_POSIX_MEMALIGN\n\
+        #define _POSIX_C_SOURCE 200112L\n";
     std::fs::write(out.join("opj_config.h"), public).unwrap();
     std::fs::write(out.join("opj_config_private.h"), private).unwrap();
     let object = out.join("openjpeg.o");

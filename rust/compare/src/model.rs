@@ -231,7 +231,7 @@ fn put_number(bits: &mut Vec<u8>, value: u64, width: u32) {
 }
 
 /// Bytes of these bits: seven in a byte after FF, and a 00 after a last FF.
-fn pack(bits: &[u8]) -> Vec<u8> {
+pub fn pack(bits: &[u8]) -> Vec<u8> {
     let mut bytes: Vec<u8> = Vec::new();
     let mut left = bits;
     while !left.is_empty() {

@@ -19,7 +19,8 @@ OPJ_BOOL opj_tcd_is_band_empty(opj_tcd_band_t *band) {
 void opj_tcd_reinit_segment(opj_tcd_seg_t *segment) {
     memset(segment, 0, sizeof *segment);
 }
-OPJ_BOOL opj_tcd_is_subband_area_of_interest(opj_tcd_t *a, OPJ_UINT32 b, OPJ_UINT32 c, OPJ_UINT32 d, OPJ_UINT32 e, OPJ_UINT32 f, OPJ_UINT32 g, OPJ_UINT32 h) {
+OPJ_BOOL opj_tcd_is_subband_area_of_interest(opj_tcd_t *a, OPJ_UINT32 b, OPJ_UINT32 c, OPJ_UINT32 d, OPJ_UINT32 e, OPJ_UINT32 f,
+                                            OPJ_UINT32 g, OPJ_UINT32 h) {
     (void)a, (void)b, (void)c, (void)d, (void)e, (void)f, (void)g, (void)h;
     abort();
 }

@@ -236,7 +236,8 @@ impl Pair {
         );
         let text = || {
             format!(
-                "read {before:?} scratch {scratch} {src:02x?} {markers:?} reports {reports} numbers {numbers} records {records} answer {answer}"
+                "read {before:?} scratch {scratch} {src:02x?} {markers:?} \
+                 reports {reports} numbers {numbers} records {records} answer {answer}"
             )
         };
         let lent: Vec<[u32; 4]> = lent.iter().map(record).collect();

@@ -1,5 +1,6 @@
 //! The trials: each makes calls until its share is used up.
 use crate::inputs::{self, Shape};
+use crate::model;
 use crate::pair::{Bands, Layer, Markers, Pair};
 use crate::random::Random;
 
@@ -296,6 +297,26 @@ impl Trials {
         if length < 2000 {
             let body = vec![7; layer.body() as usize];
             self.pair.write(&mut state, words, &layer, &body, Markers { sop: true, eph: true }, 70000 + count, 8000, 1);
+        }
+    }
+
+    /// One block read with increments about the widest length field, with too few records and enough: 9 comes before 13.
+    pub fn wide_fields(&mut self) {
+        let passes: [&[u8]; 4] = [&[0], &[1, 0], &[1, 1, 0, 0], &[1, 1, 1, 1, 0, 0, 1, 1, 0]];
+        for style in [0, 0x01, 0x04] {
+            let reader = self.start(false, &one_block(5, 5, style));
+            for code in passes {
+                for increment in 24..=34 {
+                    let mut bits = vec![1, 1, 1];
+                    bits.extend(code);
+                    bits.extend(vec![1; increment]);
+                    bits.push(0);
+                    bits.extend([0, 1, 1].repeat(200));
+                    for records in 0..=13 {
+                        self.read(&mut reader.clone(), &model::pack(&bits), Markers::default(), records);
+                    }
+                }
+            }
         }
     }
 

@@ -59,6 +59,11 @@ fn counts_and_lengths() {
 }
 
 #[test]
+fn wide_fields() {
+    trial(&[0, 9, 13], |t| t.wide_fields());
+}
+
+#[test]
 fn largest() {
     trial(&[0, 11], |t| t.largest(2));
 }

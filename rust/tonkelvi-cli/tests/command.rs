@@ -29,7 +29,8 @@ fn a_whole_file() {
     let output = tonkelvi(&["sheet", "openjpeg_poc.j2k"], "");
     let rows = text(&output);
     assert_eq!(output.status.code(), Some(0));
-    assert!(rows.starts_with("file,tile,layer,resolution,component,precinct,offset,header bytes,body bytes,blocks,passes,lengths,message,"));
+    let columns = "file,tile,layer,resolution,component,precinct,offset,header bytes,body bytes,blocks,passes,lengths,message,";
+    assert!(rows.starts_with(columns));
     assert_eq!(rows.lines().count(), 37);
     assert!(rows.lines().all(|row| row.split(',').count() == 14));
     assert!(output.stderr.is_empty());

@@ -34,7 +34,8 @@ int main(void) {
     EXPECT(tonkelvi_measure(state, n, scratch, n, counts, 1, lengths, 1, marks, 1, true, true, answer, 5) == TONKELVI_LIST);
     EXPECT(tonkelvi_measure(state, n, scratch, n, counts, 1, lengths, 1, marks, 1, true, true, answer, 2) == 0);
     EXPECT(answer[0] == 9 && answer[1] == 5);
-    EXPECT(tonkelvi_write(state, n, scratch, n, counts, 1, lengths, 1, marks, 1, body, 5, true, true, 65537, output, 13, answer, 1) == TONKELVI_SPACE);
+    EXPECT(tonkelvi_write(state, n, scratch, n, counts, 1, lengths, 1, marks, 1, body, 5, true, true, 65537, output, 13, answer, 1)
+           == TONKELVI_SPACE);
     EXPECT(tonkelvi_write(state, n, scratch, n, counts, 1, lengths, 1, marks, 1, body, 5, true, true, 65537, output, 14, answer, 1) == 0);
     EXPECT(answer[0] == 14 && memcmp(output, packet, 14) == 0);
 

@@ -1,4 +1,5 @@
-//! bench [SECONDS [PATTERN]]: packets written and read by the engine and by crate openjp2's own functions, in one process, on the same inputs.
+//! bench [SECONDS [PATTERN]]: packets written and read by the engine and by crate openjp2's own functions, in one process, on the same
+//! inputs.
 //! Both sides' bytes and answers are compared before anything is timed. A row is timed in turn, the crate's side and ours, for so many
 //! seconds, and the best time of each side counts. PATTERN: only the rows whose names hold it.
 #[cfg(openjp2)]
@@ -290,7 +291,10 @@ mod timed {
     }
 
     pub fn main(time: Duration, pattern: &str) {
-        println!("| call | blocks | layers | crate, ns a packet | ours | crate, ns a block | ours | crate, 1,000 packets/s | ours | crate / ours | crate's header alone / ours | OpenJPEG / ours |");
+        println!(
+            "| call | blocks | layers | crate, ns a packet | ours | crate, ns a block | ours | crate, 1,000 packets/s | ours \
+             | crate / ours | crate's header alone / ours | OpenJPEG / ours |"
+        );
         println!("|---|---|---|---|---|---|---|---|---|---|---|---|");
         for (side, count, name) in [(1, 1, "1 × 1"), (4, 1, "4 × 4"), (16, 1, "16 × 16"), (64, 3, "64 × 64 × 3")] {
             for (rare, density) in [(1, "dense"), (8, "sparse"), (0, "empty")] {

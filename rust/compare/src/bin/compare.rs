@@ -22,6 +22,7 @@ fn main() {
     part("all layers", &|t| (0..share(1) / 20_000 + 1).for_each(|_| t.all_layers()));
     part("largest", &|t| t.largest(share(1) as u32 / 20_000 + 2));
     part("counts and lengths", &|t| t.counts_and_lengths(1));
+    part("wide fields", &|t| t.wide_fields());
     part("short inputs", &|t| t.short_inputs(if calls < 4_000_000 { 1 } else { 3 }, 2));
     part("starts", &|t| t.starts(share(8)));
     part("lists", &|t| t.lists(share(8)));
