@@ -15,7 +15,8 @@ use Rattle.t800.proofs.Laws.Layout.{band-length, end-after}
 use Rattle.tcd_layout.specs.Geometry.{noBand}
 use Rattle.tcd_layout.proofs.Laws.Bands.{next-band, sides-of-first, blocks-turn, end-turn, length-blocks, blocks-up-to-12288}
 use Rattle.t2_widths.specs.Widths.{PassesLeft}
-use Rattle.t2_widths.proofs.Laws.Lists.{sum-splits, passes-left-behind, of-rests, on-rests, part-length}
+use Rattle.t2_narrow.proofs.Laws.Sums.{sum-splits}
+use Rattle.t2_widths.proofs.Laws.Lists.{passes-left-behind, of-rests, on-rests, part-length}
 use Rattle.t2_widths.proofs.Laws.BlocksLeft.{band-wide-turn, passes-behind-band, none-long-behind-band, passes-here, no-band-left}
 use Rattle.t2_widths.proofs.field_too_wide.Statement.{statement}
 use Rattle.t2_widths.proofs.field_too_wide.Tie as tie

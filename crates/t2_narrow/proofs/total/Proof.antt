@@ -1,12 +1,12 @@
--- `t2_widths::total` meets its contract.
+-- `t2_narrow::total` meets its contract.
 use Prim.Native.Nat.{_+_, _-_, _*_, _≤_}
 use lib.ListN.{length, drop}
 use mathlib.Core.Path.{_≡_}
 use native.Mathlib.Omega.{arith}
 use Rattle.t800.specs.Base.{sum}
-use Rattle.t2_widths.proofs.Laws.Lists.{sum-turn, sum-end}
-use Rattle.t2_widths.proofs.total.Statement.{statement}
-use Rattle.t2_widths.proofs.total.Tie as tie
+use Rattle.t2_narrow.proofs.Laws.Sums.{sum-turn, sum-end}
+use Rattle.t2_narrow.proofs.total.Statement.{statement}
+use Rattle.t2_narrow.proofs.total.Tie as tie
 
 abbrev Inv-loop : tie.InvT-loop
 Inv-loop list all₀ i₀ all i = (i ≤ length list) × (all ≤ 4294967295 * i) × (all + sum (drop i list) ≡ sum list)

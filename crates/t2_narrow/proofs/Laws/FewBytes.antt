@@ -19,8 +19,8 @@ use Rattle.tcd_state.proofs.Laws.RangeParts.{and-left, and-right}
 use Rattle.tcd_state.proofs.Laws.ValidStates.{every-true}
 use Rattle.t2_segments.specs.Segments.{anyTooLong, anyTooWide, blockTooWide}
 use Rattle.t2_segments.proofs.Laws.Segments.{log-up-to}
-use Rattle.t2_widths.specs.Widths.{bitsUpTo25, segmentsRefusal}
-use Rattle.t2_widths.proofs.Laws.Lists.{sum-splits}
+use Rattle.t2_narrow.specs.Narrow.{bitsUpTo25}
+use Rattle.t2_narrow.proofs.Laws.Sums.{sum-splits}
 
 -- ---- one block
 
@@ -106,13 +106,12 @@ bits-known ws at (b ∷ bs) p e (inr n) =
     let here : Bool = every (blocksIn b) (λ i. leb (lengthBits ws (at + 6 * bandNodes b + 4 * i)) 25) in
     bits-known ws (at + bandLength b) bs p (and-right here (bitsUpTo25 ws (at + bandLength b) bs) e) n
 
-pub few-not-refused : (ws : List ℕ) (bs : List Band) (cs ls ms : List ℕ) → (ltb (sum ls) (2 ^ 24) && bitsUpTo25 ws 13 bs) ≡ true → any (λ c. ltb 164 c) cs ≡ false
-    → 0 ≡ segmentsRefusal ws (blocks bs) cs ls ms
-unfolding segmentsRefusal
-few-not-refused ws bs cs ls ms e f =
+pub few-neither : (ws : List ℕ) (bs : List Band) (cs ls ms : List ℕ) → (ltb (sum ls) (2 ^ 24) && bitsUpTo25 ws 13 bs) ≡ true → any (λ c. ltb 164 c) cs ≡ false
+    → (segmentTooLong cs ls ms ≡ false) × (fieldTooWide ws (blocks bs) cs ls ms ≡ false)
+few-neither ws bs cs ls ms e f =
     let few = ltb-true (sum ls) (2 ^ 24) (and-left (ltb (sum ls) (2 ^ 24)) (bitsUpTo25 ws 13 bs) e) in
     let bits = and-right (ltb (sum ls) (2 ^ 24)) (bitsUpTo25 ws 13 bs) e in
-    rw (few-not-long cs ls ms few f, few-not-wide (layoutOf bs) ws (blocks bs) cs ls ms (blocks-placed bs) (λ p b. bits-known ws 13 bs p bits b) few f)
+    (few-not-long cs ls ms few f, few-not-wide (layoutOf bs) ws (blocks bs) cs ls ms (blocks-placed bs) (λ p b. bits-known ws 13 bs p bits b) few f)
 
 -- ---- one band more
 
@@ -122,8 +121,3 @@ unfolding bitsUpTo25 bandLength
 bits-turn ws at l b bs first size t e p q h =
     let k : first + 4 * size ≡ at + (6 * bandNodes b + 4 * blocksIn b) = omega arith in
     rw (h, k, p, q, e)
-
-pub refusal-parts : (ws : List ℕ) (ks : List Block) (cs ls ms : List ℕ) (a b : Bool) → a ≡ segmentTooLong cs ls ms → b ≡ fieldTooWide ws ks cs ls ms
-    → cond a 8 (cond b 9 0) ≡ segmentsRefusal ws ks cs ls ms
-unfolding segmentsRefusal
-refusal-parts ws ks cs ls ms a b p q = rw (p, q)

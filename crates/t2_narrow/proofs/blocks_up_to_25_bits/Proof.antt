@@ -1,4 +1,4 @@
--- `t2_widths::blocks_up_to_25_bits` meets its contract.
+-- `t2_narrow::blocks_up_to_25_bits` meets its contract.
 use Prim.Native.Nat.{_*_, _+_, _-_, _≤_}
 use lib.Dec.{leb}
 use mathlib.Core.Path.{_≡_, refl}
@@ -7,8 +7,8 @@ use Rattle.t800.specs.Base.{every}
 use Rattle.t800.specs.State.{lengthBits}
 use Rattle.tcd_shape.specs.Parts.{fault}
 use Rattle.tcd_state.proofs.Laws.Faults.{faults-end, faults-turn}
-use Rattle.t2_widths.proofs.blocks_up_to_25_bits.Statement.{statement}
-use Rattle.t2_widths.proofs.blocks_up_to_25_bits.Tie as tie
+use Rattle.t2_narrow.proofs.blocks_up_to_25_bits.Statement.{statement}
+use Rattle.t2_narrow.proofs.blocks_up_to_25_bits.Tie as tie
 
 abbrev Inv-loop : tie.InvT-loop
 Inv-loop state at n faults₀ i₀ faults i = (i ≤ n) × (faults ≡ fault (every i (λ k. leb (lengthBits state (at + 4 * k)) 25)))

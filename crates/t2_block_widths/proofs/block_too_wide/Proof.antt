@@ -1,10 +1,18 @@
--- `t2_widths::block_too_wide` meets its contract.
+-- `t2_block_widths::block_too_wide` meets its contract.
+use Prim.Native.Nat.{ℕ, _+_}
 use borrow.Author.Needs.{needs}
+use mathlib.Core.Bool.{Bool}
+use mathlib.Core.List.{List}
+use mathlib.Core.Path.{_≡_, _∙_, ap}
 use native.Mathlib.Omega.{arith}
-use Rattle.t800.specs.Segments.{segmentsOf}
-use Rattle.t2_widths.proofs.Laws.BlocksLeft.{block-wide-parts}
-use Rattle.t2_widths.proofs.block_too_wide.Statement.{statement}
-use Rattle.t2_widths.proofs.block_too_wide.Tie as tie
+use Rattle.t800.specs.Segments.{Segment, segmentsOf, increment}
+use Rattle.t2_segments.specs.Segments.{anyTooWide, blockTooWide}
+use Rattle.t2_block_widths.proofs.block_too_wide.Statement.{statement}
+use Rattle.t2_block_widths.proofs.block_too_wide.Tie as tie
+
+-- a block's length bits, the increment and the widths with both
+block-wide-parts : (before more bits : ℕ) (ss : List Segment) (t : Bool) → before ≡ bits → more ≡ increment before ss → t ≡ anyTooWide (before + more) ss → t ≡ blockTooWide bits ss
+block-wide-parts before more bits ss t p q r = r ∙ ap (λ (z : ℕ). anyTooWide (before + z) ss) q ∙ ap (λ (z : ℕ). blockTooWide z ss) p
 
 segment-increment-requires : tie.Need-segment-increment-requires
 segment-increment-requires c κs = c .before .before .before .pre

@@ -1,4 +1,4 @@
--- `t2_widths::any_field_too_wide` meets its contract.
+-- `t2_block_widths::any_field_too_wide` meets its contract.
 use Prim.Native.Nat.{_-_, _≤_, ℕ}
 use borrow.Author.Tests.{lt-ltb, le-ltb}
 use lib.Dec.{ltb}
@@ -11,8 +11,8 @@ use Rattle.t800.specs.Segments.{Segment, segmentsOf, width}
 use Rattle.tcd_shape.proofs.Laws.AnyOf.{any-here, any-later}
 use Rattle.t2_segments.specs.Segments.{anyTooWide}
 use Rattle.t2_segments.proofs.Laws.Segments.{next-segment, no-segment-left}
-use Rattle.t2_widths.proofs.any_field_too_wide.Statement.{statement}
-use Rattle.t2_widths.proofs.any_field_too_wide.Tie as tie
+use Rattle.t2_block_widths.proofs.any_field_too_wide.Statement.{statement}
+use Rattle.t2_block_widths.proofs.any_field_too_wide.Tie as tie
 
 abbrev Inv-loop : tie.InvT-loop
 Inv-loop lengths marks length-bits at₀ at = (at ≤ length lengths) × (anyTooWide length-bits (segmentsOf (drop at lengths) (drop at marks)) ≡ anyTooWide length-bits (segmentsOf lengths marks))

@@ -1,4 +1,4 @@
--- `t2_widths::bands_up_to_25_bits` meets its contract.
+-- `t2_narrow::bands_up_to_25_bits` meets its contract.
 use Prim.Native.Nat.{ℕ, _+_, _*_, _-_, _≤_, _<_}
 use borrow.Author.Needs.{needs}
 use borrow.Author.Tests.{not-false, not-true}
@@ -12,10 +12,10 @@ use Rattle.t800.specs.State.{bandLength, bandNodes, blocksIn, endOf, stateLengt
 use Rattle.t800.specs.declared.Band.{Band}
 use Rattle.tcd_layout.proofs.Laws.Bands.{end-turn, next-band, no-more-bands, sides-of-first}
 use Rattle.tcd_layout.specs.Geometry.{noBand}
-use Rattle.t2_widths.specs.Widths.{bitsUpTo25}
-use Rattle.t2_widths.proofs.Laws.FewBytes.{bits-turn}
-use Rattle.t2_widths.proofs.bands_up_to_25_bits.Statement.{statement}
-use Rattle.t2_widths.proofs.bands_up_to_25_bits.Tie as tie
+use Rattle.t2_narrow.specs.Narrow.{bitsUpTo25}
+use Rattle.t2_narrow.proofs.Laws.FewBytes.{bits-turn}
+use Rattle.t2_narrow.proofs.bands_up_to_25_bits.Statement.{statement}
+use Rattle.t2_narrow.proofs.bands_up_to_25_bits.Tie as tie
 
 abbrev Inv-loop : tie.InvT-loop
 Inv-loop state n bands at₀ i₀ at i = (i ≤ n) × (bitsUpTo25 state at (drop i (take n bands)) ≡ bitsUpTo25 state 13 (take n bands)) × (endOf at (drop i (take n bands)) ≡ length state)

@@ -1,12 +1,12 @@
--- `t2_widths::surely_narrow` meets its contract.
+-- `t2_narrow::surely_narrow` meets its contract.
 use Prim.Native.Nat.{_^_}
 use borrow.Author.Needs.{needs}
 use borrow.Author.Tests.{le-ltb, lt-ltb}
 use mathlib.Core.Path.{_∙_}
 use native.Mathlib.Omega.{arith}
 use Rattle.t800.specs.Base.{sum}
-use Rattle.t2_widths.proofs.surely_narrow.Statement.{statement}
-use Rattle.t2_widths.proofs.surely_narrow.Tie as tie
+use Rattle.t2_narrow.proofs.surely_narrow.Statement.{statement}
+use Rattle.t2_narrow.proofs.surely_narrow.Tie as tie
 
 returns : tie.Need-returns
 returns c =

@@ -1,4 +1,4 @@
--- `t2_widths::any_segment_too_long` meets its contract.
+-- `t2_block_widths::any_segment_too_long` meets its contract.
 use Prim.Native.Nat.{_-_, _≤_, _^_}
 use borrow.Author.Tests.{le-leb, lt-leb}
 use lib.Dec.{leb}
@@ -11,8 +11,8 @@ use Rattle.t800.specs.Segments.{Segment, segmentsOf}
 use Rattle.tcd_shape.proofs.Laws.AnyOf.{any-here, any-later}
 use Rattle.t2_segments.specs.Segments.{anyTooLong}
 use Rattle.t2_segments.proofs.Laws.Segments.{next-segment, no-segment-left}
-use Rattle.t2_widths.proofs.any_segment_too_long.Statement.{statement}
-use Rattle.t2_widths.proofs.any_segment_too_long.Tie as tie
+use Rattle.t2_block_widths.proofs.any_segment_too_long.Statement.{statement}
+use Rattle.t2_block_widths.proofs.any_segment_too_long.Tie as tie
 
 abbrev Inv-loop : tie.InvT-loop
 Inv-loop lengths marks at₀ at = (at ≤ length lengths) × (anyTooLong (segmentsOf (drop at lengths) (drop at marks)) ≡ anyTooLong (segmentsOf lengths marks))
