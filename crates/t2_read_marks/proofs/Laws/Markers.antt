@@ -1,5 +1,5 @@
--- A marker by the tests of the code, and where the bytes taken end.
-use mathlib.Core.Path.{_≡_, sym, subst}
+-- A marker by the tests of the code, where the bytes taken end, and the answer.
+use mathlib.Core.Path.{_≡_, sym, ap, _∙_, subst}
 use mathlib.Core.Logic.{_≢_}
 use mathlib.Core.Bool.{Bool, true, false, cond, not, _&&_}
 use mathlib.Core.List.{List}
@@ -9,9 +9,12 @@ use lib.Dec.{eqb}
 use lib.ListN.{length, getD}
 use borrow.Author.Tests.{eq-eqb, ne-eqb, lt-ltb, le-ltb}
 use Rattle.t800.specs.declared.Bio.{Bio}
+use Rattle.t800.specs.declared.Markers.{Markers}
+use Rattle.t800.specs.declared.ReadAnswer.{ReadAnswer}
 use Rattle.t800.specs.Bits.{inFF, bytesTaken}
-use Rattle.t800.specs.MarkerSegments.{MarkerRead, readMarker}
+use Rattle.t800.specs.MarkerSegments.{MarkerRead, readMarker, readEph}
 use Rattle.t800.proofs.Laws.Tests.{either, on-lt, if-lt, if-ge}
+use Rattle.t2_read_marks.specs.Marks.{doneAnswer}
 
 abbrev found : ℕ → ℕ → MarkerRead
 found skip mark = record { skip = skip; mark = mark }
@@ -58,3 +61,11 @@ module _ (used : Bool) (n second : ℕ) (src : List ℕ) (p : ℕ) where
 pub taken-up-to : (src : List ℕ) (b : Bio) → bytesTaken src b ≤ b .bp + 1
 unfolding bytesTaken
 taken-up-to src b = either (λ (n : ℕ). n ≤ b .bp + 1) (inFF b) _ _ (omega arith) (omega arith)
+
+-- the answer where nothing is refused
+pub done-is : (m : Markers) (src : List ℕ) (s : MarkerRead) (b : Bio) (present segments at : ℕ) (e : MarkerRead) → at ≡ bytesTaken src b → e ≡ readMarker (m .eph) 2 0x92 src at
+    → _≡_ {A = ReadAnswer} (record { refusal = 0; present = present; taken = at + e .skip; segments = segments; sop = s .mark; eph = e .mark }) (doneAnswer m src s b present segments)
+unfolding doneAnswer readEph
+done-is m src s b present segments at e p q =
+    let f : e ≡ readMarker (m .eph) 2 0x92 src (bytesTaken src b) = q ∙ ap (readMarker (m .eph) 2 0x92 src) p in
+    λ j. record { refusal = 0; present = present; taken = p j + f j .skip; segments = segments; sop = s .mark; eph = f j .mark }

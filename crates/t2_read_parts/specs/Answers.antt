@@ -1,31 +1,18 @@
 -- What a read answers, and what it leaves in the lent lists.
-use Prim.Native.Nat.{ℕ, _+_}
+use Prim.Native.Nat.{ℕ}
 use mathlib.Core.Path.{_≡_}
 use mathlib.Core.Bool.{cond}
 use mathlib.Core.List.{List}
 use lib.Dec.{eqb}
-use Rattle.t800.specs.declared.Bio.{Bio}
 use Rattle.t800.specs.declared.Markers.{Markers}
 use Rattle.t800.specs.declared.ReadAnswer.{ReadAnswer}
 use Rattle.t800.specs.Base.{wiped}
-use Rattle.t800.specs.Bits.{bytesTaken}
-use Rattle.t800.specs.MarkerSegments.{MarkerRead, readEph}
+use Rattle.t800.specs.MarkerSegments.{MarkerRead}
 use Rattle.t800.specs.ReadHeader.{HeaderRead}
 use Rattle.t800.specs.Packet.{ReadResult, refusedAnswer, readPresent}
-use Rattle.t2_read_packet.specs.declared.MarkerFound.{MarkerFound}
-
-abbrev pub markerRead : MarkerFound → MarkerRead
-markerRead f = record { skip = f .skip; mark = f .mark }
 
 abbrev pub readResult : List ℕ → List ℕ → List ℕ → List ℕ → ReadAnswer → ReadResult
 readResult state scratch reports records answer = record { answer = answer; state = state; scratch = scratch; reports = reports; records = records }
-
--- the answer where nothing is refused, the header's bits ending at b: EPH is looked for behind them
-unfoldable pub doneAnswer : Markers → List ℕ → MarkerRead → Bio → ℕ → ℕ → ReadAnswer
-doneAnswer m src s b present segments =
-    let at = bytesTaken src b in
-    let e = readEph m src at in
-    record { refusal = 0; present = present; taken = at + e .skip; segments = segments; sop = s .mark; eph = e .mark }
 
 -- the segment records stay as they are, whatever they hold
 abbrev pub WithAnyRecords : (List ℕ → ReadResult) → (List ℕ → ReadResult) → Type 0

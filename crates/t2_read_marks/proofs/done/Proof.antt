@@ -1,15 +1,14 @@
--- `t2_read_packet::done` meets its contract.
+-- `t2_read_marks::done` meets its contract.
 use mathlib.Core.Path.{ap}
 use native.Mathlib.Omega.{arith}
 use Rattle.t800.specs.MarkerSegments.{MarkerRead}
 use Rattle.bio_read.specs.declared.Aligned.{Aligned}
 use Rattle.bio_read.specs.Reading.{alignedAt}
-use Rattle.t2_read_packet.specs.Answers.{markerRead}
-use Rattle.t2_read_packet.proofs.Laws.Markers.{skip-inside, taken-up-to}
-use Rattle.t2_read_packet.proofs.Laws.Results.{done-is}
+use Rattle.t2_read_marks.specs.Marks.{markerRead}
+use Rattle.t2_read_marks.proofs.Laws.Markers.{skip-inside, taken-up-to, done-is}
 use borrow.Author.Needs.{needs}
-use Rattle.t2_read_packet.proofs.done.Statement.{statement}
-use Rattle.t2_read_packet.proofs.done.Tie as tie
+use Rattle.t2_read_marks.proofs.done.Statement.{statement}
+use Rattle.t2_read_marks.proofs.done.Tie as tie
 
 add-taken : tie.Need-add-taken
 unfolding alignedAt

@@ -1,4 +1,4 @@
--- `t2_read_packet::read_refusal` meets its contract.
+-- `t2_read_refusals::read_refusal` meets its contract.
 use mathlib.Core.Path.{refl, sym, ap, _∙_, subst}
 use mathlib.Core.List.{List}
 use Prim.Native.Nat.{ℕ, _*_}
@@ -12,10 +12,10 @@ use Rattle.tcd_state.proofs.Laws.RangeParts.{first-bands}
 use Rattle.tcd_state.proofs.Laws.ValidStates.{valid-state}
 use Rattle.tcd_layout.proofs.Laws.Bands.{blocks-up-to-12288}
 use Rattle.t2_read_header.proofs.Laws.HeaderEnd.{thirteen-words}
-use Rattle.t2_read_packet.proofs.Laws.Results.{refusal-5, refusal-6, refusal-3, no-refusal}
+use Rattle.t2_read_refusals.proofs.Laws.Refusals.{refusal-5, refusal-6, refusal-3, no-refusal}
 use borrow.Author.Needs.{needs}
-use Rattle.t2_read_packet.proofs.read_refusal.Statement.{statement}
-use Rattle.t2_read_packet.proofs.read_refusal.Tie as tie
+use Rattle.t2_read_refusals.proofs.read_refusal.Statement.{statement}
+use Rattle.t2_read_refusals.proofs.read_refusal.Tie as tie
 
 returns : tie.Need-returns
 unfolding reader

@@ -1,15 +1,15 @@
--- `t2_read_packet::read_absent` meets its contract.
+-- `t2_read_parts::read_absent` meets its contract.
 use mathlib.Core.Path.{sym}
 use native.Mathlib.Omega.{arith}
 use lib.ListN.{length, length-set}
 use Rattle.t800.specs.State.{reader}
 use Rattle.tcd_state.proofs.Laws.ValidStates.{valid-state}
 use Rattle.t2_read_header.proofs.Laws.HeaderEnd.{thirteen-words}
-use Rattle.t2_read_packet.specs.Answers.{markerRead}
-use Rattle.t2_read_packet.proofs.Laws.Results.{absent-is}
+use Rattle.t2_read_marks.specs.Marks.{markerRead}
+use Rattle.t2_read_parts.proofs.Laws.Results.{absent-is}
 use borrow.Author.Needs.{needs}
-use Rattle.t2_read_packet.proofs.read_absent.Statement.{statement}
-use Rattle.t2_read_packet.proofs.read_absent.Tie as tie
+use Rattle.t2_read_parts.proofs.read_absent.Statement.{statement}
+use Rattle.t2_read_parts.proofs.read_absent.Tie as tie
 
 slice-read-next : tie.Need-slice-read-next
 slice-read-next c =

@@ -1,11 +1,11 @@
--- `t2_read_packet::read_marker` meets its contract.
+-- `t2_read_marks::read_marker` meets its contract.
 use mathlib.Core.Path.{subst}
 use Prim.Native.Nat.{ℕ, _≤_, _<_}
 use borrow.Author.Tests.{not-true, not-false}
-use Rattle.t2_read_packet.proofs.Laws.Markers.{not-used, too-few, first-differs, second-differs, both-there}
+use Rattle.t2_read_marks.proofs.Laws.Markers.{not-used, too-few, first-differs, second-differs, both-there}
 use borrow.Author.Needs.{needs}
-use Rattle.t2_read_packet.proofs.read_marker.Statement.{statement}
-use Rattle.t2_read_packet.proofs.read_marker.Tie as tie
+use Rattle.t2_read_marks.proofs.read_marker.Statement.{statement}
+use Rattle.t2_read_marks.proofs.read_marker.Tie as tie
 
 returns : tie.Need-returns
 returns c =
