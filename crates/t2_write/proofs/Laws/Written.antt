@@ -1,4 +1,4 @@
--- The answers of measuring and writing: what each refusal and what success leaves.
+-- The answers of writing: what each refusal and what success leaves.
 use mathlib.Core.Path.{_≡_, sym, ap, _∙_}
 use mathlib.Core.Logic.{_≢_}
 use mathlib.Core.Bool.{Bool, true, false, cond, not}
@@ -14,53 +14,13 @@ use Rattle.t800.specs.Base.{any, sum, overwrite, wiped}
 use Rattle.t800.specs.State.{writer, notYetIncluded, blocks, bands, layer}
 use Rattle.t800.specs.Ranges.{validState}
 use Rattle.t800.specs.WriteHeader.{Contribution, codeHeader, segmentTooLong, fieldTooWide}
-use Rattle.t800.specs.Packet.{wrongLists, measureRefusal, front, packet, writeRefusal, MeasureResult, measure, WriteResult, write}
-use Rattle.t800.proofs.Laws.Tests.{if-true, if-false, if-eq, if-ne, either}
+use Rattle.t800.specs.Packet.{wrongLists, measureRefusal, front, packet, writeRefusal, WriteResult, write}
+use Rattle.t800.proofs.Laws.Tests.{if-true, if-false, if-ne, either}
 use Rattle.t2_refusals.specs.Refusals.{measureRefusalFor}
-use Rattle.tcd_state.proofs.Laws.ValidStates.{valid-state}
-use Rattle.t2_refusals.proofs.Laws.NotRefused.{NotRefused, not-refused-for}
 use Rattle.t2_refusals.proofs.Laws.ScratchLength.{refusal-by-scratch-length}
 use Rattle.t2_write_header.specs.Header.{HeaderCoded}
 use Rattle.t2_write_packet.specs.Front.{BytesPut, bytesPut, putBytes, putFront}
 use Rattle.t2_write_packet.proofs.Laws.Front.{put-append}
-
--- ---- a packet that nothing refuses
-
-module _ (ws scratch : List ℕ) (p : Contribution) (why : ℕ) (is : why ≡ measureRefusalFor ws (length scratch) p) (z : why ≡ 0) where
-  pub accepted : NotRefused ws (length scratch) p
-  accepted = not-refused-for ws (length scratch) p (sym is ∙ z)
-
-  pub as-long : length ws ≡ length scratch
-  as-long = sym (valid-state writer ws (length scratch) (accepted .valid) .scratch-is)
-
-  -- the scratch, once it holds the state
-  pub copy-accepted : (vs : List ℕ) → vs ≡ ws → measureRefusalFor vs (length vs) p ≡ 0
-  copy-accepted vs e = (λ i. measureRefusalFor (e i) (length (e i)) p) ∙ ap (λ (n : ℕ). measureRefusalFor ws n p) as-long ∙ sym is ∙ z
-
--- ---- measuring
-
-module _ (ws scratch : List ℕ) (p : Contribution) (m : Markers) (why : ℕ) (is : why ≡ measureRefusalFor ws (length scratch) p) where
-  refusal-is : why ≡ measureRefusal ws scratch p
-  refusal-is = is ∙ sym (refusal-by-scratch-length ws scratch p)
-
-  pub measure-refused : why ≢ 0 → record { answer = record { refusal = why; header = 0; body = 0 }; scratch = scratch } ≡ measure ws scratch p m
-  unfolding measure
-  measure-refused h =
-      let e = refusal-is in
-      let answer : ℕ → MeasureResult = λ k. record { answer = record { refusal = k; header = 0; body = 0 }; scratch = scratch } in
-      let done : MeasureResult = record { answer = record { refusal = 0; header = length (front ws p m 0); body = sum (p .lengths) }; scratch = codeHeader p ws .words } in
-      sym (if-ne why 0 done (answer why) h) ∙ (λ i. cond (eqb (e i) 0) done (answer (e i)))
-
-  pub measure-done : (bytes : List ℕ) (body : ℕ) (h : HeaderCoded) → why ≡ 0 → h ≡ putFront p ws m 0 bytes → body ≡ sum (p .lengths)
-      → record { answer = record { refusal = 0; header = h .end; body = body }; scratch = h .words } ≡ measure ws scratch p m
-  unfolding measure putFront
-  measure-done bytes body h z f b =
-      let answer : ℕ → MeasureResult = λ k. record { answer = record { refusal = k; header = 0; body = 0 }; scratch = scratch } in
-      let done : MeasureResult = record { answer = record { refusal = 0; header = length (front ws p m 0); body = sum (p .lengths) }; scratch = codeHeader p ws .words } in
-      (λ i. record { answer = record { refusal = 0; header = f i .end; body = b i }; scratch = f i .words })
-      ∙ sym (if-eq (measureRefusal ws scratch p) 0 done (answer (measureRefusal ws scratch p)) (sym refusal-is ∙ z))
-
--- ---- writing
 
 pub room-left : (t : Bool) (m n : ℕ) → t ≡ leb m n → not t ≡ false → m ≤ n
 room-left t m n c k = leb-true m n (sym c ∙ not-false t k)

@@ -1,4 +1,4 @@
--- `t2::write` meets its contract.
+-- `t2_write::write` meets its contract.
 use mathlib.Core.Path.{refl, sym, ap, _∙_}
 use mathlib.Core.List.{List}
 use Prim.Native.Nat.{ℕ, _+_, _≤_}
@@ -7,9 +7,10 @@ use lib.ListN.{length}
 use borrow.Author.Needs.{needs}
 use Rattle.t2_refusals.specs.Refusals.{contribution}
 use Rattle.t2_write_packet.specs.Front.{putFront}
-use Rattle.t2.proofs.Laws.Answers.{accepted, as-long, copy-accepted, room-left, write-refused, write-body-refused, write-no-space, write-done}
-use Rattle.t2.proofs.write.Statement.{statement}
-use Rattle.t2.proofs.write.Tie as tie
+use Rattle.t2_measure.proofs.Laws.Accepted.{accepted, as-long, copy-accepted}
+use Rattle.t2_write.proofs.Laws.Written.{room-left, write-refused, write-body-refused, write-no-space, write-done}
+use Rattle.t2_write.proofs.write.Statement.{statement}
+use Rattle.t2_write.proofs.write.Tie as tie
 
 returns : tie.Need-returns
 returns c =

@@ -1,4 +1,4 @@
--- `t2::measure` meets its contract.
+-- `t2_measure::measure` meets its contract.
 use mathlib.Core.Path.{ap, _∙_}
 use mathlib.Core.List.{List, [], _∷_}
 use Prim.Native.Nat.{ℕ}
@@ -6,9 +6,10 @@ use native.Mathlib.Omega.{arith}
 use borrow.Author.Needs.{needs}
 use Rattle.t2_refusals.specs.Refusals.{contribution}
 use Rattle.t2_write_packet.specs.Front.{putFront}
-use Rattle.t2.proofs.Laws.Answers.{accepted, as-long, copy-accepted, measure-refused, measure-done}
-use Rattle.t2.proofs.measure.Statement.{statement}
-use Rattle.t2.proofs.measure.Tie as tie
+use Rattle.t2_measure.proofs.Laws.Accepted.{accepted, as-long, copy-accepted}
+use Rattle.t2_measure.proofs.Laws.Measured.{measure-refused, measure-done}
+use Rattle.t2_measure.proofs.measure.Statement.{statement}
+use Rattle.t2_measure.proofs.measure.Tie as tie
 
 returns : tie.Need-returns
 returns c =
