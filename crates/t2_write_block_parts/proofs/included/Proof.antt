@@ -1,7 +1,7 @@
--- `t2_write_block::included` meets its contract.
+-- `t2_write_block_parts::included` meets its contract.
 use borrow.Author.Tests.{lt-ltb, le-ltb}
-use Rattle.t2_write_block.proofs.included.Statement.{statement}
-use Rattle.t2_write_block.proofs.included.Tie as tie
+use Rattle.t2_write_block_parts.proofs.included.Statement.{statement}
+use Rattle.t2_write_block_parts.proofs.included.Tie as tie
 
 returns : tie.Need-returns
 returns c = simp (lt-ltb _ _ (c .if1 .taken))

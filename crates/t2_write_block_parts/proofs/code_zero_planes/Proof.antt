@@ -1,4 +1,4 @@
--- `t2_write_block::code_zero_planes` meets its contract.
+-- `t2_write_block_parts::code_zero_planes` meets its contract.
 use mathlib.Core.Path.{ap, _∙_}
 use native.Mathlib.Omega.{arith}
 use lib.ListN.{length}
@@ -7,9 +7,9 @@ use Rattle.bio_bytes.specs.Writing.{output, putBits}
 use Rattle.tgt_write.specs.Coding.{putCoded}
 use Rattle.tcd_places.specs.Places.{blockIn}
 use Rattle.tcd_places.proofs.Laws.Before.{path-wider}
-use Rattle.t2_write_block.proofs.Laws.OneBlock.{planes-new, planes-old}
-use Rattle.t2_write_block.proofs.code_zero_planes.Statement.{statement}
-use Rattle.t2_write_block.proofs.code_zero_planes.Tie as tie
+use Rattle.t2_write_block_parts.proofs.Laws.Branches.{planes-new, planes-old}
+use Rattle.t2_write_block_parts.proofs.code_zero_planes.Statement.{statement}
+use Rattle.t2_write_block_parts.proofs.code_zero_planes.Tie as tie
 
 slice-read-if1 : tie.Need-slice-read-if1
 slice-read-if1 c = omega (arith, c .before .before .before .pre .1 .inside)

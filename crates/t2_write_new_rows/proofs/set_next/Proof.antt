@@ -1,4 +1,4 @@
--- `t2_write_block::set_next` meets its contract.
+-- `t2_write_new_rows::set_next` meets its contract.
 use mathlib.Core.Path.{_∙_}
 use native.Mathlib.Omega.{arith}
 use lib.ListN.{length}
@@ -6,9 +6,9 @@ use borrow.Author.Needs.{needs}
 use borrow.Author.Tests.{eq-eqb, ne-eqb, lt-ltb, le-ltb}
 use Rattle.t800.specs.WriteHeader.{isNew}
 use Rattle.tcd_places.proofs.Laws.Before.{path-wider}
 use Rattle.t2_write_block.specs.Runs.{setNext}
-use Rattle.t2_write_block.proofs.set_next.Statement.{statement}
-use Rattle.t2_write_block.proofs.set_next.Tie as tie
+use Rattle.t2_write_new_rows.proofs.set_next.Statement.{statement}
+use Rattle.t2_write_new_rows.proofs.set_next.Tie as tie
 
 slice-read-if1 : tie.Need-slice-read-if1
 slice-read-if1 c = omega (arith, c .before .before .pre .inside)

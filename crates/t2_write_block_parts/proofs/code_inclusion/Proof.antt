@@ -1,4 +1,4 @@
--- `t2_write_block::code_inclusion` meets its contract.
+-- `t2_write_block_parts::code_inclusion` meets its contract.
 use mathlib.Core.Path.{sym, ap, _∙_, subst}
 use Prim.Native.Nat.{ℕ, _≤_}
 use native.Mathlib.Omega.{arith}
@@ -11,9 +11,9 @@ use Rattle.tgt_write.specs.Coding.{putCoded}
 use Rattle.t2_write_lengths.specs.Blocks.{coded}
 use Rattle.tcd_places.specs.Places.{blockIn}
 use Rattle.tcd_places.proofs.Laws.Before.{path-wider}
-use Rattle.t2_write_block.proofs.Laws.OneBlock.{incl-new, incl-old}
-use Rattle.t2_write_block.proofs.code_inclusion.Statement.{statement}
-use Rattle.t2_write_block.proofs.code_inclusion.Tie as tie
+use Rattle.t2_write_block_parts.proofs.Laws.Branches.{incl-new, incl-old}
+use Rattle.t2_write_block_parts.proofs.code_inclusion.Statement.{statement}
+use Rattle.t2_write_block_parts.proofs.code_inclusion.Tie as tie
 
 slice-read-if1 : tie.Need-slice-read-if1
 slice-read-if1 c = omega (arith, c .before .before .before .pre .1 .inside)

@@ -1,4 +1,4 @@
--- `t2_write_block::code_passes` meets its contract.
+-- `t2_write_block_parts::code_passes` meets its contract.
 use mathlib.Core.Path.{_≡_, sym, subst}
 use mathlib.Core.Bool.{false}
 use Prim.Native.Nat.{ℕ, _≤_}
@@ -10,8 +10,8 @@ use Rattle.t800.specs.WriteHeader.{isNew, lengthBitsBefore}
 use Rattle.bio_bytes.specs.Writing.{output}
 use Rattle.t2_segments.specs.Segments.{blockTooWide}
 use Rattle.t2_write_lengths.proofs.Laws.Passes.{passes-are}
-use Rattle.t2_write_block.proofs.code_passes.Statement.{statement}
-use Rattle.t2_write_block.proofs.code_passes.Tie as tie
+use Rattle.t2_write_block_parts.proofs.code_passes.Statement.{statement}
+use Rattle.t2_write_block_parts.proofs.code_passes.Tie as tie
 
 put-lengths-requires : tie.Need-put-lengths-requires
 put-lengths-requires c κs =

@@ -1,4 +1,4 @@
--- `t2_write_block::set_row` meets its contract.
+-- `t2_write_new_rows::set_row` meets its contract.
 use mathlib.Core.Path.{_≡_, refl, sym, ap, _∙_, subst}
 use mathlib.Core.List.{List}
 use Prim.Native.Nat.{ℕ, _+_, _-_, _≤_}
@@ -8,10 +8,10 @@ use Rattle.t800.specs.State.{Block}
 use Rattle.tcd_places.specs.declared.Place.{Place}
 use Rattle.tcd_places.specs.Places.{BlockIn, RowIn, blockIn, rowBlocks}
 use Rattle.tcd_places.proofs.Laws.Rows.{block-in, row-end}
 use Rattle.t2_write_block.specs.Runs.{setNext, setAll}
 use Rattle.t2_write_block.proofs.Laws.Rows.{sets-then}
-use Rattle.t2_write_block.proofs.set_row.Statement.{statement}
-use Rattle.t2_write_block.proofs.set_row.Tie as tie
+use Rattle.t2_write_new_rows.proofs.set_row.Statement.{statement}
+use Rattle.t2_write_new_rows.proofs.set_row.Tie as tie
 
 abbrev Inv-loop : tie.InvT-loop
 Inv-loop words₀ p n row layer counts block i₀ words i =
