@@ -121,7 +121,7 @@ pub fn opj_t2_read_packet_header(
     requires { ⌜ (validState reader (now words) (length (now words)) ≡ true) × (layer (now words) < 999) × (length (now reports) ≡ 4 * length (blocks (bands (now words)))) × (BitsIn (now src) b) ⌝ }
     ensures { λ o. ⌜ ReadsHeader (now (src .entry)) (now (reports .entry)) (now (records .entry)) (now (words .entry)) b (reading (now (words .exit)) (now (reports .exit)) (now (records .exit)) o) ⌝ }
 {
-    let bands = tcd_state::bands_of(words);
+    let bands = tcd_first_words::bands_of(words);
     let n = words[1] as usize;
     let layer = words[3];
     let start = Run {

@@ -19,7 +19,7 @@ pub fn read_refusal(state: &[u32], scratch: &[u32], reports: &[u32]) -> u32
     if state[3] == tcd_style::NOT_YET_INCLUDED {
         return NO_MORE_LAYERS;
     }
-    let bands = tcd_state::bands_of(state);
+    let bands = tcd_first_words::bands_of(state);
     let n = state[1] as usize;
     let blocks = tcd_layout::num_blocks(bands, n);
     if reports.len() != 4 * blocks {

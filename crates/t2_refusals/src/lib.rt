@@ -40,7 +40,7 @@ fn contribution_refusal(state: &[u32], counts: &[u32], lengths: &[u32], marks: &
     requires { ⌜ validState writer (now state) (length (now state)) ≡ true ⌝ }
     ensures { λ r. ⌜ r ≡ contributionRefusal (now (state .entry)) (contribution (now (counts .entry)) (now (lengths .entry)) (now (marks .entry))) ⌝ }
 {
-    let bands = tcd_state::bands_of(state);
+    let bands = tcd_first_words::bands_of(state);
     let n = state[1] as usize;
     let blocks = tcd_layout::num_blocks(bands, n);
     if wrong_lists(blocks, counts, lengths, marks) {

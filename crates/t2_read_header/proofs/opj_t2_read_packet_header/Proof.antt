@@ -12,7 +12,7 @@ use Rattle.t800.specs.State.{reader, layer, blocks, endOf}
 use Rattle.tcd_layout.specs.Geometry.{AllUpTo64}
 use Rattle.bio_read.specs.declared.Aligned.{Aligned}
 use Rattle.bio_read.specs.Reading.{alignedAt}
-use Rattle.tcd_state.proofs.Laws.RangeParts.{first-bands}
+use Rattle.tcd_first_words.proofs.Laws.FirstWords.{first-bands}
 use Rattle.tcd_state.proofs.Laws.ValidStates.{valid-state}
 use Rattle.t2_read_segments.specs.declared.Run.{Run}
 use Rattle.t2_read_segments.specs.Reading.{reading, nextBlocks}

@@ -8,7 +8,7 @@ use borrow.Author.Tests.{not-true, not-false}
 use Rattle.t800.specs.declared.Band.{Band}
 use Rattle.t800.specs.State.{reader, blocks}
 use Rattle.tcd_layout.specs.Geometry.{AllUpTo64}
-use Rattle.tcd_state.proofs.Laws.RangeParts.{first-bands}
+use Rattle.tcd_first_words.proofs.Laws.FirstWords.{first-bands}
 use Rattle.tcd_state.proofs.Laws.ValidStates.{valid-state}
 use Rattle.tcd_layout.proofs.Laws.Bands.{blocks-up-to-12288}
 use Rattle.t2_read_header.proofs.Laws.HeaderEnd.{thirteen-words}
