@@ -18,7 +18,7 @@ use Rattle.t2_read_block.proofs.Laws.Rows.{block-fits, keeps-later, blocks-then
 use Rattle.tcd_places.specs.Places.{BandIn, gridOf, rowBlocks, rowPlace}
 use Rattle.tcd_places.proofs.Laws.BandBlocks.{from-before}
 use Rattle.tcd_places.proofs.Laws.BandRows.{row-counts, split-row, row-is}
-use Rattle.t2_read_header.specs.Bands.{BandFits}
+use Rattle.t2_read_bands.specs.Bands.{BandFits}
 
 module _ (size start : ℕ) (b : Band) (h : BandIn size start b) (y : ℕ) (l : y < b .down) where
   abbrev place : Place

@@ -1,4 +1,4 @@
--- `t2_read_header::read_bands` meets its contract.
+-- `t2_read_bands::read_bands` meets its contract.
 use mathlib.Core.Path.{_≡_, refl, sym, ap, _∙_, subst}
 use mathlib.Core.List.{List, []}
 use Prim.Native.Nat.{ℕ, _+_, _-_, _*_, _^_, _<_, _≤_}
@@ -14,11 +14,11 @@ use Rattle.t2_read_segments.specs.Reading.{reading, nextBlocks}
 use Rattle.t2_read_block.proofs.Laws.Kept.{Keeps}
 use Rattle.tcd_places.specs.declared.Grid.{Grid}
 use Rattle.tcd_places.specs.Places.{BandIn, bandBlocks, gridOf}
-use Rattle.t2_read_header.specs.Bands.{BandFits, BandsFit}
-use Rattle.t2_read_header.proofs.Laws.ReadBands.{band-still-fits, bands-then, bands-refused, bands-keep}
+use Rattle.t2_read_bands.specs.Bands.{BandFits, BandsFit}
+use Rattle.t2_read_bands.proofs.Laws.ReadBands.{band-still-fits, bands-then, bands-refused, bands-keep}
 use borrow.Author.Needs.{needs}
-use Rattle.t2_read_header.proofs.read_bands.Statement.{statement}
-use Rattle.t2_read_header.proofs.read_bands.Tie as tie
+use Rattle.t2_read_bands.proofs.read_bands.Statement.{statement}
+use Rattle.t2_read_bands.proofs.read_bands.Tie as tie
 
 abbrev Inv-loop : tie.InvT-loop
 Inv-loop words₀ reports₀ records₀ src n layer bands trees run₀ start₀ block₀ i₀ words reports records run start block i =

@@ -18,7 +18,7 @@ use Rattle.t2_read_block.proofs.Laws.Kept.{Keeps, blocks-keep}
 use Rattle.t2_read_block.proofs.Laws.Rows.{block-fits, keeps-later, blocks-then, blocks-refused}
 use Rattle.tcd_places.specs.Places.{bandBlocks}
 use Rattle.tcd_places.proofs.Laws.BandBlocks.{from-before}
-use Rattle.t2_read_header.specs.Bands.{BandFits, BandsFit}
+use Rattle.t2_read_bands.specs.Bands.{BandFits, BandsFit}
 
 -- ---- what refusal 5 establishes
 

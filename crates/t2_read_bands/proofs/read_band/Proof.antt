@@ -1,4 +1,4 @@
--- `t2_read_header::read_band` meets its contract.
+-- `t2_read_bands::read_band` meets its contract.
 use mathlib.Core.Path.{_≡_, refl, sym, ap, _∙_, subst}
 use mathlib.Core.List.{List}
 use Prim.Native.Nat.{ℕ, _+_, _-_, _*_, _^_, _<_, _≤_}
@@ -15,10 +15,10 @@ use Rattle.t2_read_segments.specs.Reading.{reading, nextBlocks, BlocksFit}
 use Rattle.t2_read_block.proofs.Laws.Kept.{Keeps}
 use Rattle.tcd_places.specs.Places.{BandIn, RowIn, bandBlocks, rowBlocks, rowPlace}
 use Rattle.tcd_places.proofs.Laws.BandRows.{all-left, at-row, none-left, row-counts, row-ends, row-in, small}
-use Rattle.t2_read_header.proofs.Laws.ReadRows.{row-number, row-fits, rows-then, rows-refused, rows-keep}
+use Rattle.t2_read_bands.proofs.Laws.ReadRows.{row-number, row-fits, rows-then, rows-refused, rows-keep}
 use borrow.Author.Needs.{needs}
-use Rattle.t2_read_header.proofs.read_band.Statement.{statement}
-use Rattle.t2_read_header.proofs.read_band.Tie as tie
+use Rattle.t2_read_bands.proofs.read_band.Statement.{statement}
+use Rattle.t2_read_bands.proofs.read_band.Tie as tie
 
 abbrev Inv-loop : tie.InvT-loop
 Inv-loop words₀ reports₀ records₀ src band tree g layer block run₀ y₀ words reports records run y =
