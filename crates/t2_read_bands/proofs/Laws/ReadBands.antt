@@ -14,7 +14,7 @@ use Rattle.tcd_layout.proofs.Laws.Bands.{length-from}
 use Rattle.tcd_first_words.proofs.Laws.FirstWords.{and-right}
 use Rattle.tcd_state.proofs.Laws.ValidStates.{block-known, block-bounds}
 use Rattle.t2_read_segments.specs.Reading.{Reading, nextBlocks}
-use Rattle.t2_read_block.proofs.Laws.Kept.{Keeps, blocks-keep}
+use Rattle.t2_read_block_parts.proofs.Laws.Kept.{Keeps, blocks-keep}
 use Rattle.t2_read_block.proofs.Laws.Rows.{block-fits, keeps-later, blocks-then, blocks-refused}
 use Rattle.tcd_places.specs.Places.{bandBlocks}
 use Rattle.tcd_places.proofs.Laws.BandBlocks.{from-before}

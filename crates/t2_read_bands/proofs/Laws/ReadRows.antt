@@ -13,7 +13,7 @@ use Rattle.tcd_layout.proofs.Laws.Bands.{blocks-up-to-4096, length-from}
 use Rattle.tgt.specs.Path.{rowOver}
 use Rattle.tcd_places.specs.declared.Place.{Place}
 use Rattle.t2_read_segments.specs.Reading.{Reading, nextBlocks, BlockFits, BlocksFit}
-use Rattle.t2_read_block.proofs.Laws.Kept.{Keeps, blocks-keep}
+use Rattle.t2_read_block_parts.proofs.Laws.Kept.{Keeps, blocks-keep}
 use Rattle.t2_read_block.proofs.Laws.Rows.{block-fits, keeps-later, blocks-then, blocks-refused}
 use Rattle.tcd_places.specs.Places.{BandIn, gridOf, rowBlocks, rowPlace}
 use Rattle.tcd_places.proofs.Laws.BandBlocks.{from-before}

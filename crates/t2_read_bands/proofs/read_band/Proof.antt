@@ -12,7 +12,7 @@ use Rattle.tcd_layout.proofs.Laws.Bands.{blocks-up-to-4096}
 use Rattle.tgt.specs.Path.{rowOver, SmallLevels}
 use Rattle.tcd_places.specs.declared.Grid.{Grid}
 use Rattle.t2_read_segments.specs.Reading.{reading, nextBlocks, BlocksFit}
-use Rattle.t2_read_block.proofs.Laws.Kept.{Keeps}
+use Rattle.t2_read_block_parts.proofs.Laws.Kept.{Keeps}
 use Rattle.tcd_places.specs.Places.{BandIn, RowIn, bandBlocks, rowBlocks, rowPlace}
 use Rattle.tcd_places.proofs.Laws.BandRows.{all-left, at-row, none-left, row-counts, row-ends, row-in, small}
 use Rattle.t2_read_bands.proofs.Laws.ReadRows.{row-number, row-fits, rows-then, rows-refused, rows-keep}

@@ -11,7 +11,7 @@ use Rattle.t800.proofs.Laws.Layout.{end-after}
 use Rattle.tcd_layout.specs.Geometry.{noBand, SidesUpTo64}
 use Rattle.tcd_layout.proofs.Laws.Bands.{next-band, no-more-bands, sides-of-first, blocks-up-to-4096, band-levels-at, end-turn}
 use Rattle.t2_read_segments.specs.Reading.{reading, nextBlocks}
-use Rattle.t2_read_block.proofs.Laws.Kept.{Keeps}
+use Rattle.t2_read_block_parts.proofs.Laws.Kept.{Keeps}
 use Rattle.tcd_places.specs.declared.Grid.{Grid}
 use Rattle.tcd_places.specs.Places.{BandIn, bandBlocks, gridOf}
 use Rattle.t2_read_bands.specs.Bands.{BandFits, BandsFit}

@@ -1,4 +1,4 @@
--- `t2_start_parts::set_rows` meets its contract.
+-- `t2_start_planes::set_rows` meets its contract.
 use native.Mathlib.Omega.{arith}
 use borrow.Author.Needs.{needs}
 use mathlib.Core.Path.{_≡_, refl, ap, _∙_}
@@ -11,12 +11,12 @@ use Rattle.t800.specs.State.{Block, blocksIn, bandNodes, blocksFrom}
 use Rattle.t800.specs.Start.{setZeroPlanes}
 use Rattle.t800.proofs.Laws.Layout.{band-length}
 use Rattle.tgt.proofs.Laws.Path.{small-levels}
-use Rattle.t2_start_parts.specs.Parts.{setRow}
-use Rattle.t2_start_parts.proofs.Laws.Runs.{part-length}
-use Rattle.t2_start_parts.proofs.Laws.BlockRows.{rows-first, rows-end, tree-of-band, row-inside, row-in}
-use Rattle.t2_start_parts.proofs.Laws.ZeroPlanes.{none-before, none-behind, row-turn}
-use Rattle.t2_start_parts.proofs.set_rows.Statement.{statement}
-use Rattle.t2_start_parts.proofs.set_rows.Tie as tie
+use Rattle.t2_start_planes.specs.Rows.{setRow}
+use Rattle.t2_start_planes.proofs.Laws.Runs.{part-length}
+use Rattle.t2_start_planes.proofs.Laws.BlockRows.{rows-first, rows-end, tree-of-band, row-inside, row-in}
+use Rattle.t2_start_planes.proofs.Laws.ZeroPlanes.{none-before, none-behind, row-turn}
+use Rattle.t2_start_planes.proofs.set_rows.Statement.{statement}
+use Rattle.t2_start_planes.proofs.set_rows.Tie as tie
 
 abbrev Inv-loop : tie.InvT-loop
 Inv-loop state₀ at nodes band tree depth planes base across down from₀ y₀ state from y = (y ≤ band .down)

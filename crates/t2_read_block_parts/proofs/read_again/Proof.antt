@@ -1,4 +1,4 @@
--- `t2_read_block::read_again` meets its contract.
+-- `t2_read_block_parts::read_again` meets its contract.
 use mathlib.Core.Path.{ap}
 use native.Mathlib.Omega.{arith}
 use Prim.Native.Nat.{_+_}
@@ -7,11 +7,11 @@ use Rattle.tgt_read.specs.Reading.{valueAfter}
 use Rattle.t2_read_segments.specs.declared.Run.{Run}
 use Rattle.t2_read_segments.specs.Reading.{reading}
 use Rattle.t2_read_segments.proofs.Laws.ManySegments.{fits-same}
-use Rattle.t2_read_block.proofs.Laws.Kept.{passes-are}
-use Rattle.t2_read_block.proofs.Laws.BlockParts.{again-is}
+use Rattle.t2_read_block_parts.proofs.Laws.Kept.{passes-are}
+use Rattle.t2_read_block_parts.proofs.Laws.BlockParts.{again-is}
 use borrow.Author.Needs.{needs}
-use Rattle.t2_read_block.proofs.read_again.Statement.{statement}
-use Rattle.t2_read_block.proofs.read_again.Tie as tie
+use Rattle.t2_read_block_parts.proofs.read_again.Statement.{statement}
+use Rattle.t2_read_block_parts.proofs.read_again.Tie as tie
 
 read-segments-requires : tie.Need-read-segments-requires
 read-segments-requires c κs =

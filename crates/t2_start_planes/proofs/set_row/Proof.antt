@@ -1,4 +1,4 @@
--- `t2_start_parts::set_row` meets its contract.
+-- `t2_start_planes::set_row` meets its contract.
 use native.Mathlib.Omega.{arith}
 use borrow.Author.Tests.{ltb-false}
 use mathlib.Core.Path.{_≡_, refl, sym, ap, _∙_, subst}
@@ -7,10 +7,10 @@ use Prim.Native.Nat.{ℕ, _+_, _-_, _≤_}
 use lib.Dec.{ltb}
 use lib.ListN.{length, drop, drop-of-length-le}
 use Rattle.tgt.specs.Path.{PathIn}
-use Rattle.t2_start_parts.specs.Parts.{setRow}
-use Rattle.t2_start_parts.proofs.Laws.ZeroPlanes.{none-at, column-turn}
-use Rattle.t2_start_parts.proofs.set_row.Statement.{statement}
-use Rattle.t2_start_parts.proofs.set_row.Tie as tie
+use Rattle.t2_start_planes.specs.Rows.{setRow}
+use Rattle.t2_start_planes.proofs.Laws.ZeroPlanes.{none-at, column-turn}
+use Rattle.t2_start_planes.proofs.set_row.Statement.{statement}
+use Rattle.t2_start_planes.proofs.set_row.Tie as tie
 
 abbrev Inv-loop : tie.InvT-loop
 Inv-loop state₀ base row depth most planes x₀ state x = (x ≤ length planes) × (length state ≡ length state₀) × (setRow base row depth most x (drop x planes) state ≡ setRow base row depth most 0 planes state₀)

@@ -1,4 +1,4 @@
--- `t2_read_block::read_first` meets its contract.
+-- `t2_read_block_parts::read_first` meets its contract.
 use mathlib.Core.Path.{ap, _∙_}
 use Prim.Native.Nat.{_+_}
 use native.Mathlib.Omega.{arith}
@@ -10,11 +10,11 @@ use Rattle.t2_read_segments.specs.declared.Run.{Run}
 use Rattle.t2_read_segments.specs.Reading.{reading}
 use Rattle.t2_read_segments.proofs.Laws.ManySegments.{fits-same}
 use Rattle.tcd_places.proofs.Laws.Before.{path-before, path-wider}
-use Rattle.t2_read_block.proofs.Laws.Kept.{raising-keeps, passes-are}
-use Rattle.t2_read_block.proofs.Laws.BlockParts.{first-is}
+use Rattle.t2_read_block_parts.proofs.Laws.Kept.{raising-keeps, passes-are}
+use Rattle.t2_read_block_parts.proofs.Laws.BlockParts.{first-is}
 use borrow.Author.Needs.{needs}
-use Rattle.t2_read_block.proofs.read_first.Statement.{statement}
-use Rattle.t2_read_block.proofs.read_first.Tie as tie
+use Rattle.t2_read_block_parts.proofs.read_first.Statement.{statement}
+use Rattle.t2_read_block_parts.proofs.read_first.Tie as tie
 
 opj-tgt-decode-value-requires : tie.Need-opj-tgt-decode-value-requires
 opj-tgt-decode-value-requires c κs =

@@ -1,4 +1,4 @@
--- `t2_read_block::read_passes` meets its contract.
+-- `t2_read_block_parts::read_passes` meets its contract.
 use mathlib.Core.Path.{ap}
 use native.Mathlib.Omega.{arith}
 use lib.ListN.{length-set}
@@ -7,8 +7,8 @@ use Rattle.t2_codes.proofs.Laws.PassCount.{ct-kept, passes-ct, passes-between}
 use Rattle.t2_codes.proofs.Laws.CommaCode.{comma-value}
 use Rattle.t2_read_segments.proofs.Laws.OneSegment.{passes-stored}
 use borrow.Author.Needs.{needs}
-use Rattle.t2_read_block.proofs.read_passes.Statement.{statement}
-use Rattle.t2_read_block.proofs.read_passes.Tie as tie
+use Rattle.t2_read_block_parts.proofs.read_passes.Statement.{statement}
+use Rattle.t2_read_block_parts.proofs.read_passes.Tie as tie
 
 opj-t2-getcommacode-requires : tie.Need-opj-t2-getcommacode-requires
 opj-t2-getcommacode-requires c κs =

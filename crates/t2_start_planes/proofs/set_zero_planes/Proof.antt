@@ -1,4 +1,4 @@
--- `t2_start_parts::set_zero_planes` meets its contract.
+-- `t2_start_planes::set_zero_planes` meets its contract.
 use native.Mathlib.Omega.{arith}
 use borrow.Author.Needs.{needs}
 use mathlib.Core.Path.{_≡_, refl, sym, ap, _∙_}
@@ -13,11 +13,11 @@ use Rattle.t800.specs.Start.{setZeroPlanes}
 use Rattle.tcd_layout.specs.Geometry.{noBand}
 use Rattle.tcd_layout.proofs.Laws.Bands.{next-band, sides-of-first, end-turn, length-blocks, blocks-turn}
 use Rattle.tcd_shape.proofs.Laws.BlockPlanes.{deepFrom, deep-is}
-use Rattle.t2_start_parts.proofs.Laws.Runs.{part-length}
-use Rattle.t2_start_parts.proofs.Laws.BlockRows.{band-inside}
-use Rattle.t2_start_parts.proofs.Laws.ZeroPlanes.{shallow-turn, band-turn}
-use Rattle.t2_start_parts.proofs.set_zero_planes.Statement.{statement}
-use Rattle.t2_start_parts.proofs.set_zero_planes.Tie as tie
+use Rattle.t2_start_planes.proofs.Laws.Runs.{part-length}
+use Rattle.t2_start_planes.proofs.Laws.BlockRows.{band-inside}
+use Rattle.t2_start_planes.proofs.Laws.ZeroPlanes.{shallow-turn, band-turn}
+use Rattle.t2_start_planes.proofs.set_zero_planes.Statement.{statement}
+use Rattle.t2_start_planes.proofs.set_zero_planes.Tie as tie
 
 abbrev Inv-loop : tie.InvT-loop
 Inv-loop n planes state₀ bands at₀ from₀ i₀ state at from i = (i ≤ n)

@@ -19,8 +19,8 @@ use Rattle.t800.proofs.Laws.Lists.{length-from, no-planes}
 use Rattle.tcd_shape.proofs.Laws.BlockPlanes.{deepFrom}
 use Rattle.tgt.specs.Path.{rowOver, pathOver}
 use Rattle.tgt.proofs.Laws.Path.{TreeLevels}
-use Rattle.t2_start_parts.specs.Parts.{setRow}
-use Rattle.t2_start_parts.proofs.Laws.BlockRows.{rows-turn, path-in-row}
+use Rattle.t2_start_planes.specs.Rows.{setRow}
+use Rattle.t2_start_planes.proofs.Laws.BlockRows.{rows-turn, path-in-row}
 
 -- ---- a list that no entry of which is over
 

@@ -17,7 +17,7 @@ use Rattle.tcd_layout.proofs.Laws.Bands.{end-turn, blocks-split}
 use Rattle.tcd_layout.proofs.Laws.TreeLevels.{padded-front}
 use Rattle.tgt.specs.Path.{rowOver, pathOver, PathIn}
 use Rattle.tgt.proofs.Laws.Path.{TreeLevels, climb, path-climbs, path-in}
-use Rattle.t2_start_parts.specs.Parts.{RowIn}
+use Rattle.t2_start_planes.specs.Rows.{RowIn}
 
 -- band i of the first n, the words of which begin at `at`, ends before the last of them does
 pub band-inside : (bs : List Band) (n i at size : ℕ) → n ≤ length bs → i < n → endOf at (drop i (take n bs)) ≡ size → at + bandLength (getD bs i noBand) ≤ size
