@@ -1,4 +1,2 @@
-pub mod Kept
-pub mod BlockParts
 pub mod Rows
 pub mod Follows

@@ -1,4 +1,2 @@
 pub mod BandBlocks
-pub mod ReadRows
-pub mod ReadBands
 pub mod HeaderEnd

@@ -2,7 +2,7 @@
 ghost use mathlib.Core.Path.{_≡_};
 ghost use Prim.Native.Nat.{_*_};
 ghost use lib.Dec.{eqb};
-ghost use Rattle.t2_read_packet.specs.Answers.{readResult};
+ghost use Rattle.t2_read_parts.specs.Answers.{readResult};
 ghost use Rattle.t2_read_numbers.specs.Reading.{wrongListNumber, readNumbers, toFill};
 use t800::Markers;
 use t800::ReadAnswer;
@@ -22,12 +22,12 @@ fn wrong_list(state: &[u32], scratch: &[u32]) -> u32
     ensures { λ r. ⌜ r ≡ wrongListNumber (now (state .entry)) (now (scratch .entry)) ⌝ }
 {
     if !tcd_state::valid_state(tcd_style::READER, state, scratch.len()) {
-        return t2_read_packet::BAD_STATE;
+        return t2_read_refusals::BAD_STATE;
     }
     if state[3] == tcd_style::NOT_YET_INCLUDED {
-        return t2_read_packet::NO_MORE_LAYERS;
+        return t2_read_refusals::NO_MORE_LAYERS;
     }
-    t2_read_packet::WRONG_LIST
+    t2_read_refusals::WRONG_LIST
 }
 
 // The read into numbers, which must be four for each record that there is room for.

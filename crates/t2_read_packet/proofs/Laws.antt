@@ -1,2 +1,1 @@
-pub mod Markers
-pub mod Results
+pub mod Whole

@@ -16,7 +16,7 @@ pub fn sum_lengths(lengths: &[u32]) -> u64
     requires { ⌜ length (now lengths) ≤ 4294967296 ⌝ }
     ensures { λ r. ⌜ r ≡ sum (now (lengths .entry)) ⌝ }
 {
-    t2_widths::total(lengths)
+    t2_narrow::total(lengths)
 }
 
 fn wrong_lists(blocks: usize, counts: &[u32], lengths: &[u32], marks: &[u8]) -> bool
@@ -26,7 +26,7 @@ fn wrong_lists(blocks: usize, counts: &[u32], lengths: &[u32], marks: &[u8]) -> 
     if counts.len() != blocks {
         return true;
     }
-    let passes = t2_widths::total(counts);
+    let passes = t2_narrow::total(counts);
     if lengths.len() as u64 != passes {
         return true;
     }
@@ -40,7 +40,7 @@ fn contribution_refusal(state: &[u32], counts: &[u32], lengths: &[u32], marks: &
     requires { ⌜ validState writer (now state) (length (now state)) ≡ true ⌝ }
     ensures { λ r. ⌜ r ≡ contributionRefusal (now (state .entry)) (contribution (now (counts .entry)) (now (lengths .entry)) (now (marks .entry))) ⌝ }
 {
-    let bands = tcd_state::bands_of(state);
+    let bands = tcd_first_words::bands_of(state);
     let n = state[1] as usize;
     let blocks = tcd_layout::num_blocks(bands, n);
     if wrong_lists(blocks, counts, lengths, marks) {

@@ -48,7 +48,7 @@ pub fn start_writer(
     if answer != 0 {
         return answer;
     }
-    t2_start_parts::set_zero_planes(bands, count as usize, planes, state);
+    t2_start_planes::set_zero_planes(bands, count as usize, planes, state);
     0
 }
 

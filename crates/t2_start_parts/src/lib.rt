@@ -1,20 +1,17 @@
 // The parts of a start: its refusals, the first words, the zero planes.
 ghost use mathlib.Core.Path.{_≡_};
-ghost use mathlib.Core.Bool.{false, not, _||_};
+ghost use mathlib.Core.Bool.{not, _||_};
 ghost use mathlib.Core.List.{[], _∷_, _++_};
 ghost use Prim.Native.Nat.{_+_, _*_, _≤_};
 ghost use lib.ListN.{length, getD, take};
-ghost use lib.Dec.{eqb, ltb};
+ghost use lib.Dec.{eqb};
 ghost use lib.Seq.{sets};
-ghost use Rattle.t800.specs.Base.{any};
-ghost use Rattle.t800.specs.TagTree.{levels};
-ghost use Rattle.t800.specs.State.{notYetIncluded, notYetPlanes, blocksIn, bandNodes, bandLength, blocksFrom, blocks, stateLength};
+ghost use Rattle.t800.specs.State.{notYetIncluded, notYetPlanes, blocks, stateLength};
 ghost use Rattle.t800.specs.Ranges.{bandTooDeep, blockTooDeep};
-ghost use Rattle.t800.specs.Start.{freshNodes, freshBlocks, freshBands, bandWords, freshState, setZeroPlanes, startRefusal};
-ghost use Rattle.tcd_layout.specs.Geometry.{noBand, padded, SidesUpTo64, AllUpTo64};
-ghost use Rattle.t2_start_parts.specs.Parts.{planesWanted, setRow, RowIn};
+ghost use Rattle.t800.specs.Start.{freshNodes, freshBlocks, freshBands, bandWords, freshState, startRefusal};
+ghost use Rattle.tcd_layout.specs.Geometry.{noBand, AllUpTo64};
+ghost use Rattle.t2_start_parts.specs.Parts.{planesWanted};
 use t800::Band;
-use t800::Level;
 use tcd_style::NOT_YET_INCLUDED;
 use tcd_style::NOT_YET_PLANES;
 use tcd_style::Style;
@@ -177,81 +174,4 @@ pub fn fill(role: u32, count: u32, bands: [Band; 3], style: u8, state: &mut [u32
     first_words(state, role, count, style as u32);
     put_bands(state, bands, n);
     fresh_bands(state, bands, n);
-}
-
-// The blocks of one row, whose first nodes are given.
-fn set_row(
-    state: &mut [u32],
-    base: usize,
-    row: &[usize; 7],
-    depth: usize,
-    most: u32,
-    planes: &[u32],
-)
-    requires { ⌜ (RowIn (length (now state)) base (now row) depth (length (now planes))) × (any (λ p. ltb most p) (now planes) ≡ false) ⌝ }
-    ensures { λ _. ⌜ now (state .exit) ≡ setRow base (now (row .entry)) depth most 0 (now (planes .entry)) (now (state .entry)) ⌝ }
-{
-    let mut x: usize = 0;
-    while x < planes.len() {
-        let zero = most - planes[x];
-        tgt::opj_tgt_setvalue(state, base, row, depth, x, zero);
-        x += 1;
-    }
-}
-
-// Row by row; the band's words begin at `at`.
-fn set_rows(
-    state: &mut [u32],
-    at: usize,
-    nodes: usize,
-    band: Band,
-    tree: [Level; 7],
-    depth: usize,
-    planes: &[u32],
-)
-    requires { ⌜ SidesUpTo64 band × (nodes ≡ bandNodes band) × (tree ≡ padded (levels (band .across) (band .down))) × (depth ≡ length (levels (band .across) (band .down))) × (at + bandLength band ≤ length (now state)) × (length (now planes) ≡ blocksIn band) × (any (λ p. ltb (band .planes) p) (now planes) ≡ false) ⌝ }
-    ensures { λ _. ⌜ now (state .exit) ≡ setZeroPlanes (blocksFrom at band (blocksIn band) 0) (now (planes .entry)) (now (state .entry)) ⌝ }
-{
-    let base = at + 3 * nodes;
-    let across = band.across as usize;
-    let down = band.down as usize;
-    let mut from: usize = 0;
-    let mut y: usize = 0;
-    while y < down {
-        let mut row = [0usize; 7];
-        tgt::opj_tgt_row(tree, depth, y, &mut row);
-        let to = from + across;
-        set_row(state, base, &row, depth, band.planes, &planes[from..to]);
-        from = to;
-        y += 1;
-    }
-}
-
-fn set_band(state: &mut [u32], at: usize, band: Band, planes: &[u32])
-    requires { ⌜ SidesUpTo64 band × (at + bandLength band ≤ length (now state)) × (length (now planes) ≡ blocksIn band) × (any (λ p. ltb (band .planes) p) (now planes) ≡ false) ⌝ }
-    ensures { λ _. ⌜ now (state .exit) ≡ setZeroPlanes (blocksFrom at band (blocksIn band) 0) (now (planes .entry)) (now (state .entry)) ⌝ }
-{
-    let nodes = tcd_layout::band_nodes(band);
-    let tree = tcd_layout::levels(band.across, band.down);
-    let depth = tcd_layout::num_levels(band.across, band.down);
-    set_rows(state, at, nodes, band, tree, depth, planes);
-}
-
-pub fn set_zero_planes(bands: [Band; 3], n: usize, planes: &[u32], state: &mut [u32])
-    requires { ⌜ (n ≤ 3) × AllUpTo64 (take n bands) × (length (now state) ≡ stateLength (take n bands)) × (length (now planes) ≡ length (blocks (take n bands))) × (blockTooDeep (blocks (take n bands)) (now planes) ≡ false) ⌝ }
-    ensures { λ _. ⌜ now (state .exit) ≡ setZeroPlanes (blocks (take n bands)) (now (planes .entry)) (now (state .entry)) ⌝ }
-{
-    let mut at: usize = 13;
-    let mut from: usize = 0;
-    let mut i: usize = 0;
-    while i < n {
-        let band = bands[i];
-        let size = tcd_layout::band_blocks(band);
-        let to = from + size;
-        set_band(state, at, band, &planes[from..to]);
-        let words = tcd_layout::band_length(band);
-        at += words;
-        from = to;
-        i += 1;
-    }
 }

@@ -1,3 +1,3 @@
 pub mod Lists
 pub mod BlocksLeft
-pub mod FewBytes
+pub mod Refusal

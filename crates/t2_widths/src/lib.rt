@@ -1,72 +1,15 @@
 // Refusals 8 and 9 of measuring and writing (t2.rs): a segment too long, a length field too wide.
 ghost use mathlib.Core.Path.{_≡_};
-ghost use mathlib.Core.Bool.{false, _&&_};
-ghost use Prim.Native.Nat.{_+_, _*_, _^_, _≤_};
+ghost use mathlib.Core.Bool.{false};
+ghost use Prim.Native.Nat.{_+_, _*_, _≤_};
 ghost use lib.ListN.{length, take};
-ghost use lib.Dec.{ltb, leb};
-ghost use Rattle.t800.specs.Base.{any, every, sum};
-ghost use Rattle.t800.specs.Segments.{segmentsOf};
-ghost use Rattle.t800.specs.State.{blocks, blocksFrom, blocksIn, bandLength, stateLength, lengthBits};
+ghost use lib.Dec.{ltb};
+ghost use Rattle.t800.specs.Base.{any};
+ghost use Rattle.t800.specs.State.{blocks, blocksFrom, blocksIn, bandLength, stateLength};
 ghost use Rattle.t800.specs.WriteHeader.{segmentTooLong, fieldTooWide};
 ghost use Rattle.tcd_layout.specs.Geometry.{SidesUpTo64, AllUpTo64};
-ghost use Rattle.t2_segments.specs.Segments.{PassLists, bitsBefore, anyTooLong, anyTooWide, blockTooWide};
-ghost use Rattle.t2_widths.specs.Widths.{PassesLeft, wideFrom, bitsUpTo25, segmentsRefusal};
+ghost use Rattle.t2_widths.specs.Widths.{PassesLeft, wideFrom, segmentsRefusal};
 use t800::Band;
-
-pub fn total(list: &[u32]) -> u64
-    requires { ⌜ length (now list) ≤ 4294967296 ⌝ }
-    ensures { λ r. ⌜ r ≡ sum (now (list .entry)) ⌝ }
-{
-    let mut all: u64 = 0;
-    let mut i: usize = 0;
-    while i < list.len() {
-        let one = list[i] as u64;
-        all += one;
-        i += 1;
-    }
-    all
-}
-
-// ---- one block's segments
-
-fn any_segment_too_long(lengths: &[u32], marks: &[u8]) -> bool
-    requires { ⌜ PassLists (now lengths) (now marks) ⌝ }
-    ensures { λ r. ⌜ r ≡ anyTooLong (segmentsOf (now (lengths .entry)) (now (marks .entry))) ⌝ }
-{
-    let mut at: usize = 0;
-    while at < lengths.len() {
-        let s = t2_segments::segment_at(lengths, marks, at);
-        if 0x8000_0000 <= s.bytes {
-            return true;
-        }
-        at += s.passes as usize;
-    }
-    false
-}
-
-fn any_field_too_wide(lengths: &[u32], marks: &[u8], length_bits: u64) -> bool
-    requires { ⌜ PassLists (now lengths) (now marks) × («length_bits» ≤ 8589934592) ⌝ }
-    ensures { λ r. ⌜ r ≡ anyTooWide «length_bits» (segmentsOf (now (lengths .entry)) (now (marks .entry))) ⌝ }
-{
-    let mut at: usize = 0;
-    while at < lengths.len() {
-        let s = t2_segments::segment_at(lengths, marks, at);
-        if 32 < t2_segments::field_width(length_bits, s.passes) {
-            return true;
-        }
-        at += s.passes as usize;
-    }
-    false
-}
-
-fn block_too_wide(so_far: u32, length_bits: u32, lengths: &[u32], marks: &[u8]) -> bool
-    requires { ⌜ PassLists (now lengths) (now marks) × (anyTooLong (segmentsOf (now lengths) (now marks)) ≡ false) ⌝ }
-    ensures { λ r. ⌜ r ≡ blockTooWide (bitsBefore «so_far» «length_bits») (segmentsOf (now (lengths .entry)) (now (marks .entry))) ⌝ }
-{
-    let before = t2_segments::length_bits_before(so_far, length_bits);
-    let more = t2_segments::segment_increment(lengths, marks, before);
-    any_field_too_wide(lengths, marks, before as u64 + more as u64)
-}
 
 // ---- all blocks' segments (8)
 
@@ -79,7 +22,7 @@ fn segment_too_long(counts: &[u32], lengths: &[u32], marks: &[u8]) -> bool
     while i < counts.len() {
         let count = counts[i] as usize;
         let to = from + count;
-        if any_segment_too_long(&lengths[from..to], &marks[from..to]) {
+        if t2_block_widths::any_segment_too_long(&lengths[from..to], &marks[from..to]) {
             return true;
         }
         from = to;
@@ -110,7 +53,12 @@ fn blocks_too_wide(
         let to = from + count;
         let so_far = state[block];
         let length_bits = state[block + 1];
-        if block_too_wide(so_far, length_bits, &lengths[from..to], &marks[from..to]) {
+        if t2_block_widths::block_too_wide(
+            so_far,
+            length_bits,
+            &lengths[from..to],
+            &marks[from..to],
+        ) {
             return true;
         }
         block += 4;
@@ -166,7 +114,7 @@ fn field_too_wide(
         }
         let size = tcd_layout::band_blocks(band);
         let next = first + size;
-        let passes = total(&counts[first..next]);
+        let passes = t2_narrow::total(&counts[first..next]);
         from += passes as usize;
         first = next;
         let words = tcd_layout::band_length(band);
@@ -174,54 +122,6 @@ fn field_too_wide(
         i += 1;
     }
     false
-}
-
-// ---- what rules both out
-
-// n blocks whose words begin at `at`. Looks at all of them, so that the loop vectorises.
-fn blocks_up_to_25_bits(state: &[u32], at: usize, n: usize) -> bool
-    requires { ⌜ at + 4 * n ≤ length (now state) ⌝ }
-    ensures { λ r. ⌜ r ≡ every n (λ i. leb (lengthBits (now (state .entry)) (at + 4 * i)) 25) ⌝ }
-{
-    let mut faults: u32 = 0;
-    let mut i: usize = 0;
-    while i < n {
-        let block = at + 4 * i;
-        faults = faults | tcd_shape::over(state[block + 1], 25);
-        i += 1;
-    }
-    faults == 0
-}
-
-fn bands_up_to_25_bits(state: &[u32], bands: [Band; 3], n: usize) -> bool
-    requires { ⌜ (n ≤ 3) × AllUpTo64 (take n bands) × (length (now state) ≡ stateLength (take n bands)) ⌝ }
-    ensures { λ r. ⌜ r ≡ bitsUpTo25 (now (state .entry)) 13 (take n bands) ⌝ }
-{
-    let mut at: usize = 13;
-    let mut i: usize = 0;
-    while i < n {
-        let band = bands[i];
-        let nodes = tcd_layout::band_nodes(band);
-        let size = tcd_layout::band_blocks(band);
-        let first = at + 6 * nodes;
-        if !blocks_up_to_25_bits(state, first, size) {
-            return false;
-        }
-        at = first + 4 * size;
-        i += 1;
-    }
-    true
-}
-
-// Lengths below 2^24 take at most 24 bits, and 25 length bits leave room for the logarithm of 164 passes.
-fn surely_narrow(state: &[u32], bands: [Band; 3], n: usize, lengths: &[u32]) -> bool
-    requires { ⌜ (n ≤ 3) × AllUpTo64 (take n bands) × (length (now state) ≡ stateLength (take n bands)) × (length (now lengths) ≤ 4294967296) ⌝ }
-    ensures { λ r. ⌜ r ≡ (ltb (sum (now (lengths .entry))) (2 ^ 24) && bitsUpTo25 (now (state .entry)) 13 (take n bands)) ⌝ }
-{
-    if 0x100_0000 <= total(lengths) {
-        return false;
-    }
-    bands_up_to_25_bits(state, bands, n)
 }
 
 // ---- both
@@ -238,7 +138,7 @@ pub fn segments_refusal(
     requires { ⌜ (n ≤ 3) × AllUpTo64 (take n bands) × (length (now state) ≡ stateLength (take n bands)) × (length (now counts) ≡ length (blocks (take n bands))) × PassesLeft (now counts) (now lengths) (now marks) × (length (now lengths) ≤ 4294967296) × (any (λ c. ltb 164 c) (now counts) ≡ false) ⌝ }
     ensures { λ r. ⌜ r ≡ segmentsRefusal (now (state .entry)) (blocks (take n bands)) (now (counts .entry)) (now (lengths .entry)) (now (marks .entry)) ⌝ }
 {
-    if surely_narrow(state, bands, n, lengths) {
+    if t2_narrow::surely_narrow(state, bands, n, lengths) {
         return 0;
     }
     if segment_too_long(counts, lengths, marks) {

@@ -1,17 +1,16 @@
-// The coding of blocks in a packet header (opj_t2_encode_packet of t2.rs): a block's lengths, its passes, the block, a row of them.
+// The coding of blocks in a packet header (opj_t2_encode_packet of t2.rs): a block from its parts, and a row of them.
 ghost use mathlib.Core.Path.{_≡_};
-ghost use mathlib.Core.Bool.{cond};
 ghost use Prim.Native.Nat.{_+_, _<_, _≤_};
-ghost use lib.Dec.{T, ltb};
+ghost use lib.Dec.{T};
 ghost use lib.ListN.{length, getD};
-ghost use Rattle.t800.specs.WriteHeader.{codeInclusion, codeZeroPlanes, codePasses, codeBlock};
+ghost use Rattle.t800.specs.WriteHeader.{codeBlock};
 ghost use Rattle.t800.specs.Segments.{segmentsOf};
 ghost use Rattle.bio_bytes.specs.Writing.{output, FreeBitsClear};
 ghost use Rattle.t2_codes.specs.PassTable.{isPassTable};
 ghost use Rattle.tgt_write.specs.Coding.{leafCoded, putCoded};
 ghost use Rattle.t2_write_lengths.specs.Blocks.{PassesFit};
-ghost use Rattle.tcd_places.specs.Places.{BlockIn, RowIn, blockAt, blockIn, rowBlocks};
-ghost use Rattle.t2_write_block.specs.Runs.{running, codeNext, codeAll, NextFits, AllFit, setNext, setAll};
+ghost use Rattle.tcd_places.specs.Places.{BlockIn, RowIn, blockIn, rowBlocks};
+ghost use Rattle.t2_write_block.specs.Runs.{running, codeNext, codeAll, NextFits, AllFit};
 use t800::Bio;
 use tcd_places::Place;
 
@@ -23,75 +22,6 @@ pub struct Run {
 }
 
 // ---- one block
-
-fn code_passes(
-    codes: &[u16; 328],
-    words: &mut [u32],
-    out: &mut [u8],
-    b: Bio,
-    at: usize,
-    count: u32,
-    lengths: &[u32],
-    marks: &[u8],
-) -> Bio
-    requires { ⌜ (T (isPassTable (now codes))) × (FreeBitsClear b) × (at + 3 < length (now words)) × (1 ≤ count) × (PassesFit (getD (now words) at 0) (getD (now words) (at + 1) 0) count (now lengths) (now marks)) ⌝ }
-    ensures { λ r. ⌜ leafCoded (now (words .exit)) (now (out .exit)) r ≡ putCoded (output (now (out .entry)) b) (codePasses (blockAt at) count (segmentsOf (now (lengths .entry)) (now (marks .entry))) (now (words .entry))) ⌝ }
-{
-    let before = t2_segments::length_bits_before(words[at], words[at + 1]);
-    let r = t2_write_lengths::put_lengths(codes, out, b, before, count, lengths, marks);
-    let passes = words[at] + count;
-    words[at] = passes;
-    words[at + 1] = r.bits;
-    r.bio
-}
-
-fn included(count: u32) -> u32
-    ensures { λ r. ⌜ r ≡ cond (ltb 0 count) 1 0 ⌝ }
-{
-    if 0 < count { 1 } else { 0 }
-}
-
-// By tree until first included, then one bit.
-fn code_inclusion(
-    words: &mut [u32],
-    out: &mut [u8],
-    b: Bio,
-    p: Place,
-    row: &[usize; 7],
-    layer: u32,
-    count: u32,
-) -> Bio
-    requires { ⌜ (FreeBitsClear b) × (BlockIn (length (now words)) p (now row)) × (layer < 999) ⌝ }
-    ensures { λ r. ⌜ leafCoded (now (words .exit)) (now (out .exit)) r ≡ putCoded (output (now (out .entry)) b) (codeInclusion layer (blockIn p (now (row .entry)) 0) count (now (words .entry))) ⌝ }
-{
-    let at = p.at;
-    if words[at] == 0 {
-        return tgt_write::opj_tgt_encode(words, out, b, p.incl, row, p.depth, p.x, layer + 1);
-    }
-    let bit = included(count);
-    bio_lent::bit_out(out, b, bit)
-}
-
-// At first inclusion.
-fn code_zero_planes(words: &mut [u32], out: &mut [u8], b: Bio, p: Place, row: &[usize; 7]) -> Bio
-    requires { ⌜ (FreeBitsClear b) × (BlockIn (length (now words)) p (now row)) ⌝ }
-    ensures { λ r. ⌜ leafCoded (now (words .exit)) (now (out .exit)) r ≡ putCoded (output (now (out .entry)) b) (codeZeroPlanes (blockIn p (now (row .entry)) 0) (now (words .entry))) ⌝ }
-{
-    let at = p.at;
-    if words[at] == 0 {
-        return tgt_write::opj_tgt_encode(
-            words,
-            out,
-            b,
-            p.zero,
-            row,
-            p.depth,
-            p.x,
-            tcd_style::NOT_YET_PLANES,
-        );
-    }
-    b
-}
 
 fn code_block(
     codes: &[u16; 328],
@@ -108,12 +38,12 @@ fn code_block(
     requires { ⌜ (T (isPassTable (now codes))) × (FreeBitsClear b) × (BlockIn (length (now words)) p (now row)) × (layer < 999) × (PassesFit (getD (now words) (p .at) 0) (getD (now words) (p .at + 1) 0) count (now lengths) (now marks)) ⌝ }
     ensures { λ r. ⌜ leafCoded (now (words .exit)) (now (out .exit)) r ≡ putCoded (output (now (out .entry)) b) (codeBlock layer (blockIn p (now (row .entry)) 0) count (segmentsOf (now (lengths .entry)) (now (marks .entry))) (now (words .entry))) ⌝ }
 {
-    let told = code_inclusion(words, out, b, p, row, layer, count);
+    let told = t2_write_block_parts::code_inclusion(words, out, b, p, row, layer, count);
     if count == 0 {
         return told;
     }
-    let planes = code_zero_planes(words, out, told, p, row);
-    code_passes(codes, words, out, planes, p.at, count, lengths, marks)
+    let planes = t2_write_block_parts::code_zero_planes(words, out, told, p, row);
+    t2_write_block_parts::code_passes(codes, words, out, planes, p.at, count, lengths, marks)
 }
 
 // ---- a row of blocks
@@ -193,39 +123,4 @@ pub fn code_row(
         i += 1;
     }
     run
-}
-
-fn set_next(words: &mut [u32], p: Place, row: &[usize; 7], layer: u32, count: u32)
-    requires { ⌜ BlockIn (length (now words)) p (now row) ⌝ }
-    ensures { λ _. ⌜ now (words .exit) ≡ setNext layer (blockIn p (now (row .entry)) 0) count (now (words .entry)) ⌝ }
-{
-    let at = p.at;
-    if words[at] != 0 {
-        return;
-    }
-    if count == 0 {
-        return;
-    }
-    tgt::opj_tgt_setvalue(words, p.incl, row, p.depth, p.x, layer);
-}
-
-// n blocks, of which the first has count number `block`.
-pub fn set_row(
-    words: &mut [u32],
-    p: Place,
-    n: usize,
-    row: &[usize; 7],
-    layer: u32,
-    counts: &[u32],
-    block: usize,
-)
-    requires { ⌜ (RowIn (length (now words)) p (now row) n) × (block + n ≤ length (now counts)) ⌝ }
-    ensures { λ _. ⌜ now (words .exit) ≡ setAll layer (now (counts .entry)) (rowBlocks p (now (row .entry)) 0 n 0) block (now (words .entry)) ⌝ }
-{
-    let mut i: usize = 0;
-    while i < n {
-        let place = tcd_places::place_at(p, i);
-        set_next(words, place, row, layer, counts[block + i]);
-        i += 1;
-    }
 }

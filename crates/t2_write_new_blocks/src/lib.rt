@@ -30,7 +30,7 @@ fn set_rows(
         tgt::opj_tgt_row(tree, g.depth, y, &mut row);
         let place = tcd_places::row_place(g, y);
         let first = block + y * g.w;
-        t2_write_block::set_row(words, place, g.w, &row, layer, counts, first);
+        t2_write_new_rows::set_row(words, place, g.w, &row, layer, counts, first);
         y += 1;
     }
 }

@@ -1,198 +1,13 @@
-// What a start and a state must meet: the checks of refusals 1, 4 and 5 over the bands that are given and the words that are lent.
+// What a state must meet: refusal 5, over its first words, its bands and its length.
 ghost use mathlib.Core.Path.{_≡_};
-ghost use mathlib.Core.Bool.{cond, _&&_, _||_};
-ghost use Prim.Native.Nat.{_+_, _*_, _≤_, _<_};
-ghost use lib.ListN.{length, getD, take};
-ghost use lib.Dec.{ltb, leb, eqb};
-ghost use Rattle.t800.specs.Base.{every};
-ghost use Rattle.t800.specs.State.{writer, bandNodes, bandLength, stateLength, bandAt};
-ghost use Rattle.t800.specs.Ranges.{nodeInRange, blockInRange, bandInRange, bandsInRange, validState};
+ghost use mathlib.Core.Bool.{_&&_};
+ghost use Prim.Native.Nat.{_≤_};
+ghost use lib.ListN.{length, take};
+ghost use lib.Dec.{eqb};
+ghost use Rattle.t800.specs.State.{stateLength};
+ghost use Rattle.t800.specs.Ranges.{bandsInRange, validState};
 ghost use Rattle.tcd_layout.specs.Geometry.{AllUpTo64};
-ghost use Rattle.tcd_shape.specs.Parts.{fault, LimitsOf, isOneOf, lengthBitsInRange, segmentInRange, blockWordsInRange, shapeInRange, firstWordsInRange, threeBands};
 use t800::Band;
-use tcd_shape::Limits;
-use tcd_style::Style;
-
-// ---- start's checks
-
-// ---- the state's words
-
-fn word(state: &[u32], i: usize) -> u32
-    ensures { λ r. ⌜ r ≡ getD (now (state .entry)) i 0 ⌝ }
-{
-    if i < state.len() { state[i] } else { 0 }
-}
-
-fn band_at(state: &[u32], i: usize) -> Band
-    requires { ⌜ (i < 3) × (13 ≤ length (now state)) ⌝ }
-    ensures { λ r. ⌜ r ≡ bandAt (now (state .entry)) i ⌝ }
-{
-    let at = 4 + 3 * i;
-    let across = state[at];
-    let down = state[at + 1];
-    let planes = state[at + 2];
-    Band {
-        across,
-        down,
-        planes,
-    }
-}
-
-// The bands that a state names, used or not.
-pub fn bands_of(state: &[u32]) -> [Band; 3]
-    requires { ⌜ 13 ≤ length (now state) ⌝ }
-    ensures { λ r. ⌜ r ≡ threeBands (now (state .entry)) ⌝ }
-{
-    let first = band_at(state, 0);
-    let second = band_at(state, 1);
-    let third = band_at(state, 2);
-    [first, second, third]
-}
-
-fn node_fault(value: u32, low: u32, known: u32, most: u32) -> u32
-    ensures { λ r. ⌜ r ≡ fault (leb value most && leb low most && leb known 1) ⌝ }
-{
-    tcd_shape::over(value, most) | tcd_shape::over(low, most) | tcd_shape::over(known, 1)
-}
-
-// Looks at all nodes, so that the loop vectorises.
-fn nodes_in_range(state: &[u32], at: usize, n: usize, most: u32) -> bool
-    requires { ⌜ at + 3 * n ≤ length (now state) ⌝ }
-    ensures { λ r. ⌜ r ≡ every n (λ i. nodeInRange (now (state .entry)) most (at + 3 * i)) ⌝ }
-{
-    let mut faults: u32 = 0;
-    let mut i: usize = 0;
-    while i < n {
-        let node = at + 3 * i;
-        faults = faults | node_fault(state[node], state[node + 1], state[node + 2], most);
-        i += 1;
-    }
-    faults == 0
-}
-
-fn chosen(none: bool, a: u32, b: u32) -> u32
-    ensures { λ r. ⌜ r ≡ cond none a b ⌝ }
-{
-    if none { a } else { b }
-}
-
-fn length_bits_fault(passes: u32, bits: u32) -> u32
-    ensures { λ r. ⌜ r ≡ fault (lengthBitsInRange passes bits) ⌝ }
-{
-    let none = passes == 0;
-    let least = chosen(none, 0, 3);
-    let most = chosen(none, 0, 32);
-    tcd_shape::over(least, bits) | tcd_shape::over(bits, most)
-}
-
-fn has_no_segment(role: u32, passes: u32) -> bool
-    ensures { λ r. ⌜ r ≡ (eqb passes 0 || eqb role writer) ⌝ }
-{
-    if passes == 0 {
-        return true;
-    }
-    role == tcd_style::WRITER
-}
-
-fn limits_of(style: Style) -> Limits
-    ensures { λ r. ⌜ LimitsOf (style .bits) r ⌝ }
-{
-    let first = style.first_limit();
-    let second = style.next_limit(2);
-    let third = style.next_limit(1);
-    Limits {
-        first,
-        second,
-        third,
-    }
-}
-
-fn differs(a: u32, b: u32) -> u32
-    ensures { λ r. ⌜ r ≡ fault (eqb a b) ⌝ }
-{
-    if a == b { 0 } else { 1 }
-}
-
-fn limit_fault(limits: Limits, limit: u32) -> u32
-    ensures { λ r. ⌜ r ≡ fault (isOneOf limits limit) ⌝ }
-{
-    differs(limit, limits.first) & differs(limit, limits.second) & differs(limit, limits.third)
-}
-
-// Where there is no segment the limit is 0, and the passes are at most that.
-fn segment_fault(role: u32, limits: Limits, passes: u32, limit: u32, used: u32) -> u32
-    ensures { λ r. ⌜ r ≡ fault (segmentInRange role limits passes limit used) ⌝ }
-{
-    let none = has_no_segment(role, passes);
-    let least = chosen(none, 0, 1);
-    let wrong = chosen(none, differs(limit, 0), limit_fault(limits, limit));
-    wrong | tcd_shape::over(least, used) | tcd_shape::over(used, limit)
-}
-
-fn passes_fault(passes: u32, layer: u32) -> u32
-    ensures { λ r. ⌜ r ≡ fault (leb passes (164 * layer)) ⌝ }
-{
-    let most = 164 * (layer as u64);
-    if most < passes as u64 { 1 } else { 0 }
-}
-
-fn block_fault(
-    role: u32,
-    limits: Limits,
-    layer: u32,
-    passes: u32,
-    bits: u32,
-    limit: u32,
-    used: u32,
-) -> u32
-    ensures { λ r. ⌜ r ≡ fault (blockWordsInRange role limits layer passes bits limit used) ⌝ }
-{
-    passes_fault(passes, layer)
-        | length_bits_fault(passes, bits)
-        | segment_fault(role, limits, passes, limit, used)
-}
-
-fn blocks_in_range(state: &[u32], at: usize, n: usize) -> bool
-    requires { ⌜ at + 4 * n ≤ length (now state) ⌝ }
-    ensures { λ r. ⌜ r ≡ every n (λ i. blockInRange (now (state .entry)) (at + 4 * i)) ⌝ }
-{
-    let role = word(state, 0);
-    let bits = word(state, 2);
-    let layer = word(state, 3);
-    let limits = limits_of(Style { bits });
-    let mut faults: u32 = 0;
-    let mut i: usize = 0;
-    while i < n {
-        let block = at + 4 * i;
-        faults = faults
-            | block_fault(
-                role,
-                limits,
-                layer,
-                state[block],
-                state[block + 1],
-                state[block + 2],
-                state[block + 3],
-            );
-        i += 1;
-    }
-    faults == 0
-}
-
-fn band_in_range(state: &[u32], at: usize, band: Band, nodes: usize) -> bool
-    requires { ⌜ (nodes ≡ bandNodes band) × (at + bandLength band ≤ length (now state)) ⌝ }
-    ensures { λ r. ⌜ r ≡ bandInRange (now (state .entry)) at band ⌝ }
-{
-    let zero_tree = at + 3 * nodes;
-    let blocks = zero_tree + 3 * nodes;
-    if !nodes_in_range(state, at, nodes, tcd_style::NOT_YET_INCLUDED) {
-        return false;
-    }
-    if !nodes_in_range(state, zero_tree, nodes, tcd_style::NOT_YET_PLANES) {
-        return false;
-    }
-    blocks_in_range(state, blocks, tcd_layout::band_blocks(band))
-}
 
 // The words of the bands end where the state does, and are in range.
 fn bands_in_range(state: &[u32], bands: [Band; 3], n: usize) -> bool
@@ -209,70 +24,13 @@ fn bands_in_range(state: &[u32], bands: [Band; 3], n: usize) -> bool
         if state.len() < end {
             return false;
         }
-        if !band_in_range(state, at, band, nodes) {
+        if !tcd_band_ranges::band_in_range(state, at, band, nodes) {
             return false;
         }
         at = end;
         i += 1;
     }
     state.len() == at
-}
-
-fn unused_fault(state: &[u32], i: usize, used: usize) -> u32
-    requires { ⌜ i < 9 ⌝ }
-    ensures { λ r. ⌜ r ≡ fault (ltb i used || eqb (getD (now (state .entry)) (4 + i) 0) 0) ⌝ }
-{
-    if i < used {
-        return 0;
-    }
-    if word(state, 4 + i) == 0 { 0 } else { 1 }
-}
-
-fn unused_bands_zero(state: &[u32], n: u32) -> bool
-    ensures { λ r. ⌜ r ≡ every 9 (λ i. ltb i (3 * n) || eqb (getD (now (state .entry)) (4 + i) 0) 0) ⌝ }
-{
-    let used = 3 * (n as usize);
-    let mut faults: u32 = 0;
-    let mut i: usize = 0;
-    while i < 9 {
-        faults = faults | unused_fault(state, i, used);
-        i += 1;
-    }
-    faults == 0
-}
-
-fn shape_in_range(role: u32, state: &[u32], bands: [Band; 3]) -> bool
-    requires { ⌜ bands ≡ threeBands (now state) ⌝ }
-    ensures { λ r. ⌜ r ≡ shapeInRange role (now (state .entry)) ⌝ }
-{
-    if word(state, 0) != role {
-        return false;
-    }
-    let n = word(state, 1);
-    !tcd_shape::bad_shape(n, bands)
-}
-
-// The thirteen words before the first band's.
-fn first_words_in_range(role: u32, state: &[u32], bands: [Band; 3]) -> bool
-    requires { ⌜ bands ≡ threeBands (now state) ⌝ }
-    ensures { λ r. ⌜ r ≡ firstWordsInRange role (now (state .entry)) ⌝ }
-{
-    if !shape_in_range(role, state, bands) {
-        return false;
-    }
-    let bits = word(state, 2);
-    let style = Style { bits };
-    if style.is_refused() {
-        return false;
-    }
-    if tcd_style::NOT_YET_INCLUDED < word(state, 3) {
-        return false;
-    }
-    let n = word(state, 1);
-    if tcd_shape::band_too_deep(bands, n as usize) {
-        return false;
-    }
-    unused_bands_zero(state, n)
 }
 
 // Whether refusal 5 is not given: a state for this role, and a scratch as long.
@@ -282,13 +40,13 @@ pub fn valid_state(role: u32, state: &[u32], scratch_len: usize) -> bool
     if state.len() < 13 {
         return false;
     }
-    let bands = bands_of(state);
-    if !first_words_in_range(role, state, bands) {
+    let bands = tcd_first_words::bands_of(state);
+    if !tcd_first_words::first_words_in_range(role, state, bands) {
         return false;
     }
     if scratch_len != state.len() {
         return false;
     }
-    let n = word(state, 1) as usize;
+    let n = tcd_first_words::word(state, 1) as usize;
     bands_in_range(state, bands, n)
 }

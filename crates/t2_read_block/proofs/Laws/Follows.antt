@@ -29,7 +29,7 @@ use Rattle.t2_codes.proofs.Laws.CommaCode.{comma-below, comma-value}
 use Rattle.t2_read_segments.specs.Reading.{Reading, stopped, movedOn, reported, nextSegment, nextSegments, passesRead, segmentsAfter, nextFirst, nextAgain, nextNew, nextOld, nextBlock, nextBlocks, heldBy}
 use Rattle.t2_read_segments.proofs.Laws.ManySegments.{no-segments}
 use Rattle.tcd_places.proofs.Laws.Before.{AllBlocks, Before, same-word}
-use Rattle.t2_read_block.proofs.Laws.Kept.{path-keeps}
+use Rattle.t2_read_block_parts.proofs.Laws.Kept.{path-keeps}
 
 -- ---- trees leave as many words
 

@@ -15,7 +15,7 @@ use Rattle.t2_read_segments.proofs.Laws.ManySegments.{fits-same}
 use Rattle.tcd_places.specs.Places.{RowIn, blockIn, placeAt, rowBlocks}
 use Rattle.tcd_places.proofs.Laws.Before.{same-word, drop-later}
 use Rattle.tcd_places.proofs.Laws.Rows.{before-next, row-turn}
-use Rattle.t2_read_block.proofs.Laws.Kept.{Keeps, block-keeps}
+use Rattle.t2_read_block_parts.proofs.Laws.Kept.{Keeps, block-keeps}
 
 -- ---- what stays
 

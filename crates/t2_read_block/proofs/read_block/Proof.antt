@@ -1,7 +1,7 @@
 -- `t2_read_block::read_block` meets its contract.
 use Rattle.t2_read_segments.specs.Reading.{reading}
 use Rattle.tcd_places.specs.Places.{blockIn}
-use Rattle.t2_read_block.proofs.Laws.BlockParts.{block-new, block-old}
+use Rattle.t2_read_block_parts.proofs.Laws.BlockParts.{block-new, block-old}
 use borrow.Author.Needs.{needs}
 use Rattle.t2_read_block.proofs.read_block.Statement.{statement}
 use Rattle.t2_read_block.proofs.read_block.Tie as tie

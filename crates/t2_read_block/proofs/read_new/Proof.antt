@@ -12,8 +12,8 @@ use Rattle.t2_read_segments.specs.Reading.{reading}
 use Rattle.t2_read_segments.proofs.Laws.ManySegments.{fits-same}
 use Rattle.tcd_places.specs.Places.{BlockIn}
 use Rattle.tcd_places.proofs.Laws.Before.{path-before, path-wider}
-use Rattle.t2_read_block.proofs.Laws.Kept.{path-keeps}
-use Rattle.t2_read_block.proofs.Laws.BlockParts.{new-included, new-absent}
+use Rattle.t2_read_block_parts.proofs.Laws.Kept.{path-keeps}
+use Rattle.t2_read_block_parts.proofs.Laws.BlockParts.{new-included, new-absent}
 use borrow.Author.Needs.{needs}
 use Rattle.t2_read_block.proofs.read_new.Statement.{statement}
 use Rattle.t2_read_block.proofs.read_new.Tie as tie

@@ -6,7 +6,7 @@ use Rattle.bio_read.specs.Reading.{decoded}
 use Rattle.bio_read.proofs.Laws.ReadChunks.{getBit-ct}
 use Rattle.t2_read_segments.specs.declared.Run.{Run}
 use Rattle.t2_read_segments.specs.Reading.{reading}
-use Rattle.t2_read_block.proofs.Laws.BlockParts.{old-absent, old-included}
+use Rattle.t2_read_block_parts.proofs.Laws.BlockParts.{old-absent, old-included}
 use borrow.Author.Needs.{needs}
 use Rattle.t2_read_block.proofs.read_old.Statement.{statement}
 use Rattle.t2_read_block.proofs.read_old.Tie as tie

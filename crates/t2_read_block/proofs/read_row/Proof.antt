@@ -9,7 +9,7 @@ use Rattle.tcd_places.specs.declared.Place.{Place}
 use Rattle.t2_read_segments.specs.Reading.{reading, nextBlock, nextBlocks, BlockFits}
 use Rattle.tcd_places.specs.Places.{BlockIn, RowIn, blockIn, rowBlocks}
 use Rattle.tcd_places.proofs.Laws.Rows.{block-in, row-end}
-use Rattle.t2_read_block.proofs.Laws.Kept.{Keeps}
+use Rattle.t2_read_block_parts.proofs.Laws.Kept.{Keeps}
 use Rattle.t2_read_block.proofs.Laws.Rows.{block-fits, reads-then, reads-no-more, keeps-then}
 use Rattle.t2_read_block.proofs.read_row.Statement.{statement}
 use Rattle.t2_read_block.proofs.read_row.Tie as tie

@@ -20,7 +20,7 @@ use Rattle.round_trip.proofs.Trip.Segments.{readSoFar}
 use Rattle.tcd_state.proofs.Laws.ValidStates.{ValidState}
 use Rattle.t2_read_segments.specs.declared.Run.{Run}
 use Rattle.t2_read_segments.specs.Reading.{Reading, reading, stopped, nextBlocks, heldBy, BitsIn, Follows}
-use Rattle.t2_read_block.proofs.Laws.Kept.{blocks-keep}
+use Rattle.t2_read_block_parts.proofs.Laws.Kept.{blocks-keep}
 use Rattle.t2_read_block.proofs.Laws.Follows.{Ends, blocks-end}
 use Rattle.tcd_places.proofs.Laws.BandBlocks.{bands-before}
 use Rattle.t2_read_header.specs.Header.{ReadsHeader}

@@ -12,12 +12,12 @@ use Rattle.t800.specs.State.{reader, layer, blocks, endOf}
 use Rattle.tcd_layout.specs.Geometry.{AllUpTo64}
 use Rattle.bio_read.specs.declared.Aligned.{Aligned}
 use Rattle.bio_read.specs.Reading.{alignedAt}
-use Rattle.tcd_state.proofs.Laws.RangeParts.{first-bands}
+use Rattle.tcd_first_words.proofs.Laws.FirstWords.{first-bands}
 use Rattle.tcd_state.proofs.Laws.ValidStates.{valid-state}
 use Rattle.t2_read_segments.specs.declared.Run.{Run}
 use Rattle.t2_read_segments.specs.Reading.{reading, nextBlocks}
-use Rattle.t2_read_header.specs.Bands.{BandsFit}
-use Rattle.t2_read_header.proofs.Laws.ReadBands.{bands-fit}
+use Rattle.t2_read_bands.specs.Bands.{BandsFit}
+use Rattle.t2_read_bands.proofs.Laws.ReadBands.{bands-fit}
 use Rattle.t2_read_header.proofs.Laws.HeaderEnd.{bands-inside, thirteen-words, bits-in, header-refused, header-done, header-cut}
 use borrow.Author.Needs.{needs}
 use Rattle.t2_read_header.proofs.opj_t2_read_packet_header.Statement.{statement}

@@ -6,9 +6,10 @@ use Rattle.t800.specs.Bits.{Decoded, bioAt, getBit}
 use Rattle.t800.specs.MarkerSegments.{MarkerRead}
 use Rattle.bio_read.specs.Reading.{decoded}
 use Rattle.bio_read.proofs.Laws.ReadChunks.{getBit-ct, getBit-place}
-use Rattle.t2_read_packet.specs.Answers.{markerRead}
-use Rattle.t2_read_packet.proofs.Laws.Markers.{skip-inside}
-use Rattle.t2_read_packet.proofs.Laws.Results.{accepted, unchanged-is, read-absent-is, read-present-is}
+use Rattle.t2_read_marks.specs.Marks.{markerRead}
+use Rattle.t2_read_marks.proofs.Laws.Markers.{skip-inside}
+use Rattle.t2_read_refusals.proofs.Laws.Refusals.{accepted}
+use Rattle.t2_read_packet.proofs.Laws.Whole.{unchanged-is, read-absent-is, read-present-is}
 use borrow.Author.Needs.{needs}
 use Rattle.t2_read_packet.proofs.read.Statement.{statement}
 use Rattle.t2_read_packet.proofs.read.Tie as tie

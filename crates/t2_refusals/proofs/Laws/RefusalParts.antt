@@ -17,7 +17,7 @@ use Rattle.t800.proofs.Laws.Tests.{or-left, or-right}
 use Rattle.tcd_layout.specs.Geometry.{AllUpTo64}
 use Rattle.tcd_layout.proofs.Laws.Bands.{blocks-up-to-12288}
 use Rattle.tcd_shape.specs.Parts.{threeBands}
-use Rattle.tcd_state.proofs.Laws.RangeParts.{first-bands}
+use Rattle.tcd_first_words.proofs.Laws.FirstWords.{first-bands}
 use Rattle.tcd_state.proofs.Laws.ValidStates.{valid-state, long-enough}
 use Rattle.t2_widths.specs.Widths.{PassesLeft, segmentsRefusal}
 use Rattle.t2_refusals.specs.Refusals.{contributionRefusal, measureRefusalFor}

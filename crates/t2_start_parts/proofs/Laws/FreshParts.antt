@@ -11,7 +11,7 @@ use Rattle.t800.specs.State.{notYetIncluded, notYetPlanes, blocksIn, bandNodes,
 use Rattle.t800.specs.Start.{freshNodes, freshBlocks, freshBands, bandWords, freshState}
 use Rattle.t800.proofs.Laws.FreshState.{length-nodes, length-blocks, fresh-length}
 use Rattle.tcd_layout.specs.Geometry.{noBand}
-use Rattle.t2_start_parts.proofs.Laws.Runs.{sets-behind, sets-whole, part-length, part-set}
+use Rattle.t2_start_planes.proofs.Laws.Runs.{sets-behind, sets-whole, part-length, part-set}
 
 -- ---- the words of bands in front
 

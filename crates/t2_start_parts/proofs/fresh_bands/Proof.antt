@@ -13,7 +13,7 @@ use Rattle.t800.proofs.Laws.Layout.{band-length}
 use Rattle.tcd_layout.specs.Geometry.{noBand}
 use Rattle.tcd_layout.proofs.Laws.Bands.{next-band, sides-of-first, end-turn}
 use Rattle.t2_start_parts.proofs.Laws.FreshParts.{own-turn}
-use Rattle.t2_start_parts.proofs.Laws.BlockRows.{band-inside}
+use Rattle.t2_start_planes.proofs.Laws.BlockRows.{band-inside}
 use Rattle.t2_start_parts.proofs.fresh_bands.Statement.{statement}
 use Rattle.t2_start_parts.proofs.fresh_bands.Tie as tie
 

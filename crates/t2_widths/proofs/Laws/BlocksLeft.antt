@@ -8,16 +8,16 @@ use lib.ListN.{length, getD, take, drop, drop-of-length-le}
 use lib.Seq.{drop-drop}
 use Rattle.t800.specs.declared.Band.{Band}
 use Rattle.t800.specs.Base.{sum}
-use Rattle.t800.specs.Segments.{Segment, segmentsOf, increment}
+use Rattle.t800.specs.Segments.{segmentsOf}
 use Rattle.t800.specs.State.{Block, blocksIn, bandNodes, bandLength, blocksFrom, blocksAt}
 use Rattle.t800.specs.WriteHeader.{isNew, lengthBitsBefore, segmentTooLong, fieldTooWide}
 use Rattle.t800.proofs.Laws.Tests.{or-left, or-right}
 use Rattle.tcd_layout.proofs.Laws.Bands.{length-from}
 use Rattle.tcd_shape.proofs.Laws.BlockPlanes.{or-group}
-use Rattle.t2_segments.specs.Segments.{bitsBefore, anyTooLong, anyTooWide, blockTooWide}
+use Rattle.t2_segments.specs.Segments.{bitsBefore, anyTooLong, blockTooWide}
 use Rattle.t2_segments.proofs.Laws.Segments.{next-entry}
 use Rattle.t2_widths.specs.Widths.{wideFrom}
-use Rattle.t2_widths.proofs.Laws.Lists.{sum-splits}
+use Rattle.t2_narrow.proofs.Laws.Sums.{sum-splits}
 
 -- the passes of a block: those from `from` up to `to`
 module _ (from to c : ℕ) (e : to ≡ from + c) where
@@ -64,10 +64,6 @@ none-long-behind (suc n) (c ∷ cs) ls ms h =
     ∙ none-long-behind n cs (drop c ls) (drop c ms) (or-right (anyTooLong (segmentsOf (take c ls) (take c ms))) (segmentTooLong cs (drop c ls) (drop c ms)) h)
 
 -- ---- fields too wide, block by block
-
--- a block's length bits, the increment and the widths with both
-pub block-wide-parts : (before more bits : ℕ) (ss : List Segment) (t : Bool) → before ≡ bits → more ≡ increment before ss → t ≡ anyTooWide (before + more) ss → t ≡ blockTooWide bits ss
-block-wide-parts before more bits ss t p q r = r ∙ ap (λ (z : ℕ). anyTooWide (before + z) ss) q ∙ ap (λ (z : ℕ). blockTooWide z ss) p
 
 module _ (ws cs ls ms : List ℕ) where
   pub wide-turn : (n i at from to : ℕ) (t : Bool) → i < n → n ≤ length cs → to ≡ from + getD cs i 0

@@ -1,30 +1,13 @@
--- Sums of lists, entry by entry and in two parts; and parts of lists.
-use mathlib.Core.Path.{_≡_, refl, sym, ap, subst}
-use mathlib.Core.List.{List, [], _∷_}
-use Prim.Native.Nat.{ℕ, zero, suc, _+_, _-_, _≤_, _<_, min}
+-- Parts of lists: a block's passes, the passes that are left.
+use mathlib.Core.Path.{_≡_, refl, sym, subst}
+use mathlib.Core.List.{List}
+use Prim.Native.Nat.{ℕ, _+_, _-_, _≤_, min}
 use native.Mathlib.Omega.{arith}
-use lib.ListN.{length, getD, take, drop, drop-of-length-le, length-take, length-drop}
+use lib.ListN.{length, take, drop, length-take, length-drop}
 use lib.Seq.{take-all}
 use Rattle.t800.specs.Base.{sum}
 use Rattle.t2_segments.specs.Segments.{PassLists}
-use Rattle.t2_segments.proofs.Laws.Segments.{next-entry}
 use Rattle.t2_widths.specs.Widths.{PassesLeft}
-
-pub sum-turn : (l : List ℕ) (i : ℕ) → i < length l → sum (drop i l) ≡ getD l i 0 + sum (drop (i + 1) l)
-unfolding sum
-sum-turn l i h = ap sum (next-entry l i h)
-
-pub sum-end : (l : List ℕ) (i : ℕ) → length l ≤ i → sum (drop i l) ≡ 0
-unfolding sum
-sum-end l i h = ap sum (drop-of-length-le l {i = i} h)
-
-pub sum-splits : (n : ℕ) (l : List ℕ) → sum l ≡ sum (take n l) + sum (drop n l)
-unfolding sum
-sum-splits zero l = omega arith
-sum-splits (suc n) [] = refl
-sum-splits (suc n) (x ∷ l) = let r = sum-splits n l in omega arith
-
--- ---- parts
 
 -- a block's passes
 pub part-lists : (ls ms : List ℕ) (from to c : ℕ) → to ≡ from + c → to ≤ length ls → length ls ≡ length ms → c ≤ 4294967295

@@ -4,7 +4,7 @@ use lib.ListN.{take}
 use mathlib.Core.Bool.{true, false}
 use mathlib.Core.Path.{_∙_, refl, sym}
 use Rattle.t800.specs.State.{blocks}
-use Rattle.t2_widths.proofs.Laws.FewBytes.{few-not-refused, refusal-parts}
+use Rattle.t2_widths.proofs.Laws.Refusal.{few-not-refused, refusal-parts}
 use Rattle.t2_widths.proofs.segments_refusal.Statement.{statement}
 use Rattle.t2_widths.proofs.segments_refusal.Tie as tie
 

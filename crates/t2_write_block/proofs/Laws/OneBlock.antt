@@ -1,4 +1,4 @@
--- One block: which branch codes it, what coding its paths leaves alone, and its parts together.
+-- One block: what coding its paths leaves alone, and its parts together.
 use mathlib.Core.Path.{_≡_, refl, sym, ap, _∙_, subst}
 use mathlib.Core.Logic.{_≢_}
 use mathlib.Core.Bool.{cond}
@@ -18,25 +18,6 @@ use Rattle.bio_write.proofs.Laws.FreeBits.{putBits-append, putBits-clear}
 use Rattle.tgt_write.specs.Coding.{LeafCoded, putCoded}
 use Rattle.t2_write_lengths.specs.Blocks.{coded, PassesFit}
 use Rattle.tcd_places.proofs.Laws.Before.{Before, BlockBefore, same-word}
-
--- ---- branches
-
-module _ (ws : List ℕ) (k : Block) where
-  pub incl-new : (t c : ℕ) → getD ws (k .at) 0 ≡ 0 → codePath (k .inclTree) (t + 1) (reverse (k .path)) 0 ws ≡ codeInclusion t k c ws
-  unfolding codeInclusion isNew
-  incl-new t c e = sym (if-eq (getD ws (k .at) 0) 0 _ _ e)
-
-  pub incl-old : (t c : ℕ) → getD ws (k .at) 0 ≢ 0 → record { bits = cond (ltb 0 c) 1 0 ∷ []; words = ws } ≡ codeInclusion t k c ws
-  unfolding codeInclusion isNew
-  incl-old t c e = sym (if-ne (getD ws (k .at) 0) 0 _ _ e)
-
-  pub planes-new : getD ws (k .at) 0 ≡ 0 → codePath (k .zeroTree) notYetPlanes (reverse (k .path)) 0 ws ≡ codeZeroPlanes k ws
-  unfolding codeZeroPlanes isNew
-  planes-new e = sym (if-eq (getD ws (k .at) 0) 0 _ _ e)
-
-  pub planes-old : getD ws (k .at) 0 ≢ 0 → record { bits = []; words = ws } ≡ codeZeroPlanes k ws
-  unfolding codeZeroPlanes isNew
-  planes-old e = sym (if-ne (getD ws (k .at) 0) 0 _ _ e)
 
 -- ---- words that stay
 

@@ -17,7 +17,7 @@ use Rattle.t800.proofs.Laws.Tests.{either}
 use Rattle.tcd_state.proofs.Laws.ValidStates.{valid-state, block-known, block-bounds}
 use Rattle.t2_segments.specs.Segments.{blockTooWide}
 use Rattle.t2_segments.proofs.Laws.Segments.{next-entry}
-use Rattle.t2_widths.proofs.Laws.Lists.{sum-turn}
+use Rattle.t2_narrow.proofs.Laws.Sums.{sum-turn}
 use Rattle.t2_refusals.proofs.Laws.NotRefused.{NotRefused, count-up-to-164, none-long-first, none-wide-first}
 use Rattle.t2_write_lengths.specs.Blocks.{PassesFit}
 use Rattle.t2_write_block.specs.Runs.{AllFit}

@@ -18,7 +18,7 @@ use Rattle.t800.proofs.Laws.Tests.{on-eq}
 use Rattle.t800.proofs.Laws.Layout.{Tree, inclusion, zeroPlanes, notYet, treeFrom, NodeFrom, BlockFrom, end-after}
 use Rattle.tcd_layout.specs.Geometry.{AllUpTo64}
 use Rattle.tcd_shape.specs.Parts.{shapeInRange}
-use Rattle.tcd_state.proofs.Laws.RangeParts.{and-left, and-right, shape-known}
+use Rattle.tcd_first_words.proofs.Laws.FirstWords.{and-left, and-right, shape-known}
 
 -- ---- the first words and the length
 

@@ -1,0 +1,2 @@
+pub mod FewBytes
+pub mod Sums

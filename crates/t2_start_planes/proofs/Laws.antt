@@ -1,0 +1,3 @@
+pub mod Runs
+pub mod BlockRows
+pub mod ZeroPlanes

@@ -1,0 +1,100 @@
+-- The blocks of a band row by row: the block in row y, column x of a band whose words begin at `at` is `blockOf at b (y * across + x)`, and
+-- its path is the one that the row's first nodes give.
+use mathlib.Core.Path.{_≡_, refl, sym, ap, ap₂, _∙_, subst}
+use mathlib.Core.List.{List, [], _∷_, _++_}
+use Prim.Native.Nat.{ℕ, zero, suc, _+_, _-_, _*_, _≤_, _<_}
+use native.Mathlib.Nat.{mul-le-mul, le-refl, le-trans, le-of-eq, mul-comm}
+use native.Mathlib.Omega.{arith}
+use lib.Arith.{digits-lt}
+use lib.ListN.{length, getD, take, drop}
+use Rattle.t800.specs.declared.Band.{Band}
+use Rattle.t800.specs.declared.Level.{Level}
+use Rattle.t800.specs.TagTree.{levels, nodes, pathToRoot}
+use Rattle.t800.specs.State.{Block, blockOf, blocksIn, bandNodes, bandLength, blocksFrom, endOf}
+use Rattle.t800.proofs.Laws.Layout.{band-length, end-after}
+use Rattle.tcd_layout.specs.Geometry.{noBand, padded}
+use Rattle.tcd_layout.proofs.Laws.Bands.{end-turn, blocks-split}
+use Rattle.tcd_layout.proofs.Laws.TreeLevels.{padded-front}
+use Rattle.tgt.specs.Path.{rowOver, pathOver, PathIn}
+use Rattle.tgt.proofs.Laws.Path.{TreeLevels, climb, path-climbs, path-in}
+use Rattle.t2_start_planes.specs.Rows.{RowIn}
+
+-- band i of the first n, the words of which begin at `at`, ends before the last of them does
+pub band-inside : (bs : List Band) (n i at size : ℕ) → n ≤ length bs → i < n → endOf at (drop i (take n bs)) ≡ size → at + bandLength (getD bs i noBand) ≤ size
+band-inside bs n i at size h k e = le-trans (end-after (at + bandLength (getD bs i noBand)) (drop (i + 1) (take n bs))) (le-of-eq (end-turn bs n i at h k ∙ e))
+
+module _ (at : ℕ) (b : Band) where
+  -- block j of n from block i on
+  pub block-at : (n i j : ℕ) (d : Block) → j < n → getD (blocksFrom at b n i) j d ≡ blockOf at b (i + j)
+  unfolding blocksFrom
+  block-at zero i j d h = absurd (omega arith)
+  block-at (suc n) i zero d h = ap (blockOf at b) (let e : i ≡ i + 0 = omega arith in e)
+  block-at (suc n) i (suc j) d h = block-at n (i + 1) j d (omega arith) ∙ ap (blockOf at b) (let e : i + 1 + j ≡ i + suc j = omega arith in e)
+
+  -- in row y, column x
+  pub block-in-row : (y x : ℕ) (d : Block) → y < b .down → x < b .across → getD (blocksFrom at b (blocksIn b) 0) (y * b .across + x) d ≡ blockOf at b (y * b .across + x)
+  unfolding blocksIn
+  block-in-row y x d h k =
+      block-at (b .across * b .down) 0 (y * b .across + x) d (omega (arith, digits-lt h k, mul-comm (b .down) (b .across)))
+      ∙ ap (blockOf at b) (let e : 0 + (y * b .across + x) ≡ y * b .across + x = omega arith in e)
+
+  -- row y, and the rows below it
+  pub rows-turn : (y : ℕ) → y < b .down
+      → blocksFrom at b (blocksIn b - y * b .across) (y * b .across) ≡ blocksFrom at b (b .across) (y * b .across) ++ blocksFrom at b (blocksIn b - (y + 1) * b .across) ((y + 1) * b .across)
+  unfolding blocksIn
+  rows-turn y h =
+      let w : ℕ = b .across in
+      let l : (y + 1) * w ≤ b .down * w = mul-le-mul (let k : y + 1 ≤ b .down = omega arith in k) (le-refl w) in
+      let n : w * b .down - y * w ≡ w + (w * b .down - (y + 1) * w) = omega (arith, l, mul-comm w (b .down)) in
+      let q : y * w + w ≡ (y + 1) * w = omega arith in
+      ap (λ (k : ℕ). blocksFrom at b k (y * w)) n
+      ∙ blocks-split at b w (w * b .down - (y + 1) * w) (y * w)
+      ∙ ap (λ (k : ℕ). blocksFrom at b w (y * w) ++ blocksFrom at b (w * b .down - (y + 1) * w) k) q
+
+  -- the first row, and past the last
+  pub rows-first : blocksFrom at b (blocksIn b - 0 * b .across) (0 * b .across) ≡ blocksFrom at b (blocksIn b) 0
+  rows-first =
+      let z : 0 * b .across ≡ 0 = omega arith in
+      let n : blocksIn b - 0 ≡ blocksIn b = omega arith in
+      rw (z, n)
+
+  pub rows-end : (y : ℕ) → b .down ≤ y → blocksFrom at b (blocksIn b - y * b .across) (y * b .across) ≡ []
+  unfolding blocksIn blocksFrom
+  rows-end y h =
+      let l : b .down * b .across ≤ y * b .across = mul-le-mul h (le-refl (b .across)) in
+      let n : b .across * b .down - y * b .across ≡ 0 = omega (arith, l, mul-comm (b .across) (b .down)) in
+      ap (λ (k : ℕ). blocksFrom at b k (y * b .across)) n
+
+  -- the block in row y, column x, and those behind it in the row
+  pub columns-turn : (y x : ℕ) → x < b .across
+      → blocksFrom at b (b .across - x) (y * b .across + x) ≡ blockOf at b (y * b .across + x) ∷ blocksFrom at b (b .across - (x + 1)) (y * b .across + (x + 1))
+  unfolding blocksFrom
+  columns-turn y x h =
+      let n : b .across - x ≡ suc (b .across - (x + 1)) = omega arith in
+      let q : y * b .across + x + 1 ≡ y * b .across + (x + 1) = omega arith in
+      ap (λ (k : ℕ). blocksFrom at b k (y * b .across + x)) n
+      ∙ ap (λ (k : ℕ). blockOf at b (y * b .across + x) ∷ blocksFrom at b (b .across - (x + 1)) k) q
+
+-- the path of the block in row y, column x
+pub path-in-row : (w h : ℕ) (ls : List Level) (depth : ℕ) → TreeLevels w h ls depth → (y x : ℕ) → y < h → x < w → pathOver (rowOver ls depth y) depth x ≡ pathToRoot w h (y * w + x)
+path-in-row w h ls depth t y x k l = path-climbs w h ls depth t x y l k ∙ sym (climb w h ls depth t x y l k .is)
+
+-- a band's levels as the code holds them
+pub tree-of-band : (w h : ℕ) (ls : List Level) (depth : ℕ) → ls ≡ padded (levels w h) → depth ≡ length (levels w h) → TreeLevels w h ls depth
+tree-of-band w h ls depth e n = record { are = ap₂ (λ (d : ℕ) (l : List Level). take d l) n e ∙ padded-front (levels w h); many = sym n }
+
+-- row y ends before the band's last block does
+pub row-inside : (b : Band) (y from : ℕ) → y < b .down → from ≡ y * b .across → from + b .across ≤ blocksIn b
+unfolding blocksIn
+row-inside b y from h e =
+    let l : (y + 1) * b .across ≤ b .down * b .across = mul-le-mul (let k : y + 1 ≤ b .down = omega arith in k) (le-refl (b .across)) in
+    omega (arith, l, mul-comm (b .across) (b .down))
+
+-- the nodes of its zero-plane tree over the first n columns lie in a list that holds the band's words
+pub row-in : (at : ℕ) (b : Band) (ls : List Level) (depth : ℕ) → TreeLevels (b .across) (b .down) ls depth → (y : ℕ) → y < b .down → (row : List ℕ) → row ≡ rowOver ls depth y
+    → (base size n : ℕ) → base ≡ at + 3 * bandNodes b → at + bandLength b ≤ size → n ≤ b .across → RowIn size base row depth n
+unfolding bandNodes
+row-in at b ls depth t y k row e base size n q fits few = λ x h.
+    let m : bandNodes b ≡ nodes (b .across) (b .down) = refl in
+    subst (λ (r : List ℕ). PathIn size base r depth x) (sym e)
+    (path-in (b .across) (b .down) ls depth t x y (omega arith) k size base (omega (arith, band-length b, m, q, fits)))

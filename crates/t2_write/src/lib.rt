@@ -1,0 +1,50 @@
+// Writing a packet (opj_t2_encode_packet of t2.rs): check, copy the state, code, body, settle.
+ghost use mathlib.Core.Path.{_≡_};
+ghost use Rattle.t800.specs.Packet.{write};
+ghost use Rattle.t2_refusals.specs.Refusals.{contribution};
+use t800::Markers;
+use t800::WriteAnswer;
+
+pub fn write(
+    state: &mut [u32],
+    scratch: &mut [u32],
+    counts: &[u32],
+    lengths: &[u32],
+    marks: &[u8],
+    body: &[u8],
+    markers: Markers,
+    number: u32,
+    output: &mut [u8],
+) -> WriteAnswer
+    ensures { λ r. ⌜ record { answer = r; state = now (state .exit); scratch = now (scratch .exit); output = now (output .exit) } ≡ write (now (state .entry)) (now (scratch .entry)) (contribution (now (counts .entry)) (now (lengths .entry)) (now (marks .entry))) (now (body .entry)) markers number (now (output .entry)) ⌝ }
+{
+    let why = t2_refusals::measure_refusal(state, scratch.len(), counts, lengths, marks);
+    if why != 0 {
+        return WriteAnswer {
+            refusal: why,
+            bytes: 0,
+        };
+    }
+    if body.len() as u64 != t2_refusals::sum_lengths(lengths) {
+        return WriteAnswer {
+            refusal: 10,
+            bytes: 0,
+        };
+    }
+    lists::copy(state, scratch);
+    let end = t2_write_packet::put_front(scratch, output, counts, lengths, marks, markers, number);
+    if !t2_write_packet::has_room(output.len(), end, body.len()) {
+        lists::wipe(scratch);
+        lists::wipe_bytes(output);
+        return WriteAnswer {
+            refusal: 11,
+            bytes: 0,
+        };
+    }
+    let bytes = t2_write_packet::put_body(output, end, body);
+    lists::copy(scratch, state);
+    WriteAnswer {
+        refusal: 0,
+        bytes: bytes as u64,
+    }
+}
