@@ -18,6 +18,10 @@ levelsFrom (suc f) w h =
     let above = levelsFrom f ((w + 1) / 2) ((h + 1) / 2) in
     record { w = w; h = h } ∷ cond (leb (w * h) 1) [] above
 
+-- what an array of levels holds past the root's
+abbrev pub noLevel : Level
+noLevel = record { w = 0; h = 0 }
+
 -- sides up to 64 have seven levels at most
 unfoldable pub levels : ℕ → ℕ → List Level
 levels w h = levelsFrom 7 w h

@@ -8,6 +8,7 @@ use lib.Seq.{sets-eq, take-at, drop-drop, drop-append-add}
 use borrow.Author.Tests.{lt-ltb, le-ltb}
 use Rattle.t800.specs.Base.{overwrite}
 use Rattle.t800.specs.Reports.{BlockReport, SegmentRecord, reportWords, recordWords}
+use Rattle.t800.proofs.Laws.Lists.{record-words-length}
 use Rattle.lists.specs.Rows.{putRow}
 
 -- a row that isn't lent
@@ -34,11 +35,6 @@ row-over lent xs n a b c d l h =
 
 -- ---- records
 
-pub length-records : (rs : List SegmentRecord) → length (recordWords rs) ≡ 4 * length rs
-unfolding recordWords
-length-records [] = refl
-length-records (r ∷ rs) = let i = length-records rs in omega arith
-
 records-and-one : (rs : List SegmentRecord) (r : SegmentRecord) → recordWords (rs ++ (r ∷ [])) ≡ recordWords rs ++ (r .block ∷ r .opens ∷ r .passes ∷ r .bytes ∷ [])
 unfolding recordWords
 records-and-one [] r = refl
@@ -48,7 +44,7 @@ records-and-one (s ∷ rs) r = rw (records-and-one rs r)
 pub record-put : (lent : List ℕ) (rs : List SegmentRecord) (r : SegmentRecord) → length rs < length lent / 4
     → putRow (overwrite lent (recordWords rs)) (length rs) (r .block) (r .opens) (r .passes) (r .bytes) ≡ overwrite lent (recordWords (rs ++ (r ∷ [])))
 record-put lent rs r h =
-    row-over lent (recordWords rs) (length rs) (r .block) (r .opens) (r .passes) (r .bytes) (length-records rs) h
+    row-over lent (recordWords rs) (length rs) (r .block) (r .opens) (r .passes) (r .bytes) (record-words-length rs) h
     ∙ sym (ap (overwrite lent) (records-and-one rs r))
 
 -- ---- reports

@@ -17,7 +17,7 @@ use Rattle.t800.proofs.Laws.Layout.{band-length, end-after}
 use Rattle.t800.proofs.Laws.SetLeaf.{length-setValue}
 use Rattle.t800.proofs.Laws.Tests.{either}
 use Rattle.bio_bytes.specs.Writing.{output, FreeBitsClear}
-use Rattle.tcd_layout.proofs.Laws.Bands.{length-from}
+use Rattle.t800.proofs.Laws.Lists.{length-from}
 use Rattle.tgt_write.specs.Coding.{putCoded}
 use Rattle.t2_write_lengths.specs.Blocks.{coded}
 use Rattle.t2_write_block.specs.Runs.{Running, codeNext, codeAll, AllFit, setNext, setAll}

@@ -18,6 +18,7 @@ use Rattle.t800.specs.State.{Block, blockOf, blocksIn, bandNodes, bandLength, e
 use Rattle.t800.specs.Ranges.{badShape}
 use Rattle.t800.proofs.Laws.Tests.{or-left, or-right}
 use Rattle.t800.proofs.Laws.Layout.{band-length}
+use Rattle.t800.proofs.Laws.Lists.{length-from}
 use Rattle.tcd_layout.specs.Geometry.{noBand, padded, bandLevels, SidesUpTo64, AllUpTo64}
 use Rattle.tcd_layout.proofs.Laws.TreeLevels.{area-up-to-4096, nodes-up-to-28672}
 
@@ -104,11 +105,6 @@ nodes-of-band-up-to b s = nodes-up-to-28672 (b .across) (b .down) (s .0) (s .1)
 
 pub band-length-up-to : (b : Band) → SidesUpTo64 b → bandLength b ≤ 188416
 band-length-up-to b s = omega (arith, band-length b, nodes-of-band-up-to b s, blocks-up-to-4096 b s)
-
-pub length-from : (at : ℕ) (b : Band) (n i : ℕ) → length (blocksFrom at b n i) ≡ n
-unfolding blocksFrom
-length-from at b zero i = refl
-length-from at b (suc n) i = let r = length-from at b n (i + 1) in omega arith
 
 -- m blocks, and n behind them
 pub blocks-split : (at : ℕ) (b : Band) (m n i : ℕ) → blocksFrom at b (m + n) i ≡ blocksFrom at b m i ++ blocksFrom at b n (i + m)

@@ -10,10 +10,10 @@ use lib.ListN.{length, take, drop, getD, set, replicate, length-append, length-r
 use lib.Seq.{sets, sets-eq, take-append-seam}
 use lib.Dec.{leb}
 use Rattle.t800.specs.declared.Level.{Level}
-use Rattle.t800.specs.TagTree.{levelsFrom, levels, nodesIn, nodes}
+use Rattle.t800.specs.TagTree.{levelsFrom, noLevel, levels, nodesIn, nodes}
 use Rattle.t800.proofs.Laws.Tests.{if-le, if-gt, either}
 use Rattle.t800.proofs.Laws.Levels.{at-most-seven-levels}
-use Rattle.tcd_layout.specs.Geometry.{noLevel, padded}
+use Rattle.tcd_layout.specs.Geometry.{padded}
 use Rattle.tcd_layout.proofs.Laws.Lists.{drop-replicate}
 
 abbrev pub level : ℕ → ℕ → Level
