@@ -11,9 +11,8 @@ use lib.Pow.{mod-pow-add, shr-shr, pow-pos}
 use borrow.Author.Tests.{ne-eqb, eqb-false}
 use Rattle.t800.specs.declared.Bio.{Bio}
 use Rattle.t800.specs.Bits.{Decoded, byteIn, heldBit, getBit, readBitsOnto, readBits}
+use Rattle.bio_bytes.proofs.Laws.HeldWord.{bioOf, seven-or-eight}
 use Rattle.bio_read.specs.Chunks.{refill, heldBits}
-use Rattle.bio_write.proofs.Laws.FreeBits.{seven-or-eight}
-use Rattle.bio_write.proofs.Laws.WriteChunks.{bioOf}
 
 -- ---- at most eight bits are held
 
@@ -99,7 +98,8 @@ heldBits-ct b k h = omega arith
 abbrev found : ℕ → Bio → Decoded
 found v b = record { value = v; bio = b }
 
-get-held : (src : List ℕ) (p u c : ℕ) → getBit src (bioOf p u (suc c)) ≡ found (u / 2 ^ c % 2) (bioOf p u c)
+-- a bit where one is held
+pub get-held : (src : List ℕ) (p u c : ℕ) → getBit src (bioOf p u (suc c)) ≡ found (u / 2 ^ c % 2) (bioOf p u c)
 unfolding getBit heldBit
 get-held src p u c =
     let e : suc c - 1 ≡ c = omega arith in

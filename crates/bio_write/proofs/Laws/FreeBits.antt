@@ -11,15 +11,12 @@ use lib.Pow.{mod-mod-pow}
 use borrow.Author.Tests.{eqb-false}
 use Rattle.t800.specs.declared.Bio.{Bio}
 use Rattle.bio_bytes.specs.Writing.{Output, emptyAt, byteOut, makeRoom, holdBit, putBit, putBits, FreeBitsClear}
+use Rattle.bio_bytes.proofs.Laws.HeldWord.{seven-or-eight}
 
 pub emptyAt-clear : (p : ℕ) → FreeBitsClear (emptyAt p)
 emptyAt-clear p = record { atMostEight = omega arith; clear = refl }
 
 -- ---- seven or eight bits follow a byte, and they are free
-
-pub seven-or-eight : (t : Bool) → (7 ≤ cond t 7 8) × (cond t 7 8 ≤ 8)
-seven-or-eight true = omega arith
-seven-or-eight false = omega arith
 
 moved-clear : (t : Bool) (u : ℕ) → u * 256 % 65536 % 2 ^ cond t 7 8 ≡ 0
 moved-clear true u = omega arith

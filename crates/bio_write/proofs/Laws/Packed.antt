@@ -11,8 +11,9 @@ use borrow.Author.Tests.{eq-eqb, ne-eqb, eqb-true, eqb-false, ltb-true, ltb-fals
 use Rattle.t800.specs.Bits.{bitsAfter, lastBytes, packFrom, pack}
 use Rattle.t800.proofs.Laws.Pack.{AreBits}
 use Rattle.bio_bytes.specs.Writing.{Output, output, emptyAt, lastPlace, placeAfter, byteOut, makeRoom, holdBit, putBit, putBits, flush, FreeBitsClear}
+use Rattle.bio_bytes.proofs.Laws.HeldWord.{bioOf}
 use Rattle.bio_write.proofs.Laws.FreeBits.{emptyAt-clear, putBit-clear}
-use Rattle.bio_write.proofs.Laws.WriteChunks.{bioOf, put-held}
+use Rattle.bio_write.proofs.Laws.WriteChunks.{put-held}
 
 -- ---- a held byte with free bits that are 0 takes a bit
 

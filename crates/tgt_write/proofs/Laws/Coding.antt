@@ -13,8 +13,9 @@ use Rattle.t800.specs.declared.Bio.{Bio}
 use Rattle.t800.specs.TagTree.{codePath, lowAfter, nodeBits, knownAfter, value, low, known}
 use Rattle.t800.proofs.Laws.Tests.{if-ne}
 use Rattle.bio_bytes.specs.Writing.{Output, output, byteOut, makeRoom, putBit, putBits, holdBit, FreeBitsClear}
+use Rattle.bio_bytes.proofs.Laws.HeldWord.{bioOf}
 use Rattle.bio_write.proofs.Laws.FreeBits.{byteOut-ct, putBits-append, putBits-clear}
-use Rattle.bio_write.proofs.Laws.WriteChunks.{bioOf, put-held}
+use Rattle.bio_write.proofs.Laws.WriteChunks.{put-held}
 use Rattle.tgt_write.specs.Coding.{LeafCoded, putCoded, NodeCoded, codeFrom, codeNode, told}
 
 -- ---- zeros only take places
