@@ -12,7 +12,7 @@ ghost use Rattle.t800.specs.State.{notYetIncluded, notYetPlanes, blocksIn, band
 ghost use Rattle.t800.specs.Ranges.{bandTooDeep, blockTooDeep};
 ghost use Rattle.t800.specs.Start.{freshNodes, freshBlocks, freshBands, bandWords, freshState, setZeroPlanes, startRefusal};
 ghost use Rattle.tcd_layout.specs.Geometry.{noBand, padded, SidesUpTo64, AllUpTo64};
-ghost use Rattle.t2_start_parts.specs.Parts.{planesWanted, setRow, RowIn};
+ghost use Rattle.t2_start_parts.specs.Parts.{planesWanted, setRow, ColumnsIn};
 use t800::Band;
 use t800::Level;
 use tcd_style::NOT_YET_INCLUDED;
@@ -188,7 +188,7 @@ fn set_row(
     most: u32,
     planes: &[u32],
 )
-    requires { ⌜ (RowIn (length (now state)) base (now row) depth (length (now planes))) × (any (λ p. ltb most p) (now planes) ≡ false) ⌝ }
+    requires { ⌜ (ColumnsIn (length (now state)) base (now row) depth (length (now planes))) × (any (λ p. ltb most p) (now planes) ≡ false) ⌝ }
     ensures { λ _. ⌜ now (state .exit) ≡ setRow base (now (row .entry)) depth most 0 (now (planes .entry)) (now (state .entry)) ⌝ }
 {
     let mut x: usize = 0;
