@@ -31,7 +31,7 @@ pub fn measure(
     lists::copy(state, scratch);
     let mut none: [u8; 1] = [0];
     let end = t2_write_packet::put_front(scratch, &mut none, counts, lengths, marks, markers, 0);
-    let body = t2_refusals::sum_lengths(lengths);
+    let body = t2_widths::total(lengths);
     MeasureAnswer {
         refusal: 0,
         header: end as u64,
@@ -59,7 +59,7 @@ pub fn write(
             bytes: 0,
         };
     }
-    if body.len() as u64 != t2_refusals::sum_lengths(lengths) {
+    if body.len() as u64 != t2_widths::total(lengths) {
         return WriteAnswer {
             refusal: 10,
             bytes: 0,
