@@ -1,6 +1,5 @@
 // Copies of lists, and the rows that a read fills.
 ghost use mathlib.Core.Path.{_≡_};
-ghost use Prim.Native.Nat.{_+_, _*_, _≤_};
 ghost use lib.ListN.{length};
 ghost use Rattle.t800.specs.Base.{wiped};
 ghost use Rattle.lists.specs.Rows.{putRow};

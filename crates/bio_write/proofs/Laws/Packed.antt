@@ -1,12 +1,12 @@
 -- What is written from the start and flushed is t800's `pack`: byte by byte where the output has room, and nothing else of it changes.
 use mathlib.Core.Path.{_≡_, refl, sym, ap, _∙_, subst}
 use mathlib.Core.Bool.{Bool, true, false, cond}
-use mathlib.Core.List.{List, [], _∷_, _++_}
+use mathlib.Core.List.{List, [], _∷_}
 use Prim.Native.Nat.{ℕ, zero, suc, _+_, _-_, _*_, _%_, _^_, _≤_, _<_, min}
 use native.Mathlib.Omega.{arith}
 use lib.Dec.{eqb, ltb}
-use lib.ListN.{length, set, take, drop, length-set}
-use lib.Seq.{sets, sets-eq, set-out}
+use lib.ListN.{length, set, length-set}
+use lib.Seq.{sets, set-out}
 use borrow.Author.Tests.{eq-eqb, ne-eqb, eqb-true, eqb-false, ltb-true, ltb-false}
 use Rattle.t800.specs.Bits.{bitsAfter, lastBytes, packFrom, pack}
 use Rattle.t800.proofs.Laws.Pack.{AreBits}
@@ -132,11 +132,7 @@ pub flushed-is-packed : (bytes : List ℕ) (p : ℕ) (bits : List ℕ) → AreBi
 unfolding pack
 flushed-is-packed bytes p bits are l = stores-packed bits bytes p 0 8 (emptyAt-clear p) are l
 
--- A place that there is, is behind them; and where the output has room for all, it is as it was before and behind them.
+-- the place after them, if there is one
 module _ (bytes : List ℕ) (p : ℕ) (bits : List ℕ) (are : AreBits bits) (l : length bytes ≤ lastPlace) where
   pub packed-place : p + length (pack bits) ≤ lastPlace → flush (putBits (output bytes (emptyAt p)) bits) .bio .bp ≡ p + length (pack bits)
   packed-place h = omega (arith, flushed-is-packed bytes p bits are l .place)
-
-  pub packed-whole : p + length (pack bits) ≤ length bytes
-      → flush (putBits (output bytes (emptyAt p)) bits) .bytes ≡ take p bytes ++ pack bits ++ drop (p + length (pack bits)) bytes
-  packed-whole h = flushed-is-packed bytes p bits are l .stored ∙ sets-eq (pack bits) bytes p h

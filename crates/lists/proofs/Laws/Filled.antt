@@ -1,20 +1,15 @@
 -- Rows put in order over a lent list are the words of the reports or records that were put.
 use mathlib.Core.Path.{_≡_, refl, sym, ap, _∙_}
 use mathlib.Core.List.{List, [], _∷_, _++_}
-use Prim.Native.Nat.{ℕ, suc, _+_, _*_, _/_, _≤_, _<_}
+use Prim.Native.Nat.{ℕ, suc, _+_, _*_, _/_, _<_}
 use native.Mathlib.Omega.{arith}
 use lib.ListN.{length, drop, length-append, length-drop}
 use lib.Seq.{sets-eq, take-at, drop-drop, drop-append-add}
-use borrow.Author.Tests.{lt-ltb, le-ltb}
+use borrow.Author.Tests.{lt-ltb}
 use Rattle.t800.specs.Base.{overwrite}
 use Rattle.t800.specs.Reports.{BlockReport, SegmentRecord, reportWords, recordWords}
 use Rattle.t800.proofs.Laws.Lists.{record-words-length}
 use Rattle.lists.specs.Rows.{putRow}
-
--- a row that isn't lent
-pub row-not-lent : (rows : List ℕ) (n a b c d : ℕ) → length rows / 4 ≤ n → putRow rows n a b c d ≡ rows
-unfolding putRow
-row-not-lent rows n a b c d h = rw (le-ltb n (length rows / 4) h)
 
 -- row n over a list whose first n rows are xs
 row-over : (lent xs : List ℕ) (n a b c d : ℕ) → length xs ≡ 4 * n → n < length lent / 4 → putRow (overwrite lent xs) n a b c d ≡ overwrite lent (xs ++ (a ∷ b ∷ c ∷ d ∷ []))
@@ -64,8 +59,3 @@ pub report-put : (lent : List ℕ) (rs : List BlockReport) (r : BlockReport) →
 report-put lent rs r h =
     row-over lent (reportWords rs) (length rs) (r .inclusion) (r .zeroPlanes) (r .planes) (r .passes) (length-reports rs) h
     ∙ sym (ap (overwrite lent) (reports-and-one rs r))
-
--- before the first row is put, nothing stands over the list
-pub none-put : (lent : List ℕ) → overwrite lent [] ≡ lent
-unfolding overwrite
-none-put lent = refl

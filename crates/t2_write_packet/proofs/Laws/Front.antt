@@ -82,11 +82,3 @@ module _ (ws : List ℕ) (n : ℕ) (p : Contribution) (r : NotRefused ws n p) wh
   pub header-ends : (start : ℕ) (bytes : List ℕ) (h : HeaderCoded) → start ≤ 6 → h ≡ putHeader p ws start bytes → h .end ≤ 250000006
   unfolding putHeader
   header-ends start bytes h l e = omega (arith, ap (λ (k : HeaderCoded). k .end) e, header-small ws n p r)
-
-  pub front-small : (m : Markers) (number : ℕ) → length (front ws p m number) ≤ 250000012
-  unfolding front withMarkers ephBytes
-  front-small m number =
-      let sop : List ℕ = cond (m .sop) (sopBytes number) [] in
-      let eph : List ℕ = cond (m .eph) ephBytes [] in
-      let head : List ℕ = pack (codeHeader p ws .bits) in
-      omega (arith, length-append (sop ++ head) eph, length-append sop head, header-small ws n p r, sop-up-to (m .sop) number, marker-up-to (m .eph) ephBytes (omega arith))

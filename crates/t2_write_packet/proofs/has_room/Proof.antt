@@ -1,6 +1,6 @@
 -- `t2_write_packet::has_room` meets its contract.
 use mathlib.Core.Path.{sym}
-use Prim.Native.Nat.{_+_, _-_}
+use Prim.Native.Nat.{_+_}
 use native.Mathlib.Omega.{arith}
 use borrow.Author.Tests.{lt-leb}
 use Rattle.t2_write_packet.proofs.Laws.Front.{room-behind}

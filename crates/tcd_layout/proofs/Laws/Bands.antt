@@ -65,13 +65,6 @@ sides-of-first bs n i h k s =
     let l : i < length (take n bs) = simp length-take (omega arith) in
     subst SidesUpTo64 (getD-take n bs i noBand k) (sides-of (take n bs) i l s)
 
--- the bands before those are in range too
-pub sides-before : (bs : List Band) (m n : ℕ) → m ≤ n → AllUpTo64 (take n bs) → AllUpTo64 (take m bs)
-sides-before bs zero n h s = tt
-sides-before [] (suc m) n h s = tt
-sides-before (b ∷ bs) (suc m) zero h s = absurd (omega arith)
-sides-before (b ∷ bs) (suc m) (suc n) h s = (s .0, sides-before bs m n (omega arith) (s .1))
-
 sides-of-all : (bs : List Band) → any (λ b. ltb 64 (b .across) || ltb 64 (b .down)) bs ≡ false → AllUpTo64 bs
 unfolding any
 sides-of-all [] e = tt

@@ -1,11 +1,11 @@
 -- Reading a node in the steps of the code, a path node by node, and a leaf's value by raising the threshold.
-use mathlib.Core.Path.{_≡_, refl, sym, ap, _∙_}
+use mathlib.Core.Path.{_≡_, sym, ap, _∙_}
 use mathlib.Core.Bool.{true, false, cond}
 use mathlib.Core.List.{List, [], _∷_, reverse}
 use Prim.Native.Nat.{ℕ, zero, suc, _+_, _-_, _*_, _≤_, _<_, max, min}
 use native.Mathlib.Omega.{arith}
 use lib.Dec.{eqb, ltb}
-use lib.ListN.{length, getD, set}
+use lib.ListN.{length, set}
 use lib.Seq.{set-getD}
 use Rattle.t800.specs.declared.Bio.{Bio}
 use Rattle.t800.specs.Bits.{getBit}
@@ -14,9 +14,8 @@ use Rattle.t800.specs.State.{Block}
 use Rattle.t800.specs.ReadHeader.{readZeroPlanesFrom}
 use Rattle.t800.proofs.Laws.Tests.{either, if-true, if-false}
 use Rattle.bio_read.proofs.Laws.ReadChunks.{getBit-ct, getBit-place}
-use Rattle.tgt_read.specs.Reading.{pathRead, LeafAfter, leafAfter, belowIn, leafOf, NodeAfter, readAt}
+use Rattle.tgt_read.specs.Reading.{pathRead, LeafAfter, leafAfter, belowIn, NodeAfter, readAt}
 use Rattle.tgt_read.specs.declared.LeafRead.{LeafRead}
-use Rattle.tgt.specs.Path.{pathOver, leafWord}
 use Rattle.tgt_read.proofs.Laws.Seeking.{cut-short}
 
 -- ---- what a bit keeps, reading keeps: that at most eight bits are held, and that the place is at most one behind the input's end
@@ -114,18 +113,3 @@ module _ (src : List ℕ) (k : Block) (t : ℕ) (ws : List ℕ) (b : Bio) (r : P
 pub raise-end : (src : List ℕ) (k : Block) (t : ℕ) (ws : List ℕ) (b : Bio) → 1001 ≤ t → readZeroPlanesFrom src k (1001 - t) t ws b ≡ pathRead ws b
 unfolding readZeroPlanesFrom
 raise-end src k t ws b h = let e : 1001 - t ≡ 0 = omega arith in ap (λ (f : ℕ). readZeroPlanesFrom src k f t ws b) e
-
--- only a block's zero-plane tree, leaf and path count
-only-leaf : (src : List ℕ) (k : Block) (f t : ℕ) (ws : List ℕ) (b : Bio)
-    → readZeroPlanesFrom src k f t ws b ≡ readZeroPlanesFrom src (record { inclTree = 0; zeroTree = k .zeroTree; leaf = k .leaf; path = k .path; at = 0; planes = 0 }) f t ws b
-unfolding readZeroPlanesFrom
-only-leaf src k zero t ws b = refl
-only-leaf src k (suc f) t ws b =
-    let r = readPath src (k .zeroTree) t (reverse (k .path)) 0 ws b in
-    ap (λ (m : PathRead). cond (ltb (value (r .words) (k .zeroTree + 3 * k .leaf)) t) r m) (only-leaf src k f (t + 1) (r .words) (r .bio))
-
-pub same-leaf : (src : List ℕ) (k : Block) (base : ℕ) (row : List ℕ) (depth x f t : ℕ) (ws : List ℕ) (b : Bio) → base ≡ k .zeroTree → leafWord base row x ≡ base + 3 * k .leaf → pathOver row depth x ≡ k .path
-    → readZeroPlanesFrom src (leafOf base row depth x) f t ws b ≡ readZeroPlanesFrom src k f t ws b
-same-leaf src k base row depth x f t ws b p q s =
-    let e : getD row 0 0 + x ≡ k .leaf = omega arith in
-    (λ i. readZeroPlanesFrom src (record { inclTree = 0; zeroTree = p i; leaf = e i; path = s i; at = 0; planes = 0 }) f t ws b) ∙ sym (only-leaf src k f t ws b)
