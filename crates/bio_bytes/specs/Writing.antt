@@ -1,4 +1,4 @@
--- Bits of a packet header as they are written (T.800, B.10.1; document 01, "Bits"), a step at a time: `Laws.Packed` says that they make
+-- Bits of a packet header as they are written (T.800, B.10.1; SCOPE S13), a step at a time: `Laws.Packed` says that they make
 -- the bytes of `pack`.
 use mathlib.Core.Path.{_≡_}
 use mathlib.Core.Bool.{cond}

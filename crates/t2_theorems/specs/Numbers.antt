@@ -1,4 +1,4 @@
--- Demand 1 of the calls (document 01, "What turns a packet away"): which number a call gives, and that a refused one leaves the state.
+-- Demand 1 of the calls (SCOPE S4 and S14): which number a call gives, and that a refused one leaves the state.
 use mathlib.Core.Path.{_≡_}
 use mathlib.Core.Logic.{_≢_}
 use Prim.Native.Nat.{ℕ, _*_, _/_, _≤_}
@@ -25,7 +25,7 @@ pub record Check : Type 0 where
 abbrev pub check : ℕ → Bool → Check
 check n b = record { number = n; holds = b }
 
--- ---- the checks of each call, in the order in which document 01 looks for them
+-- ---- the checks of each call, in the order of SCOPE S4
 
 abbrev pub startChecks : (r : ℕ) → Started r → List Check
 startChecks r s =

@@ -1,4 +1,4 @@
--- Bits and bytes of a packet header (T.800, B.10.1; document 01, "Bits"): bits fill bytes from the high end, and behind a byte FF
+-- Bits and bytes of a packet header (T.800, B.10.1; SCOPE S13): bits fill bytes from the high end, and after a byte FF
 -- the next byte's high bit is a stuffed 0. A bit is the number 0 or 1.
 use Prim.Native.Nat.{ℕ, zero, suc, _+_, _-_, _*_, _/_, _%_, _^_, min}
 use mathlib.Core.Bool.{Bool, cond, _&&_}

@@ -1,4 +1,4 @@
--- Measuring, writing and reading one packet (document 01, "The calls an archive makes" and "What turns a packet away"): each is one
+-- Measuring, writing and reading one packet (SCOPE S2, S4, S5 and S7): each is one
 -- function from the arguments and what the lent lists hold at entry to the answer and what they hold at exit.
 use Prim.Native.Nat.{ℕ, _+_, _*_, _/_}
 use mathlib.Core.Bool.{Bool, cond, _||_, not}

@@ -1,4 +1,4 @@
--- The number of coding passes (T.800, B.10.6, Table B.4; document 01, "Pass counts").
+-- The number of coding passes (T.800, B.10.6, Table B.4; SCOPE S11).
 use Prim.Native.Nat.{ℕ, _+_, _-_}
 use mathlib.Core.Bool.{cond}
 use mathlib.Core.List.{List, [], _∷_, _++_}

@@ -1,4 +1,4 @@
--- A packet's header as read (T.800, B.10; document 01, "Header" and "Lengths"), behind its first bit: what the bits say, block by block,
+-- A packet's header as read (T.800, B.10; SCOPE S9 to S11), after its first bit: what the bits say, block by block,
 -- and the state after the packet.
 use Prim.Native.Nat.{ℕ, zero, suc, _+_, _-_, _*_, _%_, _^_, min}
 use mathlib.Core.Bool.{Bool, cond, _&&_}

@@ -1,4 +1,4 @@
--- What a read tells of a packet (document 01, "What turns a packet away"), and how it lies in the lent lists.
+-- What a read tells of a packet (SCOPE S7), and how it lies in the lent lists.
 use Prim.Native.Nat.{ℕ}
 use mathlib.Core.List.{List, [], _∷_}
 

@@ -1,5 +1,5 @@
--- The statement of demand 3 (document 01, "The round trip"), over whole lists of calls. Premises, for accepted packets and their reads:
--- the termination rule, records enough, and every other list of the length that document 01 asks.
+-- The statement of demand 3 (SCOPE S15), over whole lists of calls. Premises, for accepted packets and their reads:
+-- the termination rule, records enough, and every other list of the length that SCOPE S4 asks.
 use mathlib.Core.Path.{_≡_}
 use Prim.Native.Nat.{ℕ, _-_, _*_, _≤_, _<_}
 use mathlib.Core.Bool.{Bool, true, cond, _&&_}

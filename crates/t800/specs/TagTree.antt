@@ -1,4 +1,4 @@
--- Tag trees (T.800, B.10.2; document 01, "Trees") in a list of words. Nodes are numbered from the leaves' level to the root, row by
+-- Tag trees (T.800, B.10.2; SCOPE S12) in a list of words. Nodes are numbered from the leaves' level to the root, row by
 -- row; node n of the tree at `base` is the three words value, low, known from base + 3 n on.
 use Prim.Native.Nat.{ℕ, zero, suc, _+_, _-_, _*_, _/_, _%_, max, min}
 use mathlib.Core.Bool.{cond, _&&_}
