@@ -20,7 +20,7 @@ output bytes b = record { bytes = bytes; bio = b }
 abbrev pub emptyAt : ℕ → Bio
 emptyAt p = record { bp = p; buf = 0; ct = 8 }
 
--- the largest place that there is, and the place behind p, which stays there
+-- the largest place that there is, and the place after p, which stops there
 abbrev pub lastPlace : ℕ
 lastPlace = 0xffff_ffff_ffff_ffff
 
@@ -49,7 +49,7 @@ unfoldable pub putBits : Output → List ℕ → Output
 putBits o [] = o
 putBits o (bit ∷ bits) = putBits (putBit o bit) bits
 
--- the last byte goes out, and behind a byte FF a byte 00
+-- the last byte goes out, and after a byte FF a byte 00
 unfoldable pub flush : Output → Output
 flush o = let last = byteOut o in cond (eqb (last .bio .ct) 7) (byteOut last) last
 

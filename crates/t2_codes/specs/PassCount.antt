@@ -1,4 +1,4 @@
--- `readPasses` from the third bit on: `Laws.PassCount` says that it ends in this behind two ones.
+-- `readPasses` from the third bit on: `Laws.PassCount` says that it ends in this after two ones.
 use mathlib.Core.Bool.{cond}
 use mathlib.Core.List.{List}
 use Prim.Native.Nat.{ℕ}

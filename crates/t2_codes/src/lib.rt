@@ -67,7 +67,7 @@ fn plus(k: u32, r: Decoded) -> Decoded
     }
 }
 
-// Behind two ones.
+// After two ones.
 fn passes_from_3(src: &[u8], b: Bio) -> Decoded
     requires { ⌜ b .ct ≤ 8 ⌝ }
     ensures { λ r. ⌜ decoded r ≡ readFrom3 (now (src .entry)) b ⌝ }

@@ -74,7 +74,7 @@ nextSegments src i k (suc f) left a =
     let some = cond (eqb (b .refusal) 0) more b in
     cond (ltb 0 left) some a
 
--- pass count and increment, behind so many passes with those length bits, of the block whose words begin at `at`
+-- pass count and increment, after so many passes with those length bits, of the block whose words begin at `at`
 unfoldable pub passesRead : List ℕ → ℕ → ℕ → ℕ → List ℕ → Bio → ValueAfter
 passesRead src at passes bits ws b =
     let n = readPasses src b in
@@ -84,7 +84,7 @@ passesRead src at passes bits ws b =
 abbrev pub segmentsAfter : List ℕ → ℕ → Block → ValueAfter → Reading → Reading
 segmentsAfter src i k c a = nextSegments src i k (c .value) (c .value) (movedOn (c .words) (c .bio) a)
 
--- an included block behind its inclusion: for the first time, or again
+-- an included block after its inclusion: for the first time, or again
 unfoldable pub nextFirst : List ℕ → ℕ → Block → Reading → Reading
 nextFirst src i k a =
     let z = readZeroPlanesFrom src k (notYetPlanes + 2) 0 (a .words) (a .bio) in
@@ -130,7 +130,7 @@ nextBlocks src t i (k ∷ ks) a =
 
 -- ---- what reading asks for
 
--- at most eight bits are held, and the place is at most one behind the input's end
+-- at most eight bits are held, and the place is at most one past the input's end
 pub record BitsIn (src : List ℕ) (b : Bio) : Type 0 where
   pub few : b .ct ≤ 8
   pub place : b .bp ≤ length src + 1

@@ -127,7 +127,7 @@ measure-number m =
         (λ e. ap (λ (z : MeasureResult). z .answer .refusal) (if-eq why 0 done other e) ∙ d ∙ sym e)
         (λ e. ap (λ (z : MeasureResult). z .answer .refusal) (if-ne why 0 done other e) ∙ o)
 
--- the checks cs, and behind them ds
+-- the checks cs, and after them ds
 first-append : (cs ds : List Check) → Distinct cs → firstOf (cs ++ ds) ≡ cond (not (eqb (firstOf cs) 0)) (firstOf cs) (firstOf ds)
 unfolding firstOf
 first-append [] ds d = refl

@@ -57,7 +57,7 @@ bodyChecks ws c =
 abbrev pub writeChecks : List ℕ → WriteCall → List Check
 writeChecks ws c = measureChecks ws c ++ bodyChecks ws c
 
--- Of 9, 12 and 13 a header gives at most one, which of them its bits say: 9 before 13 at each segment as it comes, 12 behind all blocks.
+-- Of 9, 12 and 13 a header gives at most one, which of them its bits say: 9 before 13 at each segment as it comes, 12 after all blocks.
 abbrev pub readChecks : List ℕ → ReadCall → List Check
 readChecks ws c =
     let first = getBit (c .input) (bioAt (readSop (c .markers) (c .input) .skip)) in

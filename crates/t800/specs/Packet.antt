@@ -104,7 +104,7 @@ pub record ReadResult : Type 0 where
 abbrev pub refusedAnswer : ℕ → ReadAnswer
 refusedAnswer why = record { refusal = why; present = 0; taken = 0; segments = 0; sop = 0; eph = 0 }
 
--- a first bit 0, the bits standing at b behind it: the packet is absent, and only the next layer moves
+-- a first bit 0, the bits standing at b after it: the packet is absent, and only the next layer moves
 unfoldable pub readAbsent : List ℕ → Markers → List ℕ → List ℕ → List ℕ → MarkerRead → Bio → ReadResult
 readAbsent ws m src reports records s b =
     let at = bytesTaken src b in

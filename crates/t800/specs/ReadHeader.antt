@@ -99,7 +99,7 @@ firstReport k z n = record { inclusion = 1; zeroPlanes = z; planes = (k .planes 
 unfoldable pub againReport : ℕ → BlockReport
 againReport n = record { inclusion = 2; zeroPlanes = 0; planes = 0; passes = n }
 
--- a block that is included, behind its inclusion: zero planes, pass count, increment of the length bits, segments
+-- a block that is included, after its inclusion: zero planes, pass count, increment of the length bits, segments
 unfoldable pub readIncluded : List ℕ → ℕ → ℕ → Block → HeaderRead → HeaderRead
 readIncluded src room i k r =
     let z = readZeroPlanes src k r in

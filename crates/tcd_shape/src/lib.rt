@@ -109,7 +109,7 @@ pub fn block_too_deep(bands: [Band; 3], n: usize, planes: &[u32]) -> bool
     false
 }
 
-// The limits that a style gives: of a first segment, and of one behind a limit 2 and any other.
+// The limits that a style gives: of a first segment, and of one after a limit 2 and any other.
 pub struct Limits {
     pub first: u32,
     pub second: u32,

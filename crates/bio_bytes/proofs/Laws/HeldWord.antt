@@ -42,8 +42,8 @@ or-above u y k r e h l =
 
 -- (v << k) | x, where v has j bits and x has k
 module _ (v x j k : ℕ) (fits : v < 2 ^ j) (low : x < 2 ^ k) (room : j + k ≤ 32) where
-  pub or-behind : bitOr (v * 2 ^ k % 4294967296) x ≡ v * 2 ^ k + x
-  or-behind = ap (λ (z : ℕ). bitOr z x) (shl-exact j k 32 fits room) ∙ or-shifted v k x low
+  pub or-after : bitOr (v * 2 ^ k % 4294967296) x ≡ v * 2 ^ k + x
+  or-after = ap (λ (z : ℕ). bitOr z x) (shl-exact j k 32 fits room) ∙ or-shifted v k x low
 
-  pub behind-fits : v * 2 ^ k + x < 2 ^ (j + k)
-  behind-fits = omega (arith, mul-le-mul-right (2 ^ k) fits, pow-add 2 j k)
+  pub after-fits : v * 2 ^ k + x < 2 ^ (j + k)
+  after-fits = omega (arith, mul-le-mul-right (2 ^ k) fits, pow-add 2 j k)

@@ -31,7 +31,7 @@ byte-takes (suc (suc (suc (suc (suc (suc (suc (suc c)))))))) u x l e h = absurd 
 
 -- ---- bytes stored from p on
 
--- the output e is o with the bytes from p on, where it has room for them, and its place is behind them
+-- the output e is o with the bytes from p on, where it has room for them, and its place is after them
 pub record Stores (e : Output) (o : List ℕ) (p : ℕ) (bytes : List ℕ) : Type 0 where
   pub stored : e .bytes ≡ sets o p bytes
   pub place : e .bio .bp ≡ min (p + length bytes) lastPlace
@@ -43,7 +43,7 @@ sets-out (v ∷ vs) l i h =
     let n = length-set l i v in
     sets-out vs (set l i v) (suc i) (omega arith) ∙ e
 
--- a place that doesn't move on lies behind the output
+-- a place that doesn't move on lies past the output
 sets-after : (vs o : List ℕ) (p : ℕ) (t : Bool) → ltb p lastPlace ≡ t → length o ≤ lastPlace → sets o (placeAfter p) vs ≡ sets o (suc p) vs
 unfolding placeAfter
 sets-after vs o p true e l =
@@ -54,7 +54,7 @@ sets-after vs o p false e l =
     let h = ltb-false p lastPlace e in
     sets-out vs o (min (p + 1) lastPlace) (omega arith) ∙ sym (sets-out vs o (suc p) (omega arith))
 
--- one byte, and those behind it
+-- one byte, and those after it
 stores-cons : (e : Output) (o : List ℕ) (p v : ℕ) (vs : List ℕ) → length o ≤ lastPlace → Stores e (set o p v) (placeAfter p) vs → Stores e o p (v ∷ vs)
 unfolding placeAfter
 stores-cons e o p v vs l s =
@@ -126,7 +126,7 @@ stores-packed (x ∷ xs) o p u (suc c) h are l =
 
 -- ---- from the start
 
--- Bits that are put from the start at p and flushed store `pack bits` from p on, and end behind it.
+-- Bits that are put from the start at p and flushed store `pack bits` from p on, and end after it.
 pub flushed-is-packed : (bytes : List ℕ) (p : ℕ) (bits : List ℕ) → AreBits bits → length bytes ≤ lastPlace
     → Stores (flush (putBits (output bytes (emptyAt p)) bits)) bytes p (pack bits)
 unfolding pack

@@ -59,9 +59,9 @@ of-false P false x y e p = p
 front-cut : (fr body output : List ℕ) (n : ℕ) → length body ≡ n → take (length (fr ++ body) - n) (overwrite output (fr ++ body)) ≡ fr
 unfolding overwrite
 front-cut fr body output n e =
-    let behind : List ℕ = drop (length (fr ++ body)) output in
+    let unused : List ℕ = drop (length (fr ++ body)) output in
     let l : length (fr ++ body) - n ≡ length fr = (let q = length-append fr body in omega arith) in
-    ap₂ (λ (k : ℕ) (z : List ℕ). take k z) l (append-assoc fr body behind) ∙ take-append-seam fr (body ++ behind)
+    ap₂ (λ (k : ℕ) (z : List ℕ). take k z) l (append-assoc fr body unused) ∙ take-append-seam fr (body ++ unused)
 
 module _ (ws scratch : List ℕ) (p : Contribution) (body : List ℕ) (m : Markers) (number : ℕ) (output : List ℕ) where
   abbrev why : ℕ

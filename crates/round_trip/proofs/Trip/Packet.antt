@@ -104,9 +104,9 @@ module _ (L : Layout) (s t : ℕ) (ks : List Block) (f : AllPlaced L ks) (ht : t
     pub sop-is : readSop m src ≡ found before
     pub back : HeaderReadBack L s t src room before (length header) ws rs (headerBlocks t ks c ws .words) ks es c
     pub header-back : readHeader src room rs (bioAfter src (bioAt before)) ≡ readSoFar (back .words) (back .end) (owedEntry .reports) (owedEntry .records)
-    pub behind : ℕ
-    pub eph-is : readEph m src (before + length header) ≡ found behind
-    pub all : before + length header + behind ≡ length (withMarkers m number header)
+    pub after : ℕ
+    pub eph-is : readEph m src (before + length header) ≡ found after
+    pub all : before + length header + after ≡ length (withMarkers m number header)
 
   pub front-read : (room : ℕ) → length (owedEntry .records) ≤ room → take (length (withMarkers m number header)) src ≡ withMarkers m number header → FrontRead room
   unfolding withMarkers
@@ -126,7 +126,7 @@ module _ (L : Layout) (s t : ℕ) (ks : List Block) (f : AllPlaced L ks) (ht : t
         sop-is = sop-read m number src (header ++ (C ++ tail)) from-header;
         back = h;
         header-back = header-is src room rs (bioAfter src (bioAt (length A))) t ks (h .words) (h .end) (owedEntry .reports) (owedEntry .records) l kb (h .is) (h .whole);
-        behind = length C;
+        after = length C;
         eph-is = eph-read m src (length A + length header) tail at-eph;
         all = sym (length-append (A ++ header) C ∙ ap (λ (z : ℕ). z + length C) (length-append A header));
       }
@@ -147,7 +147,7 @@ module _ (L : Layout) (s t : ℕ) (ks : List Block) (f : AllPlaced L ks) (ht : t
       let F = front-read (length records / 4) (omega arith) e in
       let h = F .back in
       let is = read-is rs scratch m src reports records (F .before) (h .words) (h .end) (owedEntry .reports) (owedEntry .records) why (F .sop-is) (h .first-bit) (F .header-back)
-      ∙ present-is rs t m src records (F .before) (h .words) (h .end) (owedEntry .reports) (owedEntry .records) (F .before + length header) (F .behind) l (h .taken) (F .eph-is) in
+      ∙ present-is rs t m src records (F .before) (h .words) (h .end) (owedEntry .reports) (owedEntry .records) (F .before + length header) (F .after) l (h .taken) (F .eph-is) in
       record {
         words = h .words;
         answer = ap (λ (r : ReadResult). r .answer) is ∙ ap (λ (z : ℕ). record { refusal = 0; present = 1; taken = z; segments = length (owedEntry .records); sop = 0; eph = 0 }) (F .all);

@@ -16,7 +16,7 @@ use Rattle.tgt_read.specs.Reading.{ValueAfter}
 use Rattle.t2_codes.specs.CommaCode.{readCommaLimited}
 use Rattle.tcd_places.specs.Places.{blockAt}
 use Rattle.t2_read_segments.specs.declared.Segment.{Segment}
-use Rattle.t2_read_segments.specs.Segments.{limitBehind, currentSegment}
+use Rattle.t2_read_segments.specs.Segments.{limitAfter, currentSegment}
 use Rattle.t2_read_segments.specs.Reading.{Reading, stopped, nextSegment, passesRead}
 
 -- ---- the segment that the next passes go into
@@ -24,8 +24,8 @@ use Rattle.t2_read_segments.specs.Reading.{Reading, stopped, nextSegment
 abbrev segmentIs : ℕ → ℕ → ℕ → Segment
 segmentIs o m u = record { opens = o; limit = m; used = u }
 
-pub segment-opens : (ws : List ℕ) (at next : ℕ) → getD ws (at + 2) 0 ≡ getD ws (at + 3) 0 → next ≡ limitBehind (getD ws 2 0) (getD ws (at + 2) 0) → segmentIs 1 next 0 ≡ currentSegment ws (blockAt at)
-unfolding currentSegment opensSegment currentLimit currentPasses limitBehind
+pub segment-opens : (ws : List ℕ) (at next : ℕ) → getD ws (at + 2) 0 ≡ getD ws (at + 3) 0 → next ≡ limitAfter (getD ws 2 0) (getD ws (at + 2) 0) → segmentIs 1 next 0 ≡ currentSegment ws (blockAt at)
+unfolding currentSegment opensSegment currentLimit currentPasses limitAfter
 segment-opens ws at next e q = rw (q, eq-eqb (getD ws (at + 2) 0) (getD ws (at + 3) 0) e)
 
 pub segment-open : (ws : List ℕ) (at : ℕ) → getD ws (at + 2) 0 ≢ getD ws (at + 3) 0 → segmentIs 0 (getD ws (at + 2) 0) (getD ws (at + 3) 0) ≡ currentSegment ws (blockAt at)

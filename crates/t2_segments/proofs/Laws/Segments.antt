@@ -1,4 +1,4 @@
--- A block's segments one after another: the first by itself, those behind it, and what a loop over them keeps.
+-- A block's segments one after another: the first by itself, those after it, and what a loop over them keeps.
 use mathlib.Core.Path.{_≡_, refl, sym, ap, ap₂, _∙_, subst}
 use mathlib.Core.Bool.{Bool, true, false, cond, not, _||_, or-false}
 use mathlib.Core.List.{List, [], _∷_}
@@ -43,7 +43,7 @@ module _ (n b l x m y : ℕ) (ls ms : List ℕ) where
   unfolding segmentsFrom
   pass-goes-on e = if-false (not (eqb m 0) || false) _ _ (or-false (not (eqb m 0)) ∙ ap not e)
 
--- ---- the first segment and those behind it
+-- ---- the first segment and those after it
 
 -- the first takes `more` of the passes that are left
 record Split (n b : ℕ) (ls ms : List ℕ) : Type 0 where
@@ -150,7 +150,7 @@ pub increment-turn : (lb most : ℕ) (ss : List Segment) (s : Segment) (rest : L
 unfolding increment
 increment-turn lb most ss s rest e = rw e (omega arith)
 
--- what is so of no segment is so neither of the first nor of those behind it
+-- what is so of no segment is so neither of the first nor of those after it
 pub first-not-long : (ss : List Segment) (s : Segment) (rest : List Segment) → ss ≡ s ∷ rest → anyTooLong ss ≡ false → (s .bytes < 2 ^ 31) × (anyTooLong rest ≡ false)
 unfolding any
 first-not-long ss s rest e h =

@@ -1,4 +1,4 @@
--- A band row by row: its blocks are t800's, and what is left behind a row.
+-- A band row by row: its blocks are t800's, and what is left after a row.
 use mathlib.Core.Path.{_≡_, refl, sym, ap, _∙_, subst}
 use mathlib.Core.List.{List, [], _∷_, _++_}
 use Prim.Native.Nat.{ℕ, zero, suc, _+_, _-_, _*_, _<_}

@@ -35,8 +35,8 @@ part-put l at end xs part h e p =
     let q = ap (λ (z : List ℕ). take at l ++ (xs ++ z)) (ap (λ (z : ℕ). drop z (drop at l)) n ∙ drop-drop (length xs) at l) ∙ sym (append-assoc (take at l) xs (drop (at + length xs) l)) ∙ sym (sets-eq xs l at h) in
     (λ i. bytesPut (take at l ++ (p i ++ drop (end - at) (drop at l))) end) ∙ (λ i. bytesPut (q i) (e i))
 
-pub room-behind : (bytes front body : ℕ) → front ≤ bytes → leb body (bytes - front) ≡ leb (front + body) bytes
-room-behind bytes front body h =
+pub room-after : (bytes front body : ℕ) → front ≤ bytes → leb body (bytes - front) ≡ leb (front + body) bytes
+room-after bytes front body h =
     on-le body (bytes - front)
     (λ k. le-leb body (bytes - front) k ∙ sym (le-leb (front + body) bytes (omega arith)))
     (λ k. lt-leb body (bytes - front) k ∙ sym (lt-leb (front + body) bytes (omega arith)))

@@ -99,7 +99,7 @@ nodes-of-band-up-to b s = nodes-up-to-28672 (b .across) (b .down) (s .0) (s .1)
 pub band-length-up-to : (b : Band) → SidesUpTo64 b → bandLength b ≤ 188416
 band-length-up-to b s = omega (arith, band-length b, nodes-of-band-up-to b s, blocks-up-to-4096 b s)
 
--- m blocks, and n behind them
+-- m blocks, and n after them
 pub blocks-split : (at : ℕ) (b : Band) (m n i : ℕ) → blocksFrom at b (m + n) i ≡ blocksFrom at b m i ++ blocksFrom at b n (i + m)
 unfolding blocksFrom
 blocks-split at b zero n i =

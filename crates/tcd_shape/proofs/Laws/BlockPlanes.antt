@@ -1,4 +1,4 @@
--- Refusal 4 of blocks, band by band: the planes of a band's blocks lie behind those of the bands before it.
+-- Refusal 4 of blocks, band by band: the planes of a band's blocks lie after those of the bands before it.
 use mathlib.Core.Path.{_≡_, refl, sym, ap, ap₂, _∙_}
 use mathlib.Core.Bool.{Bool, true, false, _||_}
 use mathlib.Core.List.{List, [], _∷_, _++_}

@@ -61,7 +61,7 @@ pub record TreeLevels (w h : ℕ) (ls : List Level) (depth : ℕ) : Type 0 where
   pub are : take depth ls ≡ levels w h
   pub many : length (levels w h) ≡ depth
 
--- whatever stands behind them
+-- whatever stands after them
 pub tree-levels : (w h : ℕ) (rest : List Level) → TreeLevels w h (levels w h ++ rest) (length (levels w h))
 tree-levels w h rest = record { are = take-append-seam (levels w h) rest; many = refl }
 

@@ -18,7 +18,7 @@ use Rattle.tgt_read.specs.Reading.{pathRead, LeafAfter, leafAfter, below
 use Rattle.tgt_read.specs.declared.LeafRead.{LeafRead}
 use Rattle.tgt_read.proofs.Laws.Seeking.{cut-short}
 
--- ---- what a bit keeps, reading keeps: that at most eight bits are held, and that the place is at most one behind the input's end
+-- ---- what a bit keeps, reading keeps: that at most eight bits are held, and that the place is at most one past the input's end
 
 module _ (src : List ℕ) (Kept : Bio → Type 0) (bit : (b : Bio) → Kept b → Kept (getBit src b .bio)) where
   node-keeps : (d v l : ℕ) (b : Bio) → Kept b → Kept (readNode src d v l b .bio)

@@ -108,7 +108,7 @@ module _ (src : List ℕ) (b : Bio) (d v l z : ℕ) (f : l + d ≤ v) (s : Leadi
       ∙ held-one src (d - z - 1) v (l + z) (b .bp) (b .buf) (b .ct - z - 1) (omega arith) (s .one g)
       ∙ ap (λ (n : ℕ). seen (l + z) (l + z) (bioOf (b .bp) (b .buf) n)) e
 
--- ---- whether the search goes on behind the held word
+-- ---- whether the search goes on after the held word
 
 pub runs-on-is : (b : Bio) (d : ℕ) → ltb (b .ct) d && eqb (b .buf % 2 ^ (b .ct)) 0 ≡ true → (b .ct < d) × (b .buf % 2 ^ (b .ct) ≡ 0)
 runs-on-is b d e = by (ltb (b .ct) d) (eqb (b .buf % 2 ^ (b .ct)) 0) refl refl e
