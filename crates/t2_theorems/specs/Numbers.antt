@@ -15,6 +15,7 @@ use Rattle.t800.specs.WriteHeader.{segmentTooLong, fieldTooWide}
 use Rattle.t800.specs.ReadHeader.{readHeader}
 use Rattle.t800.specs.Packet.{wrongLists, packet}
 use Rattle.t800.specs.RoundTrip.{WriteCall, ReadCall}
+use Rattle.t800.specs.Reports.{reportWidth, recordWidth}
 use Rattle.t2_theorems.specs.Calls.{Started, Measured, Written, WasRead}
 
 -- a number, and whether its condition holds
@@ -62,10 +63,10 @@ abbrev pub readChecks : List ℕ → ReadCall → List Check
 readChecks ws c =
     let first = getBit (c .input) (bioAt (readSop (c .markers) (c .input) .skip)) in
     let present = not (eqb (first .value) 0) in
-    let header = readHeader (c .input) (length (c .records) / 4) ws (first .bio) .refusal in
+    let header = readHeader (c .input) (length (c .records) / recordWidth) ws (first .bio) .refusal in
     check 5 (not (validState reader ws (length (c .scratch))))
     ∷ check 6 (eqb (layer ws) notYetIncluded)
-    ∷ check 3 (not (eqb (length (c .reports)) (4 * length (blocks (bands ws)))))
+    ∷ check 3 (not (eqb (length (c .reports)) (reportWidth * length (blocks (bands ws)))))
     ∷ check 9 (present && eqb header 9)
     ∷ check 13 (present && eqb header 13)
     ∷ check 12 (present && eqb header 12)

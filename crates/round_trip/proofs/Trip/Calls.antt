@@ -21,6 +21,7 @@ use Rattle.t800.specs.MarkerSegments.{readSop}
 use Rattle.t800.specs.Packet.{wrongLists, measureRefusal, front, packet, writeRefusal, WriteResult, write, readRefusal, readAbsent, readPresent, ReadResult, read}
 use Rattle.t800.specs.Book.{BlockEntry, addCounts, terminatedAsStyle}
 use Rattle.t800.specs.RoundTrip.{WriteCall, WriterCall, measuring, writing, writeOf, accepted, owedFor, owed, allTerminatedAsStyle, ReadCall, readOf}
+use Rattle.t800.specs.Reports.{recordWidth}
 use Rattle.t800.proofs.Laws.Tests.{not-refused, either, if-true, if-false}
 use Rattle.t800.proofs.Laws.Lists.{lists-right}
 use Rattle.round_trip.proofs.Trip.WriterState.{Acceptable}
@@ -180,4 +181,4 @@ refused-read-keeps rs c =
     let first = getBit (c .input) (bioAt (readSop (c .markers) (c .input) .skip)) in
     either P (not (eqb (readRefusal rs (c .scratch) (c .reports)) 0)) _ _ (λ h. refl)
     (either P (eqb (first .value) 0) _ _ (λ h. absurd (omega (arith, h)))
-    (either P (eqb (readHeader (c .input) (length (c .records) / 4) rs (first .bio) .refusal) 0) _ _ (λ h. absurd (omega (arith, h))) (λ h. refl)))
+    (either P (eqb (readHeader (c .input) (length (c .records) / recordWidth) rs (first .bio) .refusal) 0) _ _ (λ h. absurd (omega (arith, h))) (λ h. refl)))

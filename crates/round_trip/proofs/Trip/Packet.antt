@@ -15,7 +15,7 @@ use Rattle.t800.specs.declared.Bio.{Bio}
 use Rattle.t800.specs.declared.Markers.{Markers}
 use Rattle.t800.specs.Base.{overwrite}
 use Rattle.t800.specs.Bits.{bioAt, pack, endsInFF, bytesTaken}
-use Rattle.t800.specs.Reports.{BlockReport, SegmentRecord, reportWords, recordWords}
+use Rattle.t800.specs.Reports.{BlockReport, SegmentRecord, reportWords, recordWords, recordWidth}
 use Rattle.t800.specs.State.{Block, notYetIncluded, blocks, bands, layer}
 use Rattle.t800.specs.WriteHeader.{Contribution}
 use Rattle.t800.specs.ReadHeader.{HeaderRead, readBlocks, readHeader}
@@ -70,7 +70,7 @@ unfolding readHeader
 header-is src room rs h t ks us end reps recs l k e w = rw (l, k, e, w)
 
 read-is : (rs scratch : List ℕ) (m : Markers) (src reports records : List ℕ) (n : ℕ) (us : List ℕ) (end : Bio) (reps : List BlockReport) (recs : List SegmentRecord) → readRefusal rs scratch reports ≡ 0
-    → readSop m src ≡ found n → nextBit src (bioAt n) ≡ 1 → readHeader src (length records / 4) rs (bioAfter src (bioAt n)) ≡ readSoFar us end reps recs
+    → readSop m src ≡ found n → nextBit src (bioAt n) ≡ 1 → readHeader src (length records / recordWidth) rs (bioAfter src (bioAt n)) ≡ readSoFar us end reps recs
     → read rs scratch m src reports records ≡ readPresent rs m src records (found n) (readSoFar us end reps recs)
 unfolding read
 read-is rs scratch m src reports records n us end reps recs e₁ e₂ e₃ e₄ = rw (e₁, e₂, e₃, e₄)
@@ -141,10 +141,10 @@ module _ (L : Layout) (s t : ℕ) (ks : List Block) (f : AllPlaced L ks) (ht : t
     pub booked-after : AllBooked (headerBlocks t ks c ws .words) ks (addCounts es (c .counts))
     pub reader-first : (j : ℕ) → j < 13 → getD words j 0 ≡ getD rs j 0
 
-  pub packet-read : (scratch reports records : List ℕ) → readRefusal rs scratch reports ≡ 0 → 4 * length (owedEntry .records) ≤ length records
+  pub packet-read : (scratch reports records : List ℕ) → readRefusal rs scratch reports ≡ 0 → recordWidth * length (owedEntry .records) ≤ length records
       → take (length (withMarkers m number header)) src ≡ withMarkers m number header → PacketRead records (read rs scratch m src reports records)
   packet-read scratch reports records why enough e =
-      let F = front-read (length records / 4) (omega arith) e in
+      let F = front-read (length records / recordWidth) (omega arith) e in
       let h = F .back in
       let is = read-is rs scratch m src reports records (F .before) (h .words) (h .end) (owedEntry .reports) (owedEntry .records) why (F .sop-is) (h .first-bit) (F .header-back)
       ∙ present-is rs t m src records (F .before) (h .words) (h .end) (owedEntry .reports) (owedEntry .records) (F .before + length header) (F .after) l (h .taken) (F .eph-is) in
