@@ -221,6 +221,9 @@ pub fn opj_tgt_decode(
     }
 }
 
+// A value is at most NOT_YET_PLANES, so that it lies below this threshold at the latest.
+const LAST_THRESHOLD: u32 = tcd_style::NOT_YET_PLANES + 1;
+
 // The threshold is raised until the leaf's value lies below it.
 fn raise(
     words: &mut [u32],
@@ -236,7 +239,7 @@ fn raise(
 {
     let mut bio = b;
     let mut threshold: u32 = 0;
-    while threshold < 1001 {
+    while threshold <= LAST_THRESHOLD {
         let r = opj_tgt_decode(words, src, bio, base, row, depth, x, threshold);
         bio = r.bio;
         if r.below {
@@ -261,7 +264,7 @@ fn read_planes(
     ensures { λ r. ⌜ pathRead (now (words .exit)) r ≡ readZeroPlanesFrom (now (src .entry)) (leafOf base (now (row .entry)) depth x) (notYetPlanes + 2) 0 (now (words .entry)) b ⌝ }
 {
     if depth == 1 {
-        return decode_path(words, src, b, base, row, depth, x, 1000);
+        return decode_path(words, src, b, base, row, depth, x, LAST_THRESHOLD);
     }
     raise(words, src, b, base, row, depth, x)
 }

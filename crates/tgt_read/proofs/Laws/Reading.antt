@@ -10,7 +10,7 @@ use lib.Seq.{set-getD}
 use Rattle.t800.specs.declared.Bio.{Bio}
 use Rattle.t800.specs.Bits.{getBit}
 use Rattle.t800.specs.TagTree.{NodeRead, PathRead, value, low, readNode, readPath}
-use Rattle.t800.specs.State.{Block}
+use Rattle.t800.specs.State.{Block, notYetPlanes}
 use Rattle.t800.specs.ReadHeader.{readZeroPlanesFrom}
 use Rattle.t800.proofs.Laws.Tests.{either, if-true, if-false}
 use Rattle.bio_read.proofs.Laws.ReadChunks.{getBit-ct, getBit-place}
@@ -94,22 +94,22 @@ leaf-says t at ws r p e = (ap (λ (a : LeafAfter). pathRead (a .words) (a .bio))
 
 -- ---- raising the threshold
 
-module _ (src : List ℕ) (k : Block) (t : ℕ) (ws : List ℕ) (b : Bio) (r : PathRead) (is : r ≡ readPath src (k .zeroTree) t (reverse (k .path)) 0 ws b) (less : t < 1001) where
+module _ (src : List ℕ) (k : Block) (t : ℕ) (ws : List ℕ) (b : Bio) (r : PathRead) (is : r ≡ readPath src (k .zeroTree) t (reverse (k .path)) 0 ws b) (less : t < notYetPlanes + 2) where
   abbrev after : ℕ → PathRead → PathRead
   after f r = cond (ltb (value (r .words) (k .zeroTree + 3 * k .leaf)) t) r (readZeroPlanesFrom src k f (t + 1) (r .words) (r .bio))
 
-  raise-by : readZeroPlanesFrom src k (1001 - t) t ws b ≡ after (1001 - (t + 1)) r
+  raise-by : readZeroPlanesFrom src k (notYetPlanes + 2 - t) t ws b ≡ after (notYetPlanes + 2 - (t + 1)) r
   unfolding readZeroPlanesFrom
   raise-by =
-      let e : 1001 - t ≡ suc (1001 - (t + 1)) = omega arith in
-      ap (λ (f : ℕ). readZeroPlanesFrom src k f t ws b) e ∙ ap (after (1001 - (t + 1))) (sym is)
+      let e : notYetPlanes + 2 - t ≡ suc (notYetPlanes + 2 - (t + 1)) = omega arith in
+      ap (λ (f : ℕ). readZeroPlanesFrom src k f t ws b) e ∙ ap (after (notYetPlanes + 2 - (t + 1))) (sym is)
 
-  pub raise-stop : ltb (value (r .words) (k .zeroTree + 3 * k .leaf)) t ≡ true → readZeroPlanesFrom src k (1001 - t) t ws b ≡ r
+  pub raise-stop : ltb (value (r .words) (k .zeroTree + 3 * k .leaf)) t ≡ true → readZeroPlanesFrom src k (notYetPlanes + 2 - t) t ws b ≡ r
   raise-stop h = raise-by ∙ if-true _ _ _ h
 
-  pub raise-on : ltb (value (r .words) (k .zeroTree + 3 * k .leaf)) t ≡ false → readZeroPlanesFrom src k (1001 - (t + 1)) (t + 1) (r .words) (r .bio) ≡ readZeroPlanesFrom src k (1001 - t) t ws b
+  pub raise-on : ltb (value (r .words) (k .zeroTree + 3 * k .leaf)) t ≡ false → readZeroPlanesFrom src k (notYetPlanes + 2 - (t + 1)) (t + 1) (r .words) (r .bio) ≡ readZeroPlanesFrom src k (notYetPlanes + 2 - t) t ws b
   raise-on h = sym (raise-by ∙ if-false _ _ _ h)
 
-pub raise-end : (src : List ℕ) (k : Block) (t : ℕ) (ws : List ℕ) (b : Bio) → 1001 ≤ t → readZeroPlanesFrom src k (1001 - t) t ws b ≡ pathRead ws b
+pub raise-end : (src : List ℕ) (k : Block) (t : ℕ) (ws : List ℕ) (b : Bio) → notYetPlanes + 2 ≤ t → readZeroPlanesFrom src k (notYetPlanes + 2 - t) t ws b ≡ pathRead ws b
 unfolding readZeroPlanesFrom
-raise-end src k t ws b h = let e : 1001 - t ≡ 0 = omega arith in ap (λ (f : ℕ). readZeroPlanesFrom src k f t ws b) e
+raise-end src k t ws b h = let e : notYetPlanes + 2 - t ≡ 0 = omega arith in ap (λ (f : ℕ). readZeroPlanesFrom src k f t ws b) e
