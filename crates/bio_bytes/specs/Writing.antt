@@ -1,4 +1,4 @@
--- Bits of a packet header as they are written (T.800, B.10.1; document 01, "Bits"), a step at a time: `Laws.Packed` says that they make
+-- Bits of a packet header as they are written (T.800, B.10.1; SCOPE S13), a step at a time: `Laws.Packed` says that they make
 -- the bytes of `pack`.
 use mathlib.Core.Path.{_≡_}
 use mathlib.Core.Bool.{cond}
@@ -20,7 +20,7 @@ output bytes b = record { bytes = bytes; bio = b }
 abbrev pub emptyAt : ℕ → Bio
 emptyAt p = record { bp = p; buf = 0; ct = 8 }
 
--- the largest place that there is, and the place behind p, which stays there
+-- the largest place that there is, and the place after p, which stops there
 abbrev pub lastPlace : ℕ
 lastPlace = 0xffff_ffff_ffff_ffff
 
@@ -49,7 +49,7 @@ unfoldable pub putBits : Output → List ℕ → Output
 putBits o [] = o
 putBits o (bit ∷ bits) = putBits (putBit o bit) bits
 
--- the last byte goes out, and behind a byte FF a byte 00
+-- the last byte goes out, and after a byte FF a byte 00
 unfoldable pub flush : Output → Output
 flush o = let last = byteOut o in cond (eqb (last .bio .ct) 7) (byteOut last) last
 

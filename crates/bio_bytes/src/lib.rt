@@ -25,7 +25,7 @@ pub fn opj_bio_numbytes(b: Bio, start: usize) -> usize
 }
 
 // How many bits of the next byte count, of the held word moved up.
-pub fn bits_behind(buf: u32) -> u32
+pub fn bits_after(buf: u32) -> u32
     ensures { λ r. ⌜ r ≡ cond (eqb buf 0xff00) 7 8 ⌝ }
 {
     if buf == 0xff00 { 7 } else { 8 }
@@ -67,6 +67,6 @@ pub fn opj_bio_byteout(out: &mut [u8], b: Bio) -> Bio
     Bio {
         bp: place_after(bp),
         buf,
-        ct: bits_behind(buf),
+        ct: bits_after(buf),
     }
 }

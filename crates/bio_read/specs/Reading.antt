@@ -10,6 +10,6 @@ use Rattle.bio_read.specs.declared.Aligned.{Aligned}
 abbrev pub decoded : Decoded → t800.Decoded
 decoded r = record { value = r .value; bio = r .bio }
 
--- to the start of the byte behind the header, or `ok` is false: the last bit read lies in a byte FF and the input ends with it
+-- to the start of the byte after the header, or `ok` is false: the last bit read lies in a byte FF and the input ends with it
 unfoldable pub alignedAt : List ℕ → Bio → Aligned
 alignedAt src b = record { ok = not (t800.endsInFF src b); bio = t800.bioAt (t800.bytesTaken src b) }

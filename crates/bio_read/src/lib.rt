@@ -1,4 +1,4 @@
-// Bits of a packet header out of bytes, high bit first, without the 0 that is stuffed behind a byte FF (bio.rs).
+// Bits of a packet header out of bytes, high bit first, without the 0 that is stuffed after a byte FF (bio.rs).
 ghost use mathlib.Core.Path.{_≡_};
 ghost use Prim.Native.Nat.{_+_, _≤_, min};
 ghost use lib.ListN.{length};
@@ -40,7 +40,7 @@ pub fn opj_bio_bytein(src: &[u8], b: Bio) -> Bio
 {
     let bp = b.bp;
     let buf = (b.buf << 8) & 0xffff;
-    let ct = bio_bytes::bits_behind(buf);
+    let ct = bio_bytes::bits_after(buf);
     if bp < src.len() {
         return Bio {
             bp: bp + 1,
@@ -133,10 +133,10 @@ pub fn opj_bio_inalign(src: &[u8], b: Bio) -> Aligned
     let bp = b.bp;
     let n = src.len();
     if (b.buf & 0xff) == 0xff {
-        let behind = opj_bio_init_dec(bp + 1);
+        let next = opj_bio_init_dec(bp + 1);
         return Aligned {
             ok: bp != n,
-            bio: behind,
+            bio: next,
         };
     }
     let bio = opj_bio_init_dec(smaller(bp, n));

@@ -1,4 +1,4 @@
-// Bits of a packet header into bytes, high bit first, with a stuffed 0 behind a byte FF (bio.rs).
+// Bits of a packet header into bytes, high bit first, with a stuffed 0 after a byte FF (bio.rs).
 ghost use mathlib.Core.Path.{_≡_};
 ghost use Prim.Native.Nat.{_≤_};
 ghost use Rattle.t800.specs.Bits.{bitsOf};

@@ -10,3 +10,10 @@ unfoldable pub putRow : List ℕ → ℕ → ℕ → ℕ → ℕ → ℕ → Lis
 putRow rows n a b c d =
     let put = set (set (set (set rows (4 * n) a) (4 * n + 1) b) (4 * n + 2) c) (4 * n + 3) d in
     cond (ltb n (length rows / 4)) put rows
+
+-- a block's report and a segment's record are such rows: both widths are 4
+abbrev pub putReport : List ℕ → ℕ → ℕ → ℕ → ℕ → ℕ → List ℕ
+putReport reports n inclusion zeroPlanes planes passes = putRow reports n inclusion zeroPlanes planes passes
+
+abbrev pub putRecord : List ℕ → ℕ → ℕ → ℕ → ℕ → ℕ → List ℕ
+putRecord records n block opens passes bytes = putRow records n block opens passes bytes

@@ -1,9 +1,8 @@
 // Copies of lists, and the rows that a read fills.
 ghost use mathlib.Core.Path.{_≡_};
-ghost use Prim.Native.Nat.{_+_, _*_, _≤_};
 ghost use lib.ListN.{length};
 ghost use Rattle.t800.specs.Base.{wiped};
-ghost use Rattle.lists.specs.Rows.{putRow};
+ghost use Rattle.lists.specs.Rows.{putRow, putReport, putRecord};
 
 // ---- copies
 
@@ -65,7 +64,7 @@ fn put_row(rows: &mut [u32], n: usize, a: u32, b: u32, c: u32, d: u32)
 
 // Segment record n, if it is lent.
 pub fn put_record(records: &mut [u32], n: usize, block: u32, opens: u32, passes: u32, bytes: u32)
-    ensures { λ _. ⌜ now (records .exit) ≡ putRow (now (records .entry)) n block opens passes bytes ⌝ }
+    ensures { λ _. ⌜ now (records .exit) ≡ putRecord (now (records .entry)) n block opens passes bytes ⌝ }
 {
     put_row(records, n, block, opens, passes, bytes);
 }
@@ -79,7 +78,7 @@ pub fn put_report(
     planes: u32,
     passes: u32,
 )
-    ensures { λ _. ⌜ now (reports .exit) ≡ putRow (now (reports .entry)) n inclusion «zero_planes» planes passes ⌝ }
+    ensures { λ _. ⌜ now (reports .exit) ≡ putReport (now (reports .entry)) n inclusion «zero_planes» planes passes ⌝ }
 {
     put_row(reports, n, inclusion, zero_planes, planes, passes);
 }

@@ -1,4 +1,4 @@
--- The codewords of pass counts as one table (document 01, "Pass counts"): the 164 values, then their 164 lengths in bits.
+-- The codewords of pass counts as one table (SCOPE S11): the 164 values, then their 164 lengths in bits.
 use mathlib.Core.Path.{_≡_}
 use mathlib.Core.Bool.{Bool, true, false, _&&_}
 use mathlib.Core.List.{List, [], _∷_}

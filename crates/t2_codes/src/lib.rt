@@ -2,12 +2,12 @@
 ghost use mathlib.Core.Path.{_≡_};
 ghost use Prim.Native.Nat.{_+_, _≤_};
 ghost use lib.Dec.{T};
-ghost use Rattle.t800.specs.PassCount.{passBits, readPasses};
+ghost use Rattle.t800.specs.PassCount.{passBits, plus, readPasses};
 ghost use Rattle.t800.specs.Segments.{commaBits};
 ghost use Rattle.bio_bytes.specs.Writing.{output, putBits, FreeBitsClear};
 ghost use Rattle.bio_read.specs.Reading.{decoded};
 ghost use Rattle.t2_codes.specs.PassTable.{isPassTable, IsCodewordOf};
-ghost use Rattle.t2_codes.specs.PassCount.{counted, readFrom3};
+ghost use Rattle.t2_codes.specs.PassCount.{readFrom3};
 ghost use Rattle.t2_codes.specs.CommaCode.{onesLimit, readCommaLimited};
 
 pub mod pass_codes;
@@ -58,7 +58,7 @@ pub fn opj_t2_putnumpasses(out: &mut [u8], b: Bio, n: u32) -> Bio
 
 fn plus(k: u32, r: Decoded) -> Decoded
     requires { ⌜ k + r .value ≤ 164 ⌝ }
-    ensures { λ s. ⌜ decoded s ≡ counted k (decoded r) ⌝ }
+    ensures { λ s. ⌜ decoded s ≡ plus k (decoded r) ⌝ }
 {
     let bio = r.bio;
     Decoded {
@@ -67,7 +67,7 @@ fn plus(k: u32, r: Decoded) -> Decoded
     }
 }
 
-// Behind two ones.
+// After two ones.
 fn passes_from_3(src: &[u8], b: Bio) -> Decoded
     requires { ⌜ b .ct ≤ 8 ⌝ }
     ensures { λ r. ⌜ decoded r ≡ readFrom3 (now (src .entry)) b ⌝ }

@@ -27,7 +27,7 @@ pub fn measure(
     lists::copy(state, scratch);
     let mut none: [u8; 1] = [0];
     let end = t2_write_packet::put_front(scratch, &mut none, counts, lengths, marks, markers, 0);
-    let body = t2_refusals::sum_lengths(lengths);
+    let body = t2_narrow::total(lengths);
     MeasureAnswer {
         refusal: 0,
         header: end as u64,

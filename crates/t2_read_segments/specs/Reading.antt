@@ -12,11 +12,11 @@ use Rattle.t800.specs.Bits.{getBit, readBits}
 use Rattle.t800.specs.TagTree.{value, readPath}
 use Rattle.t800.specs.PassCount.{readPasses}
 use Rattle.t800.specs.Segments.{width}
-use Rattle.t800.specs.Reports.{reportWords, recordWords}
+use Rattle.t800.specs.Reports.{reportWords, recordWords, recordWidth}
 use Rattle.t800.specs.State.{Block, notYetPlanes, lengthBits}
 use Rattle.t800.specs.WriteHeader.{isNew}
 use Rattle.t800.specs.ReadHeader.{HeaderRead, opensSegment, currentLimit, currentPasses, passesTaken, readZeroPlanesFrom}
-use Rattle.lists.specs.Rows.{putRow}
+use Rattle.lists.specs.Rows.{putReport, putRecord}
 use Rattle.tgt_read.specs.Reading.{ValueAfter}
 use Rattle.t2_codes.specs.CommaCode.{readCommaLimited}
 use Rattle.t2_read_segments.specs.declared.Run.{Run}
@@ -48,11 +48,11 @@ movedOn ws b a = record { words = ws; reports = a .reports; records = a .records
 
 abbrev pub reported : ℕ → ℕ → ℕ → ℕ → ℕ → Reading → Reading
 reported i inclusion zeroPlanes planes passes a =
-    record { words = a .words; reports = putRow (a .reports) i inclusion zeroPlanes planes passes; records = a .records; bio = a .bio; count = a .count; refusal = a .refusal }
+    record { words = a .words; reports = putReport (a .reports) i inclusion zeroPlanes planes passes; records = a .records; bio = a .bio; count = a .count; refusal = a .refusal }
 
 abbrev pub recorded : ℕ → ℕ → ℕ → ℕ → Reading → Reading
 recorded i opens passes bytes a =
-    record { words = a .words; reports = a .reports; records = putRow (a .records) (a .count) i opens passes bytes; bio = a .bio; count = a .count + 1; refusal = a .refusal }
+    record { words = a .words; reports = a .reports; records = putRecord (a .records) (a .count) i opens passes bytes; bio = a .bio; count = a .count + 1; refusal = a .refusal }
 
 -- one segment of block number i, with n passes
 unfoldable pub nextSegment : List ℕ → ℕ → Block → ℕ → Reading → Reading
@@ -62,7 +62,7 @@ nextSegment src i k n a =
     let len = readBits src w (a .bio) in
     let after = set (set ws (k .at + 2) (currentLimit ws k)) (k .at + 3) (currentPasses ws k + n) in
     let done = recorded i (cond (opensSegment ws k) 1 0) n (len .value) (movedOn after (len .bio) a) in
-    cond (ltb 32 w) (stopped 9 a) (cond (leb (length (a .records) / 4) (a .count)) (stopped 13 a) done)
+    cond (ltb 32 w) (stopped 9 a) (cond (leb (length (a .records) / recordWidth) (a .count)) (stopped 13 a) done)
 
 -- the segments of `left` more passes, if there are any; f bounds them
 unfoldable pub nextSegments : List ℕ → ℕ → Block → ℕ → ℕ → Reading → Reading
@@ -74,7 +74,7 @@ nextSegments src i k (suc f) left a =
     let some = cond (eqb (b .refusal) 0) more b in
     cond (ltb 0 left) some a
 
--- pass count and increment, behind so many passes with those length bits, of the block whose words begin at `at`
+-- pass count and increment, after so many passes with those length bits, of the block whose words begin at `at`
 unfoldable pub passesRead : List ℕ → ℕ → ℕ → ℕ → List ℕ → Bio → ValueAfter
 passesRead src at passes bits ws b =
     let n = readPasses src b in
@@ -84,7 +84,7 @@ passesRead src at passes bits ws b =
 abbrev pub segmentsAfter : List ℕ → ℕ → Block → ValueAfter → Reading → Reading
 segmentsAfter src i k c a = nextSegments src i k (c .value) (c .value) (movedOn (c .words) (c .bio) a)
 
--- an included block behind its inclusion: for the first time, or again
+-- an included block after its inclusion: for the first time, or again
 unfoldable pub nextFirst : List ℕ → ℕ → Block → Reading → Reading
 nextFirst src i k a =
     let z = readZeroPlanesFrom src k (notYetPlanes + 2) 0 (a .words) (a .bio) in
@@ -130,7 +130,7 @@ nextBlocks src t i (k ∷ ks) a =
 
 -- ---- what reading asks for
 
--- at most eight bits are held, and the place is at most one behind the input's end
+-- at most eight bits are held, and the place is at most one past the input's end
 pub record BitsIn (src : List ℕ) (b : Bio) : Type 0 where
   pub few : b .ct ≤ 8
   pub place : b .bp ≤ length src + 1

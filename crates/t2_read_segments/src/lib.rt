@@ -3,7 +3,7 @@ ghost use mathlib.Core.Path.{_≡_};
 ghost use Prim.Native.Nat.{_+_, _^_, _<_, _≤_};
 ghost use lib.ListN.{length};
 ghost use Rattle.tcd_places.specs.Places.{blockAt};
-ghost use Rattle.t2_read_segments.specs.Segments.{limitBehind, currentSegment};
+ghost use Rattle.t2_read_segments.specs.Segments.{limitAfter, currentSegment};
 ghost use Rattle.t2_read_segments.specs.Reading.{reading, WithAnyReports, nextSegment, nextSegments, SegmentFits};
 use t800::Bio;
 use tcd_style::Style;
@@ -27,9 +27,9 @@ pub struct Run {
     pub refusal: u32,
 }
 
-// Of a block's first segment, or behind one with this limit.
-fn limit_behind(style: Style, limit: u32) -> u32
-    ensures { λ r. ⌜ r ≡ limitBehind (style .bits) limit ⌝ }
+// Of a block's first segment, or of one after a segment with this limit.
+fn limit_after(style: Style, limit: u32) -> u32
+    ensures { λ r. ⌜ r ≡ limitAfter (style .bits) limit ⌝ }
 {
     if limit == 0 {
         return style.first_limit();
@@ -46,7 +46,7 @@ fn current_segment(words: &[u32], at: usize) -> Segment
     let used = words[at + 3];
     if limit == used {
         let bits = words[2];
-        let next = limit_behind(Style { bits }, limit);
+        let next = limit_after(Style { bits }, limit);
         return Segment {
             opens: 1,
             limit: next,

@@ -3,21 +3,12 @@ ghost use mathlib.Core.Path.{_≡_};
 ghost use mathlib.Core.Bool.{true};
 ghost use Prim.Native.Nat.{_≤_};
 ghost use lib.ListN.{length};
-ghost use Rattle.t800.specs.Base.{sum};
 ghost use Rattle.t800.specs.State.{writer};
 ghost use Rattle.t800.specs.Ranges.{validState};
 ghost use Rattle.t800.specs.Packet.{wrongLists};
 ghost use Rattle.t2_refusals.specs.Refusals.{contribution, contributionRefusal, measureRefusalFor};
 
 // ---- the lists (3)
-
-// The body's bytes.
-pub fn sum_lengths(lengths: &[u32]) -> u64
-    requires { ⌜ length (now lengths) ≤ 4294967296 ⌝ }
-    ensures { λ r. ⌜ r ≡ sum (now (lengths .entry)) ⌝ }
-{
-    t2_narrow::total(lengths)
-}
 
 fn wrong_lists(blocks: usize, counts: &[u32], lengths: &[u32], marks: &[u8]) -> bool
     requires { ⌜ blocks ≤ 12288 ⌝ }

@@ -10,5 +10,5 @@ setRow base row depth m x [] ws = ws
 setRow base row depth m x (p ∷ ps) ws = setRow base row depth m (x + 1) ps (setValue base (pathOver row depth x) (m - p) ws)
 
 -- the nodes over the first n columns of a row lie in a list of so many words
-abbrev pub RowIn : ℕ → ℕ → List ℕ → ℕ → ℕ → Type 0
-RowIn size base row depth n = (x : ℕ) → x < n → PathIn size base row depth x
+abbrev pub ColumnsIn : ℕ → ℕ → List ℕ → ℕ → ℕ → Type 0
+ColumnsIn size base row depth n = (x : ℕ) → x < n → PathIn size base row depth x

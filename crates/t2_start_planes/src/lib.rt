@@ -10,7 +10,7 @@ ghost use Rattle.t800.specs.State.{blocksIn, bandNodes, bandLength, blocksFrom,
 ghost use Rattle.t800.specs.Ranges.{blockTooDeep};
 ghost use Rattle.t800.specs.Start.{setZeroPlanes};
 ghost use Rattle.tcd_layout.specs.Geometry.{padded, SidesUpTo64, AllUpTo64};
-ghost use Rattle.t2_start_planes.specs.Rows.{setRow, RowIn};
+ghost use Rattle.t2_start_planes.specs.Rows.{setRow, ColumnsIn};
 use t800::Band;
 use t800::Level;
 
@@ -23,7 +23,7 @@ fn set_row(
     most: u32,
     planes: &[u32],
 )
-    requires { ⌜ (RowIn (length (now state)) base (now row) depth (length (now planes))) × (any (λ p. ltb most p) (now planes) ≡ false) ⌝ }
+    requires { ⌜ (ColumnsIn (length (now state)) base (now row) depth (length (now planes))) × (any (λ p. ltb most p) (now planes) ≡ false) ⌝ }
     ensures { λ _. ⌜ now (state .exit) ≡ setRow base (now (row .entry)) depth most 0 (now (planes .entry)) (now (state .entry)) ⌝ }
 {
     let mut x: usize = 0;

@@ -14,7 +14,7 @@ use Rattle.t800.specs.State.{Block, reader, notYetIncluded, layer, bands, block
 use Rattle.t800.specs.Ranges.{validState}
 use Rattle.t800.specs.Segments.{width}
 use Rattle.t800.specs.TagTree.{PathRead, value, readPath}
-use Rattle.t800.specs.Reports.{absent}
+use Rattle.t800.specs.Reports.{absent, reportWidth, recordWidth}
 use Rattle.t800.specs.Start.{StartResult, startRefusal, start}
 use Rattle.t800.specs.MarkerSegments.{readSop}
 use Rattle.t800.specs.ReadHeader.{HeaderRead, refused, movedTo, withReport, readSegment, readSegments, readIncluded, readNewBlock, readOldBlock, readBlock, readBlocks, readHeader, passesTaken}
@@ -127,7 +127,7 @@ measure-number m =
         (λ e. ap (λ (z : MeasureResult). z .answer .refusal) (if-eq why 0 done other e) ∙ d ∙ sym e)
         (λ e. ap (λ (z : MeasureResult). z .answer .refusal) (if-ne why 0 done other e) ∙ o)
 
--- the checks cs, and behind them ds
+-- the checks cs, and after them ds
 first-append : (cs ds : List Check) → Distinct cs → firstOf (cs ++ ds) ≡ cond (not (eqb (firstOf cs) 0)) (firstOf cs) (firstOf ds)
 unfolding firstOf
 first-append [] ds d = refl
@@ -258,7 +258,7 @@ module _ (r : WasRead) where
   firstBit = getBit (call .input) (bioAt (readSop (call .markers) (call .input) .skip)) .value
 
   abbrev header : HeaderRead
-  header = readHeader (call .input) (length (call .records) / 4) (r .state) (getBit (call .input) (bioAt (readSop (call .markers) (call .input) .skip)) .bio)
+  header = readHeader (call .input) (length (call .records) / recordWidth) (r .state) (getBit (call .input) (bioAt (readSop (call .markers) (call .input) .skip)) .bio)
 
   abbrev readWhy : ℕ
   readWhy = cond (not (eqb early 0)) early (cond (not (eqb firstBit 0)) (header .refusal) 0)
@@ -277,12 +277,12 @@ module _ (r : WasRead) where
   read-number : r .result .answer .refusal ≡ firstOf (readChecks (r .state) call)
   unfolding firstOf readRefusal
   read-number =
-      let early-checks : List Check = check 5 (not (validState reader (r .state) (length (call .scratch)))) ∷ check 6 (eqb (layer (r .state)) notYetIncluded) ∷ check 3 (not (eqb (length (call .reports)) (4 * length (blocks (bands (r .state)))))) ∷ [] in
+      let early-checks : List Check = check 5 (not (validState reader (r .state) (length (call .scratch)))) ∷ check 6 (eqb (layer (r .state)) notYetIncluded) ∷ check 3 (not (eqb (length (call .reports)) (reportWidth * length (blocks (bands (r .state)))))) ∷ [] in
       let present : Bool = not (eqb firstBit 0) in
       let late : List Check = check 9 (present && eqb (header .refusal) 9) ∷ check 13 (present && eqb (header .refusal) 13) ∷ check 12 (present && eqb (header .refusal) 12) ∷ [] in
       let d : Distinct early-checks = omega arith in
       read-why
-      ∙ ap (λ (z : ℕ). cond (not (eqb early 0)) early z) (sym (of-header (header .refusal) present (header-number (call .input) (length (call .records) / 4) (r .state) _ .one-of)))
+      ∙ ap (λ (z : ℕ). cond (not (eqb early 0)) early z) (sym (of-header (header .refusal) present (header-number (call .input) (length (call .records) / recordWidth) (r .state) _ .one-of)))
       ∙ sym (first-append early-checks late d)
 
   read-stays : r .result .answer .refusal ≢ 0 → r .result .state ≡ r .state

@@ -1,4 +1,4 @@
--- Demand 3 of the calls themselves (document 01, "The round trip"): each call is what went in and what it left, and meets its contract
+-- Demand 3 of the calls themselves (SCOPE S15): each call is what went in and what it left, and meets its contract
 -- in src/lib.rt. t800's RoundTrip.antt says the same of the definitions.
 use mathlib.Core.Path.{_≡_}
 use Prim.Native.Nat.{ℕ, _-_, _<_}

@@ -1,4 +1,4 @@
--- Demand 1 of the calls (document 01, "What turns a packet away"): which number a call gives, and that a refused one leaves the state.
+-- Demand 1 of the calls (SCOPE S4 and S14): which number a call gives, and that a refused one leaves the state.
 use mathlib.Core.Path.{_≡_}
 use mathlib.Core.Logic.{_≢_}
 use Prim.Native.Nat.{ℕ, _*_, _/_, _≤_}
@@ -15,6 +15,7 @@ use Rattle.t800.specs.WriteHeader.{segmentTooLong, fieldTooWide}
 use Rattle.t800.specs.ReadHeader.{readHeader}
 use Rattle.t800.specs.Packet.{wrongLists, packet}
 use Rattle.t800.specs.RoundTrip.{WriteCall, ReadCall}
+use Rattle.t800.specs.Reports.{reportWidth, recordWidth}
 use Rattle.t2_theorems.specs.Calls.{Started, Measured, Written, WasRead}
 
 -- a number, and whether its condition holds
@@ -25,7 +26,7 @@ pub record Check : Type 0 where
 abbrev pub check : ℕ → Bool → Check
 check n b = record { number = n; holds = b }
 
--- ---- the checks of each call, in the order in which document 01 looks for them
+-- ---- the checks of each call, in the order of SCOPE S4
 
 abbrev pub startChecks : (r : ℕ) → Started r → List Check
 startChecks r s =
@@ -57,15 +58,15 @@ bodyChecks ws c =
 abbrev pub writeChecks : List ℕ → WriteCall → List Check
 writeChecks ws c = measureChecks ws c ++ bodyChecks ws c
 
--- Of 9, 12 and 13 a header gives at most one, which of them its bits say: 9 before 13 at each segment as it comes, 12 behind all blocks.
+-- Of 9, 12 and 13 a header gives at most one, which of them its bits say: 9 before 13 at each segment as it comes, 12 after all blocks.
 abbrev pub readChecks : List ℕ → ReadCall → List Check
 readChecks ws c =
     let first = getBit (c .input) (bioAt (readSop (c .markers) (c .input) .skip)) in
     let present = not (eqb (first .value) 0) in
-    let header = readHeader (c .input) (length (c .records) / 4) ws (first .bio) .refusal in
+    let header = readHeader (c .input) (length (c .records) / recordWidth) ws (first .bio) .refusal in
     check 5 (not (validState reader ws (length (c .scratch))))
     ∷ check 6 (eqb (layer ws) notYetIncluded)
-    ∷ check 3 (not (eqb (length (c .reports)) (4 * length (blocks (bands ws)))))
+    ∷ check 3 (not (eqb (length (c .reports)) (reportWidth * length (blocks (bands ws)))))
     ∷ check 9 (present && eqb header 9)
     ∷ check 13 (present && eqb header 13)
     ∷ check 12 (present && eqb header 12)

@@ -25,7 +25,7 @@ pub fn write(
             bytes: 0,
         };
     }
-    if body.len() as u64 != t2_refusals::sum_lengths(lengths) {
+    if body.len() as u64 != t2_narrow::total(lengths) {
         return WriteAnswer {
             refusal: 10,
             bytes: 0,

@@ -4,7 +4,7 @@ ghost use Prim.Native.Nat.{_+_, _<_, _≤_};
 ghost use lib.Dec.{T};
 ghost use lib.ListN.{length, take};
 ghost use Rattle.t800.specs.TagTree.{levels};
-ghost use Rattle.t800.specs.State.{blocksIn, blocks, stateLength};
+ghost use Rattle.t800.specs.State.{blocksIn, blocks, stateLength, notYetIncluded};
 ghost use Rattle.t800.specs.WriteHeader.{setNewBlocks, codeBlocks};
 ghost use Rattle.bio_bytes.specs.Writing.{output, FreeBitsClear};
 ghost use Rattle.tgt_write.specs.Coding.{leafCoded, putCoded};
@@ -32,7 +32,7 @@ fn code_blocks(
     lengths: &[u32],
     marks: &[u8],
 ) -> Run
-    requires { ⌜ (T (isPassTable (now codes))) × (FreeBitsClear (r .bio)) × (BandIn (length (now words)) (g .start) band) × (g ≡ gridOf (g .start) band) × (tree ≡ padded (levels (band .across) (band .down))) × (layer < 999) × (AllFit (now counts) (now lengths) (now marks) (now words) (bandBlocks (g .start) band) (r .block) (r .pass)) ⌝ }
+    requires { ⌜ (T (isPassTable (now codes))) × (FreeBitsClear (r .bio)) × (BandIn (length (now words)) (g .start) band) × (g ≡ gridOf (g .start) band) × (tree ≡ padded (levels (band .across) (band .down))) × (layer < notYetIncluded) × (AllFit (now counts) (now lengths) (now marks) (now words) (bandBlocks (g .start) band) (r .block) (r .pass)) ⌝ }
     ensures { λ s. ⌜ running (now (words .exit)) (now (out .exit)) s ≡ codeAll layer (now (counts .entry)) (now (lengths .entry)) (now (marks .entry)) (bandBlocks (g .start) band) (running (now (words .entry)) (now (out .entry)) r) ⌝ }
 {
     let mut run = r;
@@ -73,7 +73,7 @@ fn code_band(
     lengths: &[u32],
     marks: &[u8],
 ) -> Run
-    requires { ⌜ (T (isPassTable (now codes))) × (FreeBitsClear (r .bio)) × (BandIn (length (now words)) (g .start) band) × (g ≡ gridOf (g .start) band) × (tree ≡ padded (levels (band .across) (band .down))) × (layer < 999) × (r .block + blocksIn band ≤ length (now counts)) × (AllFit (now counts) (now lengths) (now marks) (now words) (bandBlocks (g .start) band) (r .block) (r .pass)) ⌝ }
+    requires { ⌜ (T (isPassTable (now codes))) × (FreeBitsClear (r .bio)) × (BandIn (length (now words)) (g .start) band) × (g ≡ gridOf (g .start) band) × (tree ≡ padded (levels (band .across) (band .down))) × (layer < notYetIncluded) × (r .block + blocksIn band ≤ length (now counts)) × (AllFit (now counts) (now lengths) (now marks) (now words) (bandBlocks (g .start) band) (r .block) (r .pass)) ⌝ }
     ensures { λ s. ⌜ running (now (words .exit)) (now (out .exit)) s ≡ codeBand layer (now (counts .entry)) (now (lengths .entry)) (now (marks .entry)) (g .start) band (running (now (words .entry)) (now (out .entry)) r) ⌝ }
 {
     t2_write_new_blocks::set_new_blocks(words, band, tree, g, layer, counts, r.block);
@@ -105,7 +105,7 @@ pub fn code_bands(
     lengths: &[u32],
     marks: &[u8],
 ) -> Bio
-    requires { ⌜ (T (isPassTable (now codes))) × (FreeBitsClear b) × (n ≤ 3) × (AllUpTo64 (take n bands)) × (length (now words) ≡ stateLength (take n bands)) × (layer < 999) × (length (now counts) ≡ length (blocks (take n bands))) × (AllFit (now counts) (now lengths) (now marks) (now words) (blocks (take n bands)) 0 0) ⌝ }
+    requires { ⌜ (T (isPassTable (now codes))) × (FreeBitsClear b) × (n ≤ 3) × (AllUpTo64 (take n bands)) × (length (now words) ≡ stateLength (take n bands)) × (layer < notYetIncluded) × (length (now counts) ≡ length (blocks (take n bands))) × (AllFit (now counts) (now lengths) (now marks) (now words) (blocks (take n bands)) 0 0) ⌝ }
     ensures { λ r. ⌜ leafCoded (now (words .exit)) (now (out .exit)) r ≡ putCoded (output (now (out .entry)) b) (codeBlocks layer (blocks (take n bands)) (now (counts .entry)) (now (lengths .entry)) (now (marks .entry)) (setNewBlocks layer (blocks (take n bands)) (now (counts .entry)) (now (words .entry)))) ⌝ }
 {
     let trees = tcd_layout::band_levels(bands);

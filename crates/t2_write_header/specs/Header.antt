@@ -6,7 +6,7 @@ use lib.Seq.{sets}
 use Rattle.t800.specs.Bits.{pack}
 use Rattle.t800.specs.WriteHeader.{Contribution, codeHeader}
 
--- the state's words after it, the output, and the place behind it
+-- the state's words after it, the output, and the place after it
 pub record HeaderCoded : Type 0 where
   pub words : List ℕ
   pub bytes : List ℕ

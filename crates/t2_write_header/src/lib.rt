@@ -5,7 +5,7 @@ ghost use lib.ListN.{length};
 ghost use Rattle.t2_refusals.specs.Refusals.{contribution, measureRefusalFor};
 ghost use Rattle.t2_write_header.specs.Header.{headerCoded, putHeader};
 
-// The place behind it. Bytes for which the output has no room are counted and not stored.
+// The place after it. Bytes for which the output has no room are counted and not stored.
 pub fn encode_header(
     words: &mut [u32],
     out: &mut [u8],

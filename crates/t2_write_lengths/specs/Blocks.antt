@@ -13,7 +13,7 @@ use Rattle.t2_write_lengths.specs.Lengths.{BlockPasses}
 abbrev pub coded : List ℕ → Output → LeafCoded
 coded ws o = record { words = ws; output = o }
 
--- c passes can be coded behind so many with those length bits: refusals 5, 3, 7, 8 and 9 of one block don't apply
+-- c passes can be coded after so many with those length bits: refusals 5, 3, 7, 8 and 9 of one block don't apply
 pub record PassesFit (passes lengthBits c : ℕ) (ls ms : List ℕ) : Type 0 where
   pub many : c ≡ length ls
   pub block : BlockPasses ls ms

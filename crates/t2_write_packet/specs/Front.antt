@@ -8,7 +8,7 @@ use Rattle.t800.specs.WriteHeader.{Contribution, codeHeader}
 use Rattle.t800.specs.Packet.{front}
 use Rattle.t2_write_header.specs.Header.{HeaderCoded, headerCoded}
 
--- the output, and the place behind what was put
+-- the output, and the place after what was put
 pub record BytesPut : Type 0 where
   pub bytes : List ℕ
   pub end : ℕ

@@ -1,4 +1,4 @@
-// The packet less its body, and the body behind it: stored where the output has room.
+// The packet less its body, and the body after it: stored where the output has room.
 ghost use mathlib.Core.Path.{_≡_};
 ghost use mathlib.Core.Bool.{cond};
 ghost use mathlib.Core.List.{[]};
@@ -12,7 +12,7 @@ ghost use Rattle.t2_write_packet.specs.Front.{bytesPut, putBytes, putFro
 use t800::Markers;
 use tcd_style::Marker;
 
-// The place behind it.
+// The place after it.
 fn put_sop(out: &mut [u8], used: bool, number: u32) -> usize
     ensures { λ r. ⌜ bytesPut (now (out .exit)) r ≡ putBytes (bytesPut (now (out .entry)) 0) (cond used (sopBytes number) []) ⌝ }
 {

@@ -362,12 +362,12 @@ slip-rows =
     ∷ get 23 1 (0xea ∷ 0x00 ∷ []) (told 1 2 1) (1 ∷ 0 ∷ 5 ∷ 1 ∷ []) (0 ∷ 1 ∷ 1 ∷ 8 ∷ [])
     ∷ get 23 1 (0xc5 ∷ []) (told 1 1 1) (2 ∷ 0 ∷ 0 ∷ 1 ∷ []) (0 ∷ 0 ∷ 1 ∷ 5 ∷ [])
     ∷ [])
-    -- no 00 behind a last FF: E, again, with EPH behind it
+    -- no 00 after a last FF: E, again, with EPH after it
     ∷ one
     (writes (record { contribution = contribution (16 ∷ []) (lengths 16 511) (copies 16 0); markers = record { sop = false; eph = true }; number = 0; scratch = 23; body = 511; output = 517 }) 0
     (0xfe ∷ 0xad ∷ 0xff ∷ 0x00 ∷ 0xff ∷ 0x92 ∷ [])
     ∷ [])
-    -- a missing marker treated as a refusal: A without markers where both are used, alone and with bytes behind it; a half marker
+    -- a missing marker treated as a refusal: A without markers where both are used, alone and with bytes after it; a half marker
     ∷ one
     (reads (record { markers = marked; input = 0xe5 ∷ []; scratch = 23; reports = 4; records = 4 }) (0 ∷ 1 ∷ 1 ∷ 1 ∷ 1 ∷ 1 ∷ []) (1 ∷ 0 ∷ 5 ∷ 1 ∷ []) (0 ∷ 1 ∷ 1 ∷ 5 ∷ []) ∷ [])
     ∷ one

@@ -1,5 +1,5 @@
 -- A table of calls on precincts, and what it is for a row to hold: each call is computed and compared with what the row says of it, with
--- document 01's rule for every lent list, and each read of a packet that the row wrote with the book's entry. No definition rests on this.
+-- the rule of SCOPE S5 for every lent list, and each read of a packet that the row wrote with the book's entry. No definition rests on this.
 use Prim.Native.Nat.{ℕ, _+_}
 use mathlib.Core.Bool.{Bool, true, false, cond, _&&_, _||_}
 use mathlib.Core.List.{List, [], _∷_, _++_}

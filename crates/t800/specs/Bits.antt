@@ -1,4 +1,4 @@
--- Bits and bytes of a packet header (T.800, B.10.1; document 01, "Bits"): bits fill bytes from the high end, and behind a byte FF
+-- Bits and bytes of a packet header (T.800, B.10.1; SCOPE S13): bits fill bytes from the high end, and after a byte FF
 -- the next byte's high bit is a stuffed 0. A bit is the number 0 or 1.
 use Prim.Native.Nat.{ℕ, zero, suc, _+_, _-_, _*_, _/_, _%_, _^_, min}
 use mathlib.Core.Bool.{Bool, cond, _&&_}
@@ -14,11 +14,11 @@ bitsOf (suc n) v = v / 2 ^ n % 2 ∷ bitsOf n v
 
 -- ---- writing
 
--- how many bits go into the byte behind this one
+-- how many bits go into the byte after this one
 unfoldable pub bitsAfter : ℕ → ℕ
 bitsAfter byte = cond (eqb byte 255) 7 8
 
--- a last byte FF gets a 00 behind it
+-- a last byte FF gets a 00 after it
 unfoldable pub lastBytes : ℕ → List ℕ
 lastBytes byte = byte ∷ cond (eqb byte 255) (0 ∷ []) []
 
@@ -42,7 +42,7 @@ pub record Decoded : Type 0 where
 abbrev pub bioAt : ℕ → Bio
 bioAt p = record { bp = p; buf = 0; ct = 0 }
 
--- The held word is moved up by eight and cut to sixteen bits, and the next byte moves in, a 0 past the end. Behind FF seven bits
+-- The held word is moved up by eight and cut to sixteen bits, and the next byte moves in, a 0 past the end. After FF seven bits
 -- of it count. The place stops at length + 1, which says that the held byte lies past the end.
 unfoldable pub byteIn : List ℕ → Bio → Bio
 byteIn src b =
@@ -56,7 +56,7 @@ heldBit b = record { value = b .buf / 2 ^ (b .ct - 1) % 2; bio = record { bp = b
 unfoldable pub getBit : List ℕ → Bio → Decoded
 getBit src b = heldBit (cond (eqb (b .ct) 0) (byteIn src b) b)
 
--- n bits as a number, high bit first, behind those that v holds
+-- n bits as a number, high bit first, after those that v holds
 unfoldable pub readBitsOnto : List ℕ → ℕ → ℕ → Bio → Decoded
 readBitsOnto src zero v b = record { value = v; bio = b }
 readBitsOnto src (suc n) v b = let r = getBit src b in readBitsOnto src n (2 * v + r .value) (r .bio)
@@ -74,6 +74,6 @@ inFF b = eqb (b .buf % 256) 255
 unfoldable pub endsInFF : List ℕ → Bio → Bool
 endsInFF src b = inFF b && eqb (b .bp) (length src)
 
--- the bytes taken: a byte FF takes the one behind it along
+-- the bytes taken: a byte FF takes the one after it along
 unfoldable pub bytesTaken : List ℕ → Bio → ℕ
 bytesTaken src b = cond (inFF b) (b .bp + 1) (min (b .bp) (length src))

@@ -1,4 +1,4 @@
--- The book of the round trip (document 01, "The round trip"; the word is document 01's): what a read owes for each accepted writing
+-- The book of the round trip (SCOPE S15): what a read owes for each accepted writing
 -- call. It is fed the start's bands, block planes and style and each such call's pass counts and lengths, and knows neither trees nor
 -- bits nor the reader's way of cutting segments.
 use Prim.Native.Nat.{ℕ, zero, suc, _+_, _-_, _%_}

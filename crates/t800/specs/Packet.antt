@@ -1,4 +1,4 @@
--- Measuring, writing and reading one packet (document 01, "The calls an archive makes" and "What turns a packet away"): each is one
+-- Measuring, writing and reading one packet (SCOPE S2, S4, S5 and S7): each is one
 -- function from the arguments and what the lent lists hold at entry to the answer and what they hold at exit.
 use Prim.Native.Nat.{ℕ, _+_, _*_, _/_}
 use mathlib.Core.Bool.{Bool, cond, _||_, not}
@@ -14,7 +14,7 @@ use Rattle.t800.specs.Base.{any, sum, overwrite, wiped}
 use Rattle.t800.specs.Bits.{bioAt, getBit, pack, bytesTaken}
 use Rattle.t800.specs.State.{notYetIncluded, writer, reader, blocks, bands, layer}
 use Rattle.t800.specs.Ranges.{validState}
-use Rattle.t800.specs.Reports.{reportWords, recordWords}
+use Rattle.t800.specs.Reports.{reportWidth, recordWidth, reportWords, recordWords}
 use Rattle.t800.specs.WriteHeader.{Contribution, codeHeader, segmentTooLong, fieldTooWide}
 use Rattle.t800.specs.ReadHeader.{HeaderRead, readHeader}
 use Rattle.t800.specs.MarkerSegments.{withMarkers, MarkerRead, readSop, readEph}
@@ -92,7 +92,7 @@ unfoldable pub readRefusal : List ℕ → List ℕ → List ℕ → ℕ
 readRefusal ws scratch reports =
     cond (not (validState reader ws (length scratch))) 5
     (cond (eqb (layer ws) notYetIncluded) 6
-    (cond (not (eqb (length reports) (4 * length (blocks (bands ws))))) 3 0))
+    (cond (not (eqb (length reports) (reportWidth * length (blocks (bands ws))))) 3 0))
 
 pub record ReadResult : Type 0 where
   pub answer : ReadAnswer
@@ -104,7 +104,7 @@ pub record ReadResult : Type 0 where
 abbrev pub refusedAnswer : ℕ → ReadAnswer
 refusedAnswer why = record { refusal = why; present = 0; taken = 0; segments = 0; sop = 0; eph = 0 }
 
--- a first bit 0, the bits standing at b behind it: the packet is absent, and only the next layer moves
+-- a first bit 0, the bits standing at b after it: the packet is absent, and only the next layer moves
 unfoldable pub readAbsent : List ℕ → Markers → List ℕ → List ℕ → List ℕ → MarkerRead → Bio → ReadResult
 readAbsent ws m src reports records s b =
     let at = bytesTaken src b in
@@ -138,7 +138,7 @@ read ws scratch m src reports records =
     let why = readRefusal ws scratch reports in
     let s = readSop m src in
     let first = getBit src (bioAt (s .skip)) in
-    let r = readHeader src (length records / 4) ws (first .bio) in
+    let r = readHeader src (length records / recordWidth) ws (first .bio) in
     let absent = readAbsent ws m src reports records s (first .bio) in
     let present = readPresent ws m src records s r in
     let broken : ReadResult = record { answer = refusedAnswer (r .refusal); state = ws; scratch = wiped scratch; reports = wiped reports; records = wiped records } in

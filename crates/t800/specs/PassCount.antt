@@ -1,4 +1,4 @@
--- The number of coding passes (T.800, B.10.6, Table B.4; document 01, "Pass counts").
+-- The number of coding passes (T.800, B.10.6, Table B.4; SCOPE S11).
 use Prim.Native.Nat.{ℕ, _+_, _-_}
 use mathlib.Core.Bool.{cond}
 use mathlib.Core.List.{List, [], _∷_, _++_}
@@ -16,7 +16,7 @@ passBits n =
     (cond (leb n 36) (replicate 4 1 ++ bitsOf 5 (n - 6))
     (replicate 9 1 ++ bitsOf 7 (n - 37)))))
 
--- a number behind those that shorter codewords name
+-- k and the number that was read: shorter codewords name the numbers below k
 abbrev pub plus : ℕ → Decoded → Decoded
 plus k r = record { value = k + r .value; bio = r .bio }
 

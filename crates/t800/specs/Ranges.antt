@@ -1,4 +1,4 @@
--- What a start and a state must meet: refusals 1, 2, 4 and 5 (document 01, "What turns a packet away").
+-- What a start and a state must meet: refusals 1, 2, 4 and 5 (SCOPE S4 and S6).
 use Prim.Native.Nat.{ℕ, _+_, _*_}
 use mathlib.Core.Bool.{Bool, true, false, cond, _&&_, _||_, not}
 use mathlib.Core.List.{List, [], _∷_}

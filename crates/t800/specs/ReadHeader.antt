@@ -1,4 +1,4 @@
--- A packet's header as read (T.800, B.10; document 01, "Header" and "Lengths"), behind its first bit: what the bits say, block by block,
+-- A packet's header as read (T.800, B.10; SCOPE S9 to S11), after its first bit: what the bits say, block by block,
 -- and the state after the packet.
 use Prim.Native.Nat.{ℕ, zero, suc, _+_, _-_, _*_, _%_, _^_, min}
 use mathlib.Core.Bool.{Bool, cond, _&&_}
@@ -99,7 +99,7 @@ firstReport k z n = record { inclusion = 1; zeroPlanes = z; planes = (k .planes 
 unfoldable pub againReport : ℕ → BlockReport
 againReport n = record { inclusion = 2; zeroPlanes = 0; planes = 0; passes = n }
 
--- a block that is included, behind its inclusion: zero planes, pass count, increment of the length bits, segments
+-- a block that is included, after its inclusion: zero planes, pass count, increment of the length bits, segments
 unfoldable pub readIncluded : List ℕ → ℕ → ℕ → Block → HeaderRead → HeaderRead
 readIncluded src room i k r =
     let z = readZeroPlanes src k r in

@@ -1,4 +1,4 @@
--- What a read tells of a packet (document 01, "What turns a packet away"), and how it lies in the lent lists.
+-- What a read tells of a packet (SCOPE S7), and how it lies in the lent lists.
 use Prim.Native.Nat.{ℕ}
 use mathlib.Core.List.{List, [], _∷_}
 
@@ -19,7 +19,14 @@ pub record SegmentRecord : Type 0 where
 abbrev pub absent : BlockReport
 absent = record { inclusion = 0; zeroPlanes = 0; planes = 0; passes = 0 }
 
--- four words each, in this order
+-- the words of one report, and of one record
+abbrev pub reportWidth : ℕ
+reportWidth = 4
+
+abbrev pub recordWidth : ℕ
+recordWidth = 4
+
+-- one after another, the words of each in the order above
 unfoldable pub reportWords : List BlockReport → List ℕ
 reportWords [] = []
 reportWords (r ∷ rs) = r .inclusion ∷ r .zeroPlanes ∷ r .planes ∷ r .passes ∷ reportWords rs

@@ -1,5 +1,5 @@
--- The statement of demand 3 (document 01, "The round trip"), over whole lists of calls. Premises, for accepted packets and their reads:
--- the termination rule, records enough, and every other list of the length that document 01 asks.
+-- The statement of demand 3 (SCOPE S15), over whole lists of calls. Premises, for accepted packets and their reads:
+-- the termination rule, records enough, and every other list of the length that SCOPE S4 asks.
 use mathlib.Core.Path.{_≡_}
 use Prim.Native.Nat.{ℕ, _-_, _*_, _≤_, _<_}
 use mathlib.Core.Bool.{Bool, true, cond, _&&_}
@@ -9,7 +9,7 @@ use lib.Dec.{T, eqb}
 use Rattle.t800.specs.declared.Band.{Band}
 use Rattle.t800.specs.declared.Markers.{Markers}
 use Rattle.t800.specs.Base.{sum, overwrite}
-use Rattle.t800.specs.Reports.{reportWords, recordWords}
+use Rattle.t800.specs.Reports.{reportWidth, recordWidth, reportWords, recordWords}
 use Rattle.t800.specs.State.{writer, reader}
 use Rattle.t800.specs.Ranges.{validState}
 use Rattle.t800.specs.Start.{start}
@@ -95,8 +95,8 @@ pub record ReadsPacket (ws : List ℕ) (o : Owed) (c : ReadCall) : Type 0 where
   pub same-markers : c .markers ≡ o .markers
   pub begins : take (length (o .front)) (c .input) ≡ o .front
   pub scratch-length : length (c .scratch) ≡ length ws
-  pub reports-length : length (c .reports) ≡ 4 * length (o .entry .reports)
-  pub records-enough : 4 * length (o .entry .records) ≤ length (c .records)
+  pub reports-length : length (c .reports) ≡ reportWidth * length (o .entry .reports)
+  pub records-enough : recordWidth * length (o .entry .records) ≤ length (c .records)
 
 -- the answer and the lists are the book's entry
 pub record GivesEntry (o : Owed) (c : ReadCall) (r : ReadResult) : Type 0 where

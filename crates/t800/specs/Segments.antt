@@ -1,4 +1,4 @@
--- Codeword segments and their lengths (T.800, B.10.7 and Table A.19; document 01, "Lengths").
+-- Codeword segments and their lengths (T.800, B.10.7 and Table A.19; SCOPE S10).
 use Prim.Native.Nat.{ℕ, zero, suc, _+_, _-_, _*_, _/_, _%_, max}
 use mathlib.Core.Bool.{Bool, true, false, cond, _||_, not}
 use mathlib.Core.List.{List, [], _∷_, _++_}

@@ -1,4 +1,4 @@
--- Start (document 01, "The calls an archive makes"): a lent state is filled for a writer or a reader. It stands for the reset of the
+-- Start (SCOPE S2): a lent state is filled for a writer or a reader. It stands for the reset of the
 -- trees at layer 0.
 use Prim.Native.Nat.{ℕ, zero, suc, _-_}
 use mathlib.Core.Bool.{cond, _||_, not}

@@ -1,4 +1,4 @@
--- The state of one precinct (document 01, "The calls an archive makes"): where its 32-bit words stand and what they say.
+-- The state of one precinct (SCOPE S3): where its 32-bit words stand and what they say.
 --   0 role   1 band count   2 style   3 next layer   4 .. 12 across, down, planes of each of three bands
 --   13 .. band by band: the inclusion tree's nodes, the zero-plane tree's nodes, the blocks
 use Prim.Native.Nat.{ℕ, zero, suc, _+_, _*_}

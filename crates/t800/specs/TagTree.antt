@@ -1,4 +1,4 @@
--- Tag trees (T.800, B.10.2; document 01, "Trees") in a list of words. Nodes are numbered from the leaves' level to the root, row by
+-- Tag trees (T.800, B.10.2; SCOPE S12) in a list of words. Nodes are numbered from the leaves' level to the root, row by
 -- row; node n of the tree at `base` is the three words value, low, known from base + 3 n on.
 use Prim.Native.Nat.{ℕ, zero, suc, _+_, _-_, _*_, _/_, _%_, max, min}
 use mathlib.Core.Bool.{cond, _&&_}
@@ -17,6 +17,10 @@ levelsFrom zero w h = []
 levelsFrom (suc f) w h =
     let above = levelsFrom f ((w + 1) / 2) ((h + 1) / 2) in
     record { w = w; h = h } ∷ cond (leb (w * h) 1) [] above
+
+-- what an array of levels holds past the root's
+abbrev pub noLevel : Level
+noLevel = record { w = 0; h = 0 }
 
 -- sides up to 64 have seven levels at most
 unfoldable pub levels : ℕ → ℕ → List Level

@@ -1,4 +1,4 @@
--- A packet's header as written (T.800, B.10; document 01, "Header" and "Lengths"): its bits, and the state after the packet. Blocks are
+-- A packet's header as written (T.800, B.10; SCOPE S9 to S11): its bits, and the state after the packet. Blocks are
 -- taken band by band, row by row.
 use Prim.Native.Nat.{ℕ, _+_, _^_}
 use mathlib.Core.Bool.{Bool, false, cond, _&&_, _||_}

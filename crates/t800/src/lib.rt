@@ -1,4 +1,4 @@
-// The definitions of document 01's base stand in specs/; here are the plain structs that definitions and code both speak of.
+// The definitions of docs/SCOPE.md stand in specs/; here are the plain structs that definitions and code both speak of.
 
 // Where the bits of a header stand: the next byte's place, the held word, and how many of its low bits are still to be read or free.
 pub struct Bio {
@@ -26,7 +26,7 @@ pub struct Markers {
     pub eph: bool,
 }
 
-// The answers. `refusal` is a number of document 01's table, or 0; all else is 0 where it isn't.
+// The answers. `refusal` is a number of SCOPE S4, or 0; all else is 0 where it isn't.
 pub struct MeasureAnswer {
     pub refusal: u32,
     pub header: u64,

@@ -4,10 +4,7 @@ use mathlib.Core.List.{List, [], _∷_, _++_, map}
 use lib.ListN.{length, replicate}
 use Rattle.t800.specs.declared.Level.{Level}
 use Rattle.t800.specs.declared.Band.{Band}
-use Rattle.t800.specs.TagTree.{levels}
-
-abbrev pub noLevel : Level
-noLevel = record { w = 0; h = 0 }
+use Rattle.t800.specs.TagTree.{noLevel, levels}
 
 abbrev pub noBand : Band
 noBand = record { across = 0; down = 0; planes = 0 }

@@ -20,7 +20,7 @@ fn area(w: u32, h: u32) -> usize
     (w as usize) * (h as usize)
 }
 
-// The levels of a tree with w leaves across and h down, from the leaves to the root; those behind the root are empty.
+// The levels of a tree with w leaves across and h down, from the leaves to the root; those past the root are empty.
 pub fn levels(w: u32, h: u32) -> [Level; 7]
     ensures { λ r. ⌜ r ≡ padded (levels w h) ⌝ }
 {

@@ -47,7 +47,7 @@ pub fn bad_shape(n: u32, bands: [Band; 3]) -> bool
     any_side_over_64(bands, n as usize)
 }
 
-// Part of refusal 4: one of the first n bands has more planes than document 01 allows.
+// Part of refusal 4: one of the first n bands has more planes than SCOPE S4 allows.
 pub fn band_too_deep(bands: [Band; 3], n: usize) -> bool
     requires { ⌜ n ≤ 3 ⌝ }
     ensures { λ r. ⌜ r ≡ bandTooDeep (take n bands) ⌝ }
@@ -109,7 +109,7 @@ pub fn block_too_deep(bands: [Band; 3], n: usize, planes: &[u32]) -> bool
     false
 }
 
-// The limits that a style gives: of a first segment, and of one behind a limit 2 and any other.
+// The limits that a style gives: of a first segment, and of one after a limit 2 and any other.
 pub struct Limits {
     pub first: u32,
     pub second: u32,

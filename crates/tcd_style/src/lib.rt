@@ -57,7 +57,7 @@ impl Style {
         if self.bypasses() { 10 } else { 109 }
     }
 
-    // The passes that a segment can hold behind one with this limit.
+    // The passes that a segment can hold after one with this limit.
     pub fn next_limit(self, limit: u32) -> u32
         ensures { λ r. ⌜ r ≡ nextLimit (self .bits) limit ⌝ }
     {
@@ -71,7 +71,7 @@ impl Style {
     }
 }
 
-// A marker in a packet (T.800, A.8): the byte behind its first, and its bytes with all that belongs to it.
+// A marker in a packet (T.800, A.8): the byte after its first, and its bytes with all that belongs to it.
 pub struct Marker {
     pub second: u8,
     pub bytes: usize,

@@ -3,6 +3,7 @@ use Prim.Native.Nat.{ℕ, _+_, _-_, _*_, _/_, _^_, _≤_, _<_}
 use mathlib.Core.List.{List, [], _∷_, _++_}
 use lib.ListN.{length, getD, take, replicate}
 use Rattle.t800.specs.declared.Level.{Level}
+use Rattle.t800.specs.TagTree.{noLevel}
 
 -- on each level the first node of the row that lies over row y of the first, whose nodes are numbered from n on
 unfoldable pub rowFrom : List Level → ℕ → ℕ → List ℕ
@@ -38,9 +39,6 @@ pub record NodesIn (size base : ℕ) (row : List ℕ) (levels x : ℕ) : Type 0 
   pub atMostSeven : levels ≤ 7
   pub long : levels ≤ length row
   pub inside : (i : ℕ) → i < levels → base + 3 * (getD row i 0 + x / 2 ^ i) + 2 < size
-
-abbrev pub noLevel : Level
-noLevel = record { w = 0; h = 0 }
 
 -- the levels of a tree of that depth, with sides up to 64
 pub record SmallLevels (ls : List Level) (depth : ℕ) : Type 0 where

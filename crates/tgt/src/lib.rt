@@ -10,15 +10,15 @@ use t800::Bio;
 use t800::Level;
 
 // What a node leaves to the next: its low, and where the bits stand.
-pub struct Behind {
+pub struct AfterNode {
     pub low: u32,
     pub bio: Bio,
 }
 
 // ---- bits
 
-// Behind k bits of the held word, read, or put as zeros.
-pub fn behind_bits(b: Bio, k: u32) -> Bio
+// After k bits of the held word, read, or put as zeros.
+pub fn after_bits(b: Bio, k: u32) -> Bio
     requires { ⌜ k ≤ b .ct ⌝ }
     ensures { λ r. ⌜ r ≡ record { bp = b .bp; buf = b .buf; ct = b .ct - k } ⌝ }
 {

@@ -10,7 +10,7 @@ use Rattle.t800.specs.TagTree as t800
 use Rattle.t800.specs.TagTree.{PathRead, value, low, readNode}
 use Rattle.t800.specs.State.{Block}
 use Rattle.bio_read.specs.declared.Decoded.{Decoded}
-use Rattle.tgt.specs.declared.Behind.{Behind}
+use Rattle.tgt.specs.declared.AfterNode.{AfterNode}
 use Rattle.tgt.specs.Path.{pathOver}
 use Rattle.tgt_read.specs.declared.NodeRead.{NodeRead}
 use Rattle.tgt_read.specs.declared.LeafRead.{LeafRead}
@@ -63,7 +63,7 @@ pub record NodeAfter : Type 0 where
   pub bio : Bio
   pub low : ℕ
 
-abbrev pub nodeAfter : List ℕ → Behind → NodeAfter
+abbrev pub nodeAfter : List ℕ → AfterNode → NodeAfter
 nodeAfter ws r = record { words = ws; bio = r .bio; low = r .low }
 
 -- the node at `at` with the threshold t, l being the parent's low; `readPath` does this at each node
@@ -75,7 +75,7 @@ readAt src t at l ws b =
 
 -- ---- zeros in the held word
 
--- of the bits that are still to be read the first z are 0, and a 1 is behind them unless they are all
+-- of the bits that are still to be read the first z are 0, and a 1 follows unless they are all
 pub record LeadingZeros (b : Bio) (z : ℕ) : Type 0 where
   pub atMost : z ≤ b .ct
   pub zeros : b .buf / 2 ^ (b .ct - z) % 2 ^ z ≡ 0

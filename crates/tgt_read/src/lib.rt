@@ -13,7 +13,7 @@ ghost use Rattle.tgt.specs.Path.{pathOver, leafWord, PathIn, NodesIn};
 ghost use Rattle.tgt_read.specs.Reading.{pathRead, leafAfter, belowIn, valueAfter, valueIn, leafOf, nodeRead, nodeAfter, readAt, LeadingZeros};
 use bio_read::Decoded;
 use t800::Bio;
-use tgt::Behind;
+use tgt::AfterNode;
 
 // A node's value and low after a read, and where reading goes on.
 struct NodeRead {
@@ -44,7 +44,7 @@ fn leading_zeros(b: Bio) -> u32
     u32::leading_zeros(held(b)) - above
 }
 
-// Whether a node's bits go on behind the held word.
+// Whether a node's bits go on after the held word.
 fn runs_on(b: Bio, left: u32) -> bool
     requires { ⌜ b .ct ≤ 8 ⌝ }
     ensures { λ r. ⌜ r ≡ (ltb (b .ct) left && eqb (b .buf % 2 ^ (b .ct)) 0) ⌝ }
@@ -92,19 +92,19 @@ fn seek_chunks(src: &[u8], b: Bio, value: u32, low: u32, left: u32) -> NodeRead
     }
     let z = leading_zeros(bio);
     if more <= z {
-        let behind = tgt::behind_bits(bio, more);
+        let after = tgt::after_bits(bio, more);
         return NodeRead {
             value,
             low: from + more,
-            bio: behind,
+            bio: after,
         };
     }
     let reached = from + z;
-    let behind = tgt::behind_bits(bio, z + 1);
+    let after = tgt::after_bits(bio, z + 1);
     NodeRead {
         value: reached,
         low: reached,
-        bio: behind,
+        bio: after,
     }
 }
 
@@ -119,7 +119,14 @@ fn seek(src: &[u8], b: Bio, value: u32, low: u32, left: u32) -> NodeRead
     seek_chunks(src, b, value, low, left)
 }
 
-fn decode_node(words: &mut [u32], src: &[u8], b: Bio, at: usize, low: u32, threshold: u32) -> Behind
+fn decode_node(
+    words: &mut [u32],
+    src: &[u8],
+    b: Bio,
+    at: usize,
+    low: u32,
+    threshold: u32,
+) -> AfterNode
     requires { ⌜ (b .ct ≤ 8) × (at + 2 < length (now words)) ⌝ }
     ensures { λ r. ⌜ nodeAfter (now (words .exit)) r ≡ readAt (now (src .entry)) threshold at low (now (words .entry)) b ⌝ }
 {
@@ -128,13 +135,13 @@ fn decode_node(words: &mut [u32], src: &[u8], b: Bio, at: usize, low: u32, thres
     let limit = math::opj_uint_min(value, threshold);
     if limit <= from {
         words[at + 1] = from;
-        return Behind { low: from, bio: b };
+        return AfterNode { low: from, bio: b };
     }
     let r = seek(src, b, value, from, limit - from);
     words[at] = r.value;
     words[at + 1] = r.low;
     let bio = r.bio;
-    Behind { low: r.low, bio }
+    AfterNode { low: r.low, bio }
 }
 
 // The leaf's nodes on the first levels, from the top down; `above` is the low of the node over them.
@@ -214,6 +221,9 @@ pub fn opj_tgt_decode(
     }
 }
 
+// A value is at most NOT_YET_PLANES, so that it lies below this threshold at the latest.
+const LAST_THRESHOLD: u32 = tcd_style::NOT_YET_PLANES + 1;
+
 // The threshold is raised until the leaf's value lies below it.
 fn raise(
     words: &mut [u32],
@@ -229,7 +239,7 @@ fn raise(
 {
     let mut bio = b;
     let mut threshold: u32 = 0;
-    while threshold < 1001 {
+    while threshold <= LAST_THRESHOLD {
         let r = opj_tgt_decode(words, src, bio, base, row, depth, x, threshold);
         bio = r.bio;
         if r.below {
@@ -254,7 +264,7 @@ fn read_planes(
     ensures { λ r. ⌜ pathRead (now (words .exit)) r ≡ readZeroPlanesFrom (now (src .entry)) (leafOf base (now (row .entry)) depth x) (notYetPlanes + 2) 0 (now (words .entry)) b ⌝ }
 {
     if depth == 1 {
-        return decode_path(words, src, b, base, row, depth, x, 1000);
+        return decode_path(words, src, b, base, row, depth, x, LAST_THRESHOLD);
     }
     raise(words, src, b, base, row, depth, x)
 }

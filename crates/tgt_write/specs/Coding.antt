@@ -7,7 +7,7 @@ use lib.ListN.{getD, set}
 use Rattle.t800.specs.declared.Bio.{Bio}
 use Rattle.t800.specs.TagTree.{Coded, value, low, known, lowAfter, nodeBits, knownAfter}
 use Rattle.bio_bytes.specs.Writing.{Output, output, putBits}
-use Rattle.tgt.specs.declared.Behind.{Behind}
+use Rattle.tgt.specs.declared.AfterNode.{AfterNode}
 
 -- ---- a leaf
 
@@ -31,7 +31,7 @@ pub record NodeCoded : Type 0 where
   pub output : Output
   pub low : ℕ
 
-abbrev pub nodeCoded : List ℕ → List ℕ → Behind → NodeCoded
+abbrev pub nodeCoded : List ℕ → List ℕ → AfterNode → NodeCoded
 nodeCoded ws bytes r = record { words = ws; output = output bytes (r .bio); low = r .low }
 
 -- the node at `at`, with the threshold t, where its low is at least `from`; `codePath` does this at each node

@@ -11,7 +11,7 @@ ghost use Rattle.bio_bytes.specs.Writing.{output, putBits, FreeBitsClear};
 ghost use Rattle.tgt.specs.Path.{pathOver, PathIn};
 ghost use Rattle.tgt_write.specs.Coding.{leafCoded, putCoded, told, nodeCoded, codeFrom, codeNode};
 use t800::Bio;
-use tgt::Behind;
+use tgt::AfterNode;
 
 // As many zeros at a time as the held byte has room for.
 fn zeros(out: &mut [u8], b: Bio, n: u32) -> Bio
@@ -24,7 +24,7 @@ fn zeros(out: &mut [u8], b: Bio, n: u32) -> Bio
         left -= bio.ct;
         bio = bio_bytes::opj_bio_byteout(out, bio);
     }
-    tgt::behind_bits(bio, left)
+    tgt::after_bits(bio, left)
 }
 
 // Whether a node's value is told: but for its low, its words stay as they are, and no bit is put.
@@ -57,7 +57,7 @@ fn encode_from(
     at: usize,
     from: u32,
     threshold: u32,
-) -> Behind
+) -> AfterNode
     requires { ⌜ (FreeBitsClear b) × (at + 2 < length (now words)) × (from < threshold) ⌝ }
     ensures { λ r. ⌜ nodeCoded (now (words .exit)) (now (out .exit)) r ≡ codeFrom threshold at from (now (words .entry)) (output (now (out .entry)) b) ⌝ }
 {
@@ -65,13 +65,10 @@ fn encode_from(
     words[at + 1] = to;
     let bio = zeros(out, b, to - from);
     if threshold <= to {
-        return Behind { low: to, bio };
+        return AfterNode { low: to, bio };
     }
-    let behind = tell(words, out, bio, at + 2);
-    Behind {
-        low: to,
-        bio: behind,
-    }
+    let told = tell(words, out, bio, at + 2);
+    AfterNode { low: to, bio: told }
 }
 
 // Whether a node has one bit to put: the threshold lies one above low, and the value isn't told.
@@ -93,7 +90,7 @@ fn reached(value: u32, threshold: u32) -> u32
 }
 
 // The node's one bit: a 0 raises low to the threshold, a 1 tells the value.
-fn encode_one(words: &mut [u32], out: &mut [u8], b: Bio, at: usize, threshold: u32) -> Behind
+fn encode_one(words: &mut [u32], out: &mut [u8], b: Bio, at: usize, threshold: u32) -> AfterNode
     requires { ⌜ (FreeBitsClear b) × (at + 2 < length (now words)) × (1 ≤ threshold) × (getD (now words) (at + 2) 0 ≡ 0) ⌝ }
     ensures { λ r. ⌜ nodeCoded (now (words .exit)) (now (out .exit)) r ≡ codeFrom threshold at (threshold - 1) (now (words .entry)) (output (now (out .entry)) b) ⌝ }
 {
@@ -102,7 +99,7 @@ fn encode_one(words: &mut [u32], out: &mut [u8], b: Bio, at: usize, threshold: u
     words[at + 1] = low;
     words[at + 2] = bit;
     let bio = bio_lent::bit_out(out, b, bit);
-    Behind { low, bio }
+    AfterNode { low, bio }
 }
 
 fn encode_above(
@@ -112,7 +109,7 @@ fn encode_above(
     at: usize,
     from: u32,
     threshold: u32,
-) -> Behind
+) -> AfterNode
     requires { ⌜ (FreeBitsClear b) × (at + 2 < length (now words)) × (from < threshold) ⌝ }
     ensures { λ r. ⌜ nodeCoded (now (words .exit)) (now (out .exit)) r ≡ codeFrom threshold at from (now (words .entry)) (output (now (out .entry)) b) ⌝ }
 {
@@ -121,7 +118,7 @@ fn encode_above(
     }
     if nothing_to_tell(words[at], words[at + 2], from) {
         words[at + 1] = from;
-        return Behind { low: from, bio: b };
+        return AfterNode { low: from, bio: b };
     }
     encode_from(words, out, b, at, from, threshold)
 }
@@ -133,14 +130,14 @@ fn encode_node(
     at: usize,
     low: u32,
     threshold: u32,
-) -> Behind
+) -> AfterNode
     requires { ⌜ (FreeBitsClear b) × (at + 2 < length (now words)) ⌝ }
     ensures { λ r. ⌜ nodeCoded (now (words .exit)) (now (out .exit)) r ≡ codeNode threshold at low (now (words .entry)) (output (now (out .entry)) b) ⌝ }
 {
     let from = math::opj_uint_max(low, words[at + 1]);
     if threshold <= from {
         words[at + 1] = from;
-        return Behind { low: from, bio: b };
+        return AfterNode { low: from, bio: b };
     }
     encode_above(words, out, b, at, from, threshold)
 }

@@ -1,5 +1,6 @@
--- Shifts and masks of the held word as plain arithmetic.
+-- The held word: shifts and masks as plain arithmetic, and how many of its bits there are.
 use mathlib.Core.Path.{_≡_, _∙_, ap, subst}
+use mathlib.Core.Bool.{Bool, true, false, cond}
 use Prim.Native.Nat.{ℕ, _+_, _*_, _/_, _%_, _^_, _<_, _≤_}
 use native.Mathlib.Nat.{mul-le-mul-right}
 use native.Mathlib.Omega.{arith}
@@ -7,8 +8,16 @@ use lib.Bits.{bitAnd, bitOr, and-mask, or-shifted}
 use lib.Pow.{shl-exact, shl-lt, split, pow-add}
 use Rattle.t800.specs.declared.Bio.{Bio}
 
+abbrev pub bioOf : ℕ → ℕ → ℕ → Bio
+bioOf p u c = record { bp = p; buf = u; ct = c }
+
 pub bio≡ : (x y : Bio) → x .bp ≡ y .bp → x .buf ≡ y .buf → x .ct ≡ y .ct → x ≡ y
 bio≡ x y p q r = λ i. record { bp = p i; buf = q i; ct = r i }
+
+-- how many bits follow a byte
+pub seven-or-eight : (t : Bool) → (7 ≤ cond t 7 8) × (cond t 7 8 ≤ 8)
+seven-or-eight true = omega arith
+seven-or-eight false = omega arith
 
 -- (u << 8) & 0xffff
 pub moved-is : (u : ℕ) → bitAnd (u * 256 % 4294967296) 65535 ≡ u * 256 % 65536
@@ -33,8 +42,8 @@ or-above u y k r e h l =
 
 -- (v << k) | x, where v has j bits and x has k
 module _ (v x j k : ℕ) (fits : v < 2 ^ j) (low : x < 2 ^ k) (room : j + k ≤ 32) where
-  pub or-behind : bitOr (v * 2 ^ k % 4294967296) x ≡ v * 2 ^ k + x
-  or-behind = ap (λ (z : ℕ). bitOr z x) (shl-exact j k 32 fits room) ∙ or-shifted v k x low
+  pub or-after : bitOr (v * 2 ^ k % 4294967296) x ≡ v * 2 ^ k + x
+  or-after = ap (λ (z : ℕ). bitOr z x) (shl-exact j k 32 fits room) ∙ or-shifted v k x low
 
-  pub behind-fits : v * 2 ^ k + x < 2 ^ (j + k)
-  behind-fits = omega (arith, mul-le-mul-right (2 ^ k) fits, pow-add 2 j k)
+  pub after-fits : v * 2 ^ k + x < 2 ^ (j + k)
+  after-fits = omega (arith, mul-le-mul-right (2 ^ k) fits, pow-add 2 j k)

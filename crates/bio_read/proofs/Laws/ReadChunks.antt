@@ -11,9 +11,8 @@ use lib.Pow.{mod-pow-add, shr-shr, pow-pos}
 use borrow.Author.Tests.{ne-eqb, eqb-false}
 use Rattle.t800.specs.declared.Bio.{Bio}
 use Rattle.t800.specs.Bits.{Decoded, byteIn, heldBit, getBit, readBitsOnto, readBits}
+use Rattle.bio_bytes.proofs.Laws.HeldWord.{bioOf, seven-or-eight}
 use Rattle.bio_read.specs.Chunks.{refill, heldBits}
-use Rattle.bio_write.proofs.Laws.FreeBits.{seven-or-eight}
-use Rattle.bio_write.proofs.Laws.WriteChunks.{bioOf}
 
 -- ---- at most eight bits are held
 
@@ -46,7 +45,7 @@ pub readBits-ct : (src : List ℕ) (n : ℕ) (b : Bio) → b .ct ≤ 8 → readB
 unfolding readBits
 readBits-ct src n b h = onto-ct src n 0 b h
 
--- ---- the place is at most one behind the input's end
+-- ---- the place is at most one past the input's end
 
 place-by : (src : List ℕ) (b : Bio) (t : Bool) → b .bp ≤ length src + 1 → cond t (byteIn src b) b .bp ≤ length src + 1
 unfolding byteIn
@@ -99,14 +98,15 @@ heldBits-ct b k h = omega arith
 abbrev found : ℕ → Bio → Decoded
 found v b = record { value = v; bio = b }
 
-get-held : (src : List ℕ) (p u c : ℕ) → getBit src (bioOf p u (suc c)) ≡ found (u / 2 ^ c % 2) (bioOf p u c)
+-- a bit where one is held
+pub get-held : (src : List ℕ) (p u c : ℕ) → getBit src (bioOf p u (suc c)) ≡ found (u / 2 ^ c % 2) (bioOf p u c)
 unfolding getBit heldBit
 get-held src p u c =
     let e : suc c - 1 ≡ c = omega arith in
     let z : suc c ≡ 0 → ⊥ = omega arith in
     simp (ne-eqb (suc c) 0 z, e)
 
--- the top bit x of k + 1, and the k below it, behind v
+-- the top bit x of k + 1, and the k below it, after v
 top-and-rest : (v x q m : ℕ) → (2 * v + x) * q + m ≡ v * (2 * q) + (x * q + m)
 top-and-rest v x q m = omega arith
 
@@ -140,10 +140,10 @@ onto-held src b k v h =
 
 pub heldBits-is : (src : List ℕ) (b : Bio) (k : ℕ) → k ≤ b .ct → heldBits b k ≡ readBits src k b
 unfolding readBits
-heldBits-is src b k h = (λ i. found (behind-none i) (heldBits b k .bio)) ∙ sym (onto-held src b k 0 h)
+heldBits-is src b k h = (λ i. found (after-none i) (heldBits b k .bio)) ∙ sym (onto-held src b k 0 h)
   where
-    behind-none : heldBits b k .value ≡ 0 * 2 ^ k + heldBits b k .value
-    behind-none = omega arith
+    after-none : heldBits b k .value ≡ 0 * 2 ^ k + heldBits b k .value
+    after-none = omega arith
 
 pub getBit-read : (src : List ℕ) (b : Bio) → getBit src b ≡ readBits src 1 b
 unfolding readBits readBitsOnto

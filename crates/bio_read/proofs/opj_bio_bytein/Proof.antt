@@ -23,7 +23,7 @@ returns c =
     bio≡ _ _
     (omega arith)
     (ap₂ bitOr (moved-is (b .buf)) (c .wide .ensures) ∙ or-byte (b .buf) (getD src (b .bp) 0) (omega (arith, c .before .shared-slice-known2 .given (b .bp))))
-    (c .before .before .before .bits-behind .ensures ∙ ap (λ (u : ℕ). cond (eqb u 0xff00) 7 8) (moved-is (b .buf)))
+    (c .before .before .before .bits-after .ensures ∙ ap (λ (u : ℕ). cond (eqb u 0xff00) 7 8) (moved-is (b .buf)))
 
 returns-2 : tie.Need-returns-2
 unfolding byteIn
@@ -34,7 +34,7 @@ returns-2 c =
     bio≡ _ _
     (omega arith)
     (moved-is (b .buf) ∙ omega (arith, List·getD-eq-default (s .args .src .now) 0 (c .if1 .left)))
-    (c .before .bits-behind .ensures ∙ ap (λ (u : ℕ). cond (eqb u 0xff00) 7 8) (moved-is (b .buf)))
+    (c .before .bits-after .ensures ∙ ap (λ (u : ℕ). cond (eqb u 0xff00) 7 8) (moved-is (b .buf)))
 
 pub opj-bio-bytein-spec : {M : Type 1} → statement M
 opj-bio-bytein-spec =

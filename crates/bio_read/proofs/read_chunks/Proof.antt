@@ -1,4 +1,4 @@
--- `bio_read::read_chunks` meets its contract. The invariant: what is left to read, behind what is read, is the whole.
+-- `bio_read::read_chunks` meets its contract. The invariant: what is left to read, after what is read, is the whole.
 -- Assumes nothing.
 use mathlib.Core.Path.{_≡_, refl, sym, ap, _∙_, subst}
 use mathlib.Core.List.{List}
@@ -8,7 +8,7 @@ use borrow.Author.Needs.{needs}
 use Rattle.t800.specs.declared.Bio.{Bio}
 use Rattle.t800.specs.Bits.{Decoded, readBitsOnto, readBits}
 use Rattle.bio_read.specs.Chunks.{refill}
-use Rattle.bio_bytes.proofs.Laws.HeldWord.{or-behind, behind-fits}
+use Rattle.bio_bytes.proofs.Laws.HeldWord.{or-after, after-fits}
 use Rattle.bio_read.proofs.Laws.ReadChunks.{refill-ct, heldBits-below, heldBits-ct, read-turn}
 use Rattle.bio_read.proofs.read_chunks.Statement.{statement}
 use Rattle.bio_read.proofs.read_chunks.Tie as tie
@@ -69,11 +69,11 @@ loop-again c =
     let small : g .value < 2 ^ k = subst (λ (d : Decoded). d .value < 2 ^ k) (sym h) (heldBits-below m k) in
     let q : n - l .left + k ≡ n - (l .left - k) = omega (arith, l .inv .1) in
     let fit : n - l .left + k ≤ 32 = omega (arith, l .inv .1, l .inv .2) in
-    let is = or-behind (l .value) (g .value) (n - l .left) k (l .inv .3) small fit in (
+    let is = or-after (l .value) (g .value) (n - l .left) k (l .inv .3) small fit in (
       subst (λ (d : Decoded). d .bio .ct ≤ 8) (sym h) (heldBits-ct m k (r .1)),
       omega (arith, l .inv .1),
       l .inv .2,
-      rw is (rw q at (behind-fits (l .value) (g .value) (n - l .left) k (l .inv .3) small fit)),
+      rw is (rw q at (after-fits (l .value) (g .value) (n - l .left) k (l .inv .3) small fit)),
       ap (λ (v : ℕ). readBitsOnto src (l .left - k) v (g .bio)) is
           ∙ ap (λ (d : Decoded). readBitsOnto src (l .left - k) (l .value * 2 ^ k + d .value) (d .bio)) h
           ∙ read-turn src (l .bio) m (l .left) k (l .value) (l .inv .0) (c .before .before .before .before .refill .ensures) (c .before .before .before .before .before .loop-test .taken) (omega arith) (omega arith)

@@ -1,4 +1,4 @@
--- Writing keeps `FreeBitsClear`, and makes room; an output keeps its length.
+-- Writing keeps `FreeBitsClear`, and makes room.
 use mathlib.Core.Path.{_≡_, refl, _∙_, sym, ap}
 use mathlib.Core.Bool.{Bool, true, false, cond}
 use mathlib.Core.List.{List, [], _∷_, _++_}
@@ -6,20 +6,16 @@ use Prim.Native.Nat.{ℕ, _+_, _-_, _*_, _%_, _^_, _≤_}
 use native.Mathlib.Nat.{add-mul-mod-self-right, zero-mod}
 use native.Mathlib.Omega.{arith}
 use lib.Dec.{eqb}
-use lib.ListN.{length, length-set}
 use lib.Pow.{mod-mod-pow}
 use borrow.Author.Tests.{eqb-false}
 use Rattle.t800.specs.declared.Bio.{Bio}
 use Rattle.bio_bytes.specs.Writing.{Output, emptyAt, byteOut, makeRoom, holdBit, putBit, putBits, FreeBitsClear}
+use Rattle.bio_bytes.proofs.Laws.HeldWord.{seven-or-eight}
 
 pub emptyAt-clear : (p : ℕ) → FreeBitsClear (emptyAt p)
 emptyAt-clear p = record { atMostEight = omega arith; clear = refl }
 
 -- ---- seven or eight bits follow a byte, and they are free
-
-pub seven-or-eight : (t : Bool) → (7 ≤ cond t 7 8) × (cond t 7 8 ≤ 8)
-seven-or-eight true = omega arith
-seven-or-eight false = omega arith
 
 moved-clear : (t : Bool) (u : ℕ) → u * 256 % 65536 % 2 ^ cond t 7 8 ≡ 0
 moved-clear true u = omega arith
@@ -71,13 +67,3 @@ pub putBits-append : (o : Output) (xs ys : List ℕ) → putBits o (xs ++ ys) �
 unfolding putBits
 putBits-append o [] ys = refl
 putBits-append o (x ∷ xs) ys = putBits-append (putBit o x) xs ys
-
-room-length : (o : Output) (t : Bool) → length (cond t (byteOut o) o .bytes) ≡ length (o .bytes)
-unfolding byteOut
-room-length o true = length-set (o .bytes) (o .bio .bp) (o .bio .buf % 256)
-room-length o false = refl
-
-pub putBits-length : (o : Output) (bits : List ℕ) → length (putBits o bits .bytes) ≡ length (o .bytes)
-unfolding putBits putBit makeRoom
-putBits-length o [] = refl
-putBits-length o (x ∷ xs) = putBits-length (putBit o x) xs ∙ room-length o (eqb (o .bio .ct) 0)

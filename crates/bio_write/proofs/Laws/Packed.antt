@@ -1,18 +1,19 @@
 -- What is written from the start and flushed is t800's `pack`: byte by byte where the output has room, and nothing else of it changes.
 use mathlib.Core.Path.{_≡_, refl, sym, ap, _∙_, subst}
 use mathlib.Core.Bool.{Bool, true, false, cond}
-use mathlib.Core.List.{List, [], _∷_, _++_}
+use mathlib.Core.List.{List, [], _∷_}
 use Prim.Native.Nat.{ℕ, zero, suc, _+_, _-_, _*_, _%_, _^_, _≤_, _<_, min}
 use native.Mathlib.Omega.{arith}
 use lib.Dec.{eqb, ltb}
-use lib.ListN.{length, set, take, drop, length-set}
-use lib.Seq.{sets, sets-eq, set-out}
+use lib.ListN.{length, set, length-set}
+use lib.Seq.{sets, set-out}
 use borrow.Author.Tests.{eq-eqb, ne-eqb, eqb-true, eqb-false, ltb-true, ltb-false}
 use Rattle.t800.specs.Bits.{bitsAfter, lastBytes, packFrom, pack}
 use Rattle.t800.proofs.Laws.Pack.{AreBits}
 use Rattle.bio_bytes.specs.Writing.{Output, output, emptyAt, lastPlace, placeAfter, byteOut, makeRoom, holdBit, putBit, putBits, flush, FreeBitsClear}
+use Rattle.bio_bytes.proofs.Laws.HeldWord.{bioOf}
 use Rattle.bio_write.proofs.Laws.FreeBits.{emptyAt-clear, putBit-clear}
-use Rattle.bio_write.proofs.Laws.WriteChunks.{bioOf, put-held}
+use Rattle.bio_write.proofs.Laws.WriteChunks.{put-held}
 
 -- ---- a held byte with free bits that are 0 takes a bit
 
@@ -30,7 +31,7 @@ byte-takes (suc (suc (suc (suc (suc (suc (suc (suc c)))))))) u x l e h = absurd 
 
 -- ---- bytes stored from p on
 
--- the output e is o with the bytes from p on, where it has room for them, and its place is behind them
+-- the output e is o with the bytes from p on, where it has room for them, and its place is after them
 pub record Stores (e : Output) (o : List ℕ) (p : ℕ) (bytes : List ℕ) : Type 0 where
   pub stored : e .bytes ≡ sets o p bytes
   pub place : e .bio .bp ≡ min (p + length bytes) lastPlace
@@ -42,7 +43,7 @@ sets-out (v ∷ vs) l i h =
     let n = length-set l i v in
     sets-out vs (set l i v) (suc i) (omega arith) ∙ e
 
--- a place that doesn't move on lies behind the output
+-- a place that doesn't move on lies past the output
 sets-after : (vs o : List ℕ) (p : ℕ) (t : Bool) → ltb p lastPlace ≡ t → length o ≤ lastPlace → sets o (placeAfter p) vs ≡ sets o (suc p) vs
 unfolding placeAfter
 sets-after vs o p true e l =
@@ -53,7 +54,7 @@ sets-after vs o p false e l =
     let h = ltb-false p lastPlace e in
     sets-out vs o (min (p + 1) lastPlace) (omega arith) ∙ sym (sets-out vs o (suc p) (omega arith))
 
--- one byte, and those behind it
+-- one byte, and those after it
 stores-cons : (e : Output) (o : List ℕ) (p v : ℕ) (vs : List ℕ) → length o ≤ lastPlace → Stores e (set o p v) (placeAfter p) vs → Stores e o p (v ∷ vs)
 unfolding placeAfter
 stores-cons e o p v vs l s =
@@ -125,17 +126,13 @@ stores-packed (x ∷ xs) o p u (suc c) h are l =
 
 -- ---- from the start
 
--- Bits that are put from the start at p and flushed store `pack bits` from p on, and end behind it.
+-- Bits that are put from the start at p and flushed store `pack bits` from p on, and end after it.
 pub flushed-is-packed : (bytes : List ℕ) (p : ℕ) (bits : List ℕ) → AreBits bits → length bytes ≤ lastPlace
     → Stores (flush (putBits (output bytes (emptyAt p)) bits)) bytes p (pack bits)
 unfolding pack
 flushed-is-packed bytes p bits are l = stores-packed bits bytes p 0 8 (emptyAt-clear p) are l
 
--- A place that there is, is behind them; and where the output has room for all, it is as it was before and behind them.
+-- the place after them, if there is one
 module _ (bytes : List ℕ) (p : ℕ) (bits : List ℕ) (are : AreBits bits) (l : length bytes ≤ lastPlace) where
   pub packed-place : p + length (pack bits) ≤ lastPlace → flush (putBits (output bytes (emptyAt p)) bits) .bio .bp ≡ p + length (pack bits)
   packed-place h = omega (arith, flushed-is-packed bytes p bits are l .place)
-
-  pub packed-whole : p + length (pack bits) ≤ length bytes
-      → flush (putBits (output bytes (emptyAt p)) bits) .bytes ≡ take p bytes ++ pack bits ++ drop (p + length (pack bits)) bytes
-  packed-whole h = flushed-is-packed bytes p bits are l .stored ∙ sets-eq (pack bits) bytes p h

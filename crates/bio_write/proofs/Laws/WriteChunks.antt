@@ -9,11 +9,9 @@ use borrow.Author.Tests.{ne-eqb}
 use Rattle.t800.specs.declared.Bio.{Bio}
 use Rattle.t800.specs.Bits.{bitsOf}
 use Rattle.bio_bytes.specs.Writing.{Output, output, makeRoom, holdBit, putBit, putBits, FreeBitsClear}
+use Rattle.bio_bytes.proofs.Laws.HeldWord.{bioOf}
 use Rattle.bio_write.specs.Chunks.{holdBits}
 use Rattle.bio_write.proofs.Laws.FreeBits.{makeRoom-clear, putBits-clear, putBits-append}
-
-abbrev pub bioOf : ℕ → ℕ → ℕ → Bio
-bioOf p u c = record { bp = p; buf = u; ct = c }
 
 -- a bit where one is free
 pub put-held : (o : List ℕ) (p u c x : ℕ) → putBit (output o (bioOf p u (suc c))) x ≡ output o (bioOf p (u + x * 2 ^ c) c)

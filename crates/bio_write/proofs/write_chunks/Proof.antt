@@ -1,4 +1,4 @@
--- `bio_write::write_chunks` meets its contract. The invariant: what is left to write, behind what is there, is the whole.
+-- `bio_write::write_chunks` meets its contract. The invariant: what is left to write, after what is there, is the whole.
 -- Assumes nothing.
 use mathlib.Core.Path.{_≡_, refl, sym, ap, _∙_, subst}
 use mathlib.Core.List.{List}

@@ -1,19 +1,15 @@
 -- Rows put in order over a lent list are the words of the reports or records that were put.
 use mathlib.Core.Path.{_≡_, refl, sym, ap, _∙_}
 use mathlib.Core.List.{List, [], _∷_, _++_}
-use Prim.Native.Nat.{ℕ, suc, _+_, _*_, _/_, _≤_, _<_}
+use Prim.Native.Nat.{ℕ, suc, _+_, _*_, _/_, _<_}
 use native.Mathlib.Omega.{arith}
 use lib.ListN.{length, drop, length-append, length-drop}
 use lib.Seq.{sets-eq, take-at, drop-drop, drop-append-add}
-use borrow.Author.Tests.{lt-ltb, le-ltb}
+use borrow.Author.Tests.{lt-ltb}
 use Rattle.t800.specs.Base.{overwrite}
-use Rattle.t800.specs.Reports.{BlockReport, SegmentRecord, reportWords, recordWords}
-use Rattle.lists.specs.Rows.{putRow}
-
--- a row that isn't lent
-pub row-not-lent : (rows : List ℕ) (n a b c d : ℕ) → length rows / 4 ≤ n → putRow rows n a b c d ≡ rows
-unfolding putRow
-row-not-lent rows n a b c d h = rw (le-ltb n (length rows / 4) h)
+use Rattle.t800.specs.Reports.{BlockReport, SegmentRecord, reportWidth, recordWidth, reportWords, recordWords}
+use Rattle.t800.proofs.Laws.Lists.{record-words-length}
+use Rattle.lists.specs.Rows.{putRow, putReport, putRecord}
 
 -- row n over a list whose first n rows are xs
 row-over : (lent xs : List ℕ) (n a b c d : ℕ) → length xs ≡ 4 * n → n < length lent / 4 → putRow (overwrite lent xs) n a b c d ≡ overwrite lent (xs ++ (a ∷ b ∷ c ∷ d ∷ []))
@@ -34,26 +30,21 @@ row-over lent xs n a b c d l h =
 
 -- ---- records
 
-pub length-records : (rs : List SegmentRecord) → length (recordWords rs) ≡ 4 * length rs
-unfolding recordWords
-length-records [] = refl
-length-records (r ∷ rs) = let i = length-records rs in omega arith
-
 records-and-one : (rs : List SegmentRecord) (r : SegmentRecord) → recordWords (rs ++ (r ∷ [])) ≡ recordWords rs ++ (r .block ∷ r .opens ∷ r .passes ∷ r .bytes ∷ [])
 unfolding recordWords
 records-and-one [] r = refl
 records-and-one (s ∷ rs) r = rw (records-and-one rs r)
 
 -- the first rows are the records so far, and one more is lent
-pub record-put : (lent : List ℕ) (rs : List SegmentRecord) (r : SegmentRecord) → length rs < length lent / 4
-    → putRow (overwrite lent (recordWords rs)) (length rs) (r .block) (r .opens) (r .passes) (r .bytes) ≡ overwrite lent (recordWords (rs ++ (r ∷ [])))
+pub record-put : (lent : List ℕ) (rs : List SegmentRecord) (r : SegmentRecord) → length rs < length lent / recordWidth
+    → putRecord (overwrite lent (recordWords rs)) (length rs) (r .block) (r .opens) (r .passes) (r .bytes) ≡ overwrite lent (recordWords (rs ++ (r ∷ [])))
 record-put lent rs r h =
-    row-over lent (recordWords rs) (length rs) (r .block) (r .opens) (r .passes) (r .bytes) (length-records rs) h
+    row-over lent (recordWords rs) (length rs) (r .block) (r .opens) (r .passes) (r .bytes) (record-words-length rs) h
     ∙ sym (ap (overwrite lent) (records-and-one rs r))
 
 -- ---- reports
 
-pub length-reports : (rs : List BlockReport) → length (reportWords rs) ≡ 4 * length rs
+pub length-reports : (rs : List BlockReport) → length (reportWords rs) ≡ reportWidth * length rs
 unfolding reportWords
 length-reports [] = refl
 length-reports (r ∷ rs) = let i = length-reports rs in omega arith
@@ -63,13 +54,8 @@ unfolding reportWords
 reports-and-one [] r = refl
 reports-and-one (s ∷ rs) r = rw (reports-and-one rs r)
 
-pub report-put : (lent : List ℕ) (rs : List BlockReport) (r : BlockReport) → length rs < length lent / 4
-    → putRow (overwrite lent (reportWords rs)) (length rs) (r .inclusion) (r .zeroPlanes) (r .planes) (r .passes) ≡ overwrite lent (reportWords (rs ++ (r ∷ [])))
+pub report-put : (lent : List ℕ) (rs : List BlockReport) (r : BlockReport) → length rs < length lent / reportWidth
+    → putReport (overwrite lent (reportWords rs)) (length rs) (r .inclusion) (r .zeroPlanes) (r .planes) (r .passes) ≡ overwrite lent (reportWords (rs ++ (r ∷ [])))
 report-put lent rs r h =
     row-over lent (reportWords rs) (length rs) (r .inclusion) (r .zeroPlanes) (r .planes) (r .passes) (length-reports rs) h
     ∙ sym (ap (overwrite lent) (reports-and-one rs r))
-
--- before the first row is put, nothing stands over the list
-pub none-put : (lent : List ℕ) → overwrite lent [] ≡ lent
-unfolding overwrite
-none-put lent = refl

@@ -20,7 +20,7 @@ use Rattle.t800.proofs.Laws.Tests.{if-eq, if-ne, on-eq, on-lt, drop-head}
 abbrev bioWith : ℕ → ℕ → ℕ → Bio
 bioWith p u c = record { bp = p; buf = u; ct = c }
 
--- the next bit, and where reading goes on behind it
+-- the next bit, and where reading goes on after it
 abbrev pub nextBit : List ℕ → Bio → ℕ
 nextBit s b = getBit s b .value
 

@@ -154,7 +154,7 @@ module _ (L : Layout) (s t : ℕ) (k : Block) (P : Placed L k) (src : List ℕ) 
       (λ h. if-false (isNew rs k) _ _ (new-false rs k (λ q. h (sym same ∙ q)))
       ∙ sym (if-ne c 0 _ _ (omega arith) ∙ if-ne (e .passes) 0 _ _ (λ q. h (y .passes ∙ q))))
 
-  -- a block that is included, behind its inclusion
+  -- a block that is included, after its inclusion
   included-read : (ws rs : List ℕ) (b b₂ end : Bio) (reps : List BlockReport) (recs : List SegmentRecord) → InStep L s ws rs → Ready s t ws k e c ls ms → 0 < c
       → Reads src b (codeZeroPlanes k ws .bits) b₂ → Reads src b₂ (codePasses k c segments (codeZeroPlanes k ws .words) .bits) end
       → length recs + length (recordsOf s i (e .passes) ls) ≤ room

@@ -21,6 +21,7 @@ use Rattle.t800.specs.MarkerSegments.{readSop}
 use Rattle.t800.specs.Packet.{wrongLists, measureRefusal, front, packet, writeRefusal, WriteResult, write, readRefusal, readAbsent, readPresent, ReadResult, read}
 use Rattle.t800.specs.Book.{BlockEntry, addCounts, terminatedAsStyle}
 use Rattle.t800.specs.RoundTrip.{WriteCall, WriterCall, measuring, writing, writeOf, accepted, owedFor, owed, allTerminatedAsStyle, ReadCall, readOf}
+use Rattle.t800.specs.Reports.{recordWidth}
 use Rattle.t800.proofs.Laws.Tests.{not-refused, either, if-true, if-false}
 use Rattle.t800.proofs.Laws.Lists.{lists-right}
 use Rattle.round_trip.proofs.Trip.WriterState.{Acceptable}
@@ -59,9 +60,9 @@ of-false P false x y e p = p
 front-cut : (fr body output : List ℕ) (n : ℕ) → length body ≡ n → take (length (fr ++ body) - n) (overwrite output (fr ++ body)) ≡ fr
 unfolding overwrite
 front-cut fr body output n e =
-    let behind : List ℕ = drop (length (fr ++ body)) output in
+    let unused : List ℕ = drop (length (fr ++ body)) output in
     let l : length (fr ++ body) - n ≡ length fr = (let q = length-append fr body in omega arith) in
-    ap₂ (λ (k : ℕ) (z : List ℕ). take k z) l (append-assoc fr body behind) ∙ take-append-seam fr (body ++ behind)
+    ap₂ (λ (k : ℕ) (z : List ℕ). take k z) l (append-assoc fr body unused) ∙ take-append-seam fr (body ++ unused)
 
 module _ (ws scratch : List ℕ) (p : Contribution) (body : List ℕ) (m : Markers) (number : ℕ) (output : List ℕ) where
   abbrev why : ℕ
@@ -180,4 +181,4 @@ refused-read-keeps rs c =
     let first = getBit (c .input) (bioAt (readSop (c .markers) (c .input) .skip)) in
     either P (not (eqb (readRefusal rs (c .scratch) (c .reports)) 0)) _ _ (λ h. refl)
     (either P (eqb (first .value) 0) _ _ (λ h. absurd (omega (arith, h)))
-    (either P (eqb (readHeader (c .input) (length (c .records) / 4) rs (first .bio) .refusal) 0) _ _ (λ h. absurd (omega (arith, h))) (λ h. refl)))
+    (either P (eqb (readHeader (c .input) (length (c .records) / recordWidth) rs (first .bio) .refusal) 0) _ _ (λ h. absurd (omega (arith, h))) (λ h. refl)))

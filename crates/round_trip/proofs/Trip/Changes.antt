@@ -218,11 +218,11 @@ pub record BlocksCoded (L : Layout) (ws vs : List ℕ) (ks : List Block) (cs : L
   pub passes : PassesAdded ws vs ks cs
   pub first : (i : ℕ) → i < 13 → getD vs i 0 ≡ getD ws i 0
 
-added-behind : (L : Layout) (ws vs us : List ℕ) (k : Block) (c : ℕ) (ks : List Block) (cs : List ℕ) → BlockCoded L ws vs k c → SeparateFromAll k ks → AllPlaced L ks → PassesAdded vs us ks cs → PassesAdded ws us ks cs
-added-behind L ws vs us k c [] cs b o f p = tt
-added-behind L ws vs us k c (j ∷ js) [] b o f p = tt
-added-behind L ws vs us k c (j ∷ js) (d ∷ cs) b o f p =
-    (p .0 ∙ ap (λ (z : ℕ). z + d) (b .others (j .at) (f .0 .0 .block) (o .0 .1 .places) .0), added-behind L ws vs us k c js cs b (o .1) (f .1) (p .1))
+added-after : (L : Layout) (ws vs us : List ℕ) (k : Block) (c : ℕ) (ks : List Block) (cs : List ℕ) → BlockCoded L ws vs k c → SeparateFromAll k ks → AllPlaced L ks → PassesAdded vs us ks cs → PassesAdded ws us ks cs
+added-after L ws vs us k c [] cs b o f p = tt
+added-after L ws vs us k c (j ∷ js) [] b o f p = tt
+added-after L ws vs us k c (j ∷ js) (d ∷ cs) b o f p =
+    (p .0 ∙ ap (λ (z : ℕ). z + d) (b .others (j .at) (f .0 .0 .block) (o .0 .1 .places) .0), added-after L ws vs us k c js cs b (o .1) (f .1) (p .1))
 
 no-blocks-coded : (L : Layout) (ws : List ℕ) (ks : List Block) (cs : List ℕ) → PassesAdded ws ws ks cs → BlocksCoded L ws ws ks cs
 no-blocks-coded L ws ks cs p = record { long = refl; values = λ t a n. refl; others = λ q Q n. (refl, refl, refl, refl); passes = p; first = λ i h. refl }
@@ -242,6 +242,6 @@ blocks-coded L t (k ∷ ks) (c ∷ cs) ls ms ws f l =
       long = r .long ∙ b .long;
       values = λ u a n. r .values u a n ∙ b .values u a n;
       others = λ q Q n. same-then ws vs us q (b .others q Q (n .0)) (r .others q Q (n .1));
-      passes = (r .others (k .at) (P .block) (not-place k ks (f .0 .1)) .0 ∙ b .passes, added-behind L ws vs us k c ks cs b (f .0 .1) (f .1) (r .passes));
+      passes = (r .others (k .at) (P .block) (not-place k ks (f .0 .1)) .0 ∙ b .passes, added-after L ws vs us k c ks cs b (f .0 .1) (f .1) (r .passes));
       first = λ i h. r .first i h ∙ b .first i h;
     }

@@ -13,7 +13,7 @@ use lib.Ieee.Fits.{and-l, and-r}
 use borrow.Author.Tests.{le-ltb, eq-eqb}
 use Rattle.t800.specs.declared.Band.{Band}
 use Rattle.t800.specs.Base.{sum, overwrite}
-use Rattle.t800.specs.Reports.{BlockReport, SegmentRecord, reportWords, recordWords}
+use Rattle.t800.specs.Reports.{BlockReport, SegmentRecord, reportWords, recordWords, reportWidth, recordWidth}
 use Rattle.t800.specs.State.{blocks, writer, reader}
 use Rattle.t800.specs.Start.{startRefusal, start}
 use Rattle.t800.specs.Book.{BlockEntry, Entry, reportOf, entryFrom, entry, newBook, addCounts, terminatedAsStyle}
@@ -74,7 +74,7 @@ owed-markers s ws es c = refl
 
 -- an input read with n reports and m records lent
 abbrev callFor : List ℕ → WriteCall → List ℕ → ℕ → ℕ → ReadCall
-callFor rs c input n m = record { scratch = replicate (length rs) 0; markers = c .markers; input = input; reports = replicate (4 * n) 0; records = replicate (4 * m) 0 }
+callFor rs c input n m = record { scratch = replicate (length rs) 0; markers = c .markers; input = input; reports = replicate (reportWidth * n) 0; records = replicate (recordWidth * m) 0 }
 
 reads-packet : (s : ℕ) (ws rs : List ℕ) (es : List BlockEntry) (c d : WriteCall) (input : List ℕ) (n m : ℕ) → c .markers ≡ d .markers → take (length (frontOf ws c)) input ≡ frontOf ws c
     → length (owedFor s ws es c .entry .reports) ≡ n → length (owedFor s ws es c .entry .records) ≤ m → ReadsPacket rs (owedFor s ws es c) (callFor rs d input n m)
@@ -83,8 +83,8 @@ reads-packet s ws rs es c d input n m marked begins reps recs =
       same-markers = sym marked ∙ sym (owed-markers s ws es c);
       begins = rw (owed-front s ws es c) begins;
       scratch-length = length-replicate {A = ℕ} (length rs) 0;
-      reports-length = length-replicate {A = ℕ} (4 * n) 0 ∙ ap (λ (z : ℕ). 4 * z) (sym reps);
-      records-enough = (let l = length-replicate {A = ℕ} (4 * m) 0 in omega (arith, recs));
+      reports-length = length-replicate {A = ℕ} (reportWidth * n) 0 ∙ ap (λ (z : ℕ). reportWidth * z) (sym reps);
+      records-enough = (let l = length-replicate {A = ℕ} (recordWidth * m) 0 in omega (arith, recs));
     }
 
 module _ (bs : List Band) (s : ℕ) where
@@ -218,7 +218,7 @@ module _ (s : ℕ) (ws : List ℕ) (es : List BlockEntry) (R : Reached s ws es) 
       let F : Entry = owedFor s ws es b .entry in
       let p : E .reports ≡ F .reports = reports-told (E .reports) (F .reports) (sym (gives-a .reports) ∙ gives-b .reports) in
       let n : length (E .records) ≡ length (F .records) = sym (gives-a .segments) ∙ gives-b .segments in
-      let l : length (recordWords (E .records)) ≡ length (recordWords (F .records)) = record-words-length (E .records) ∙ ap (λ (z : ℕ). 4 * z) n ∙ sym (record-words-length (F .records)) in
+      let l : length (recordWords (E .records)) ≡ length (recordWords (F .records)) = record-words-length (E .records) ∙ ap (λ (z : ℕ). recordWidth * z) n ∙ sym (record-words-length (F .records)) in
       let q : E .records ≡ F .records = records-told (E .records) (F .records) (over-same (call .records) (recordWords (E .records)) (recordWords (F .records)) l (sym (gives-a .records) ∙ gives-b .records)) in
       sym (owed-entry s ws es a) ∙ (λ i. record { reports = p i; records = q i }) ∙ owed-entry s ws es b
 
@@ -281,7 +281,7 @@ different-counts-differ s ws book R a b A B marked differ =
 abbrev pub NeverBroken : List ℕ → Owed → Type 0
 NeverBroken rs o =
     (c : ReadCall) → c .markers ≡ o .markers → take (length (o .front)) (c .input) ≡ o .front
-    → (readOf rs c .answer .refusal ≢ 9) × (readOf rs c .answer .refusal ≢ 12) × (readOf rs c .answer .refusal ≡ 13 → length (c .records) < 4 * length (o .entry .records))
+    → (readOf rs c .answer .refusal ≢ 9) × (readOf rs c .answer .refusal ≢ 12) × (readOf rs c .answer .refusal ≡ 13 → length (c .records) < recordWidth * length (o .entry .records))
 
 -- after any list of reads, refused ones and reads of the packets in order, the next packet is such
 unfoldable pub NextNeverBroken : List ℕ → List Owed → List ReaderCall → Type 0

@@ -13,7 +13,7 @@ use Rattle.t800.specs.Bits.{bitsOf, bitsAfter, lastBytes, packFrom, pack}
 use Rattle.t800.specs.TagTree.{Coded, levels, pathFrom, pathToRoot, setValue, lowAfter, nodeBits, knownAfter, codePath}
 use Rattle.t800.specs.PassCount.{passBits}
 use Rattle.t800.specs.Segments.{Segment, segmentsFrom, segmentsOf, width, increment, commaBits, lengthFields}
-use Rattle.t800.specs.State.{Block, notYetPlanes, blocksIn, bandLength, blocksFrom, blocksAt, blocks, passesSoFar}
+use Rattle.t800.specs.State.{Block, notYetIncluded, notYetPlanes, blocksIn, bandLength, blocksFrom, blocksAt, blocks, passesSoFar}
 use Rattle.t800.specs.WriteHeader.{Contribution, isNew, lengthBitsBefore, setNewBlocks, codeInclusion, codeZeroPlanes, codePasses, codeBlock, codeBlocks}
 use Rattle.t800.proofs.Laws.Levels.{at-most-seven-levels}
 use Rattle.t800.proofs.Laws.Layout.{Layout, inclusion, Placed, AllPlaced}
@@ -103,7 +103,7 @@ segments-up-to n bytes (l ∷ ls) (m ∷ ms) =
 
 -- ---- a block
 
-module _ (L : Layout) (k : Block) (P : Placed L k) (short : length (k .path) ≤ 7) (t c : ℕ) (layer : t < 999) (ls ms ws : List ℕ) where
+module _ (L : Layout) (k : Block) (P : Placed L k) (short : length (k .path) ≤ 7) (t c : ℕ) (layer : t < notYetIncluded) (ls ms ws : List ℕ) where
   inclusion-up-to : length (codeInclusion t k c ws .bits) ≤ 7000
   unfolding codeInclusion
   inclusion-up-to = either (λ (z : Coded). length (z .bits) ≤ 7000) (isNew ws k) _ _ (from-root (k .inclTree) (t + 1) (k .path) ws short (omega arith)) (omega arith)
@@ -157,7 +157,7 @@ abbrev ShortPaths : List Block → Type 0
 ShortPaths [] = Unit {0}
 ShortPaths (k ∷ ks) = (length (k .path) ≤ 7) × ShortPaths ks
 
-blocks-up-to : (L : Layout) (t : ℕ) (ks : List Block) (cs ls ms ws : List ℕ) → t < 999 → AllPlaced L ks → ShortPaths ks → length ws ≡ L .size → AllCodable t ws ks cs ls ms
+blocks-up-to : (L : Layout) (t : ℕ) (ks : List Block) (cs ls ms ws : List ℕ) → t < notYetIncluded → AllPlaced L ks → ShortPaths ks → length ws ≡ L .size → AllCodable t ws ks cs ls ms
     → length (codeBlocks t ks cs ls ms ws .bits) ≤ 20000 * length ks
 unfolding codeBlocks
 blocks-up-to L t [] cs ls ms ws h f s long d = omega arith
@@ -205,7 +205,7 @@ new-values L t (k ∷ ks) (c ∷ cs) ws f =
     (either (ValuesOnly L inclusion ws) (isNew ws k && ltb 0 c) _ _ (leaf-set L inclusion k (f .0 .0) t ws) (no-values L inclusion ws))
     (new-values L t ks cs vs (f .1))
 
-pub header-up-to : (L : Layout) (t : ℕ) (bs : List Band) (p : Contribution) (ws : List ℕ) → t < 999 → AllPlaced L (blocks bs) → length ws ≡ L .size → ((q : ℕ) → L .BlockAt q → passesSoFar ws q ≤ 164 * t)
+pub header-up-to : (L : Layout) (t : ℕ) (bs : List Band) (p : Contribution) (ws : List ℕ) → t < notYetIncluded → AllPlaced L (blocks bs) → length ws ≡ L .size → ((q : ℕ) → L .BlockAt q → passesSoFar ws q ≤ 164 * t)
     → Acceptable ws (blocks bs) p → length (headerBlocks t (blocks bs) p ws .bits) ≤ 20000 * length (blocks bs)
 unfolding blocks
 header-up-to L t bs p ws h f long most q =

@@ -26,6 +26,7 @@ use Rattle.t800.specs.ReadHeader.{readHeader}
 use Rattle.t800.specs.Packet.{front, ReadResult, readRefusal, readAbsent, readPresent, read}
 use Rattle.t800.specs.Book.{BlockEntry, entryFrom, entry, newBook, addCounts, terminatedAsStyle}
 use Rattle.t800.specs.RoundTrip.{WriteCall, writeOf, accepted, Owed, owedFor, ReadCall, readOf, ReadsPacket, GivesEntry, withMore}
+use Rattle.t800.specs.Reports.{reportWidth, recordWidth}
 use Rattle.t800.proofs.Laws.Lists.{no-planes}
 use Rattle.t800.proofs.Laws.Layout.{Layout, layoutOf, blocks-placed, end-after}
 use Rattle.t800.proofs.Laws.FirstWords.{FirstWords, next-layer}
@@ -84,9 +85,9 @@ entry-reports : (s : ℕ) (es : List BlockEntry) (cs ls : List ℕ) → length c
 unfolding entry
 entry-reports s es cs ls h = reports-length s 0 es cs ls h
 
-read-not-refused : (rs scratch reports : List ℕ) → validState reader rs (length scratch) ≡ true → layer rs ≢ notYetIncluded → length reports ≡ 4 * length (blocks (bands rs)) → readRefusal rs scratch reports ≡ 0
+read-not-refused : (rs scratch reports : List ℕ) → validState reader rs (length scratch) ≡ true → layer rs ≢ notYetIncluded → length reports ≡ reportWidth * length (blocks (bands rs)) → readRefusal rs scratch reports ≡ 0
 unfolding readRefusal
-read-not-refused rs scratch reports v l r = rw (v, ne-eqb (layer rs) notYetIncluded l, eq-eqb (length reports) (4 * length (blocks (bands rs))) r)
+read-not-refused rs scratch reports v l r = rw (v, ne-eqb (layer rs) notYetIncluded l, eq-eqb (length reports) (reportWidth * length (blocks (bands rs))) r)
 
 front-coded : (ws : List ℕ) (c : Contribution) (m : Markers) (number t : ℕ) (ks : List Block) → layer ws ≡ t → blocks (bands ws) ≡ ks → front ws c m number ≡ withMarkers m number (pack (1 ∷ headerBlocks t ks c ws .bits))
 unfolding front
@@ -135,7 +136,7 @@ module _ (bs : List Band) (s t : ℕ) (ws rs : List ℕ) (es : List BlockEntry) 
     not-refused-yet = read-not-refused rs (r .scratch) (r .reports)
         (reader-in-range bs s t ws rs es (length (r .scratch)) y (ask .scratch-length))
         (λ e. omega (arith, sym (y .reader-first .layer-is) ∙ e, layer-left bs s t ws w W a))
-        (ask .reports-length ∙ ap (λ (n : ℕ). 4 * n) (reports-are ∙ ap length (sym (ap blocks (y .reader-first .bands-are)))))
+        (ask .reports-length ∙ ap (λ (n : ℕ). reportWidth * n) (reports-are ∙ ap length (sym (ap blocks (y .reader-first .bands-are)))))
 
     abbrev Reads : List ℕ → Markers → Type 0
     Reads src m = PacketRead (layoutOf bs) s t ks (blocks-placed bs) (layer-left bs s t ws w W a) ws rs es c (W .state) (y .in-step) (y .booked) (acceptable bs s t ws w W a) term (y .reader-first .layer-is)
@@ -187,12 +188,12 @@ module _ (bs : List Band) (s t : ℕ) (ws rs : List ℕ) (es : List BlockEntry) 
 
   -- a read of the packet, whatever else is lent: never 9 or 12, and 13 only for want of records
   abbrev pub Harmless : ReadCall → ℕ → Type 0
-  Harmless r x = (x ≢ 9) × (x ≢ 12) × (x ≡ 13 → length (r .records) < 4 * length (owedFor s ws es w .entry .records))
+  Harmless r x = (x ≢ 9) × (x ≢ 12) × (x ≡ 13 → length (r .records) < recordWidth * length (owedFor s ws es w .entry .records))
 
   pub read-harmless : (r : ReadCall) → r .markers ≡ w .markers → take (length (owedFor s ws es w .front)) (r .input) ≡ owedFor s ws es w .front → Harmless r (readOf rs r .answer .refusal)
   unfolding read readAbsent readPresent readRefusal owedFor
   read-harmless r marked begins =
-      let room : ℕ = length (r .records) / 4 in
+      let room : ℕ = length (r .records) / recordWidth in
       let src : List ℕ = r .input in
       let P : ℕ → Type 0 = Harmless r in
       let Q : ReadResult → Type 0 = λ x. P (x .answer .refusal) in
@@ -200,7 +201,7 @@ module _ (bs : List Band) (s t : ℕ) (ws rs : List ℕ) (es : List BlockEntry) 
       let early : P (readRefusal rs (r .scratch) (r .reports))
       = either P (not (validState reader rs (length (r .scratch)))) 5 _ (omega arith, omega arith, λ e. absurd (omega arith))
       (either P (eqb (layer rs) notYetIncluded) 6 _ (omega arith, omega arith, λ e. absurd (omega arith))
-      (either P (not (eqb (length (r .reports)) (4 * length (blocks (bands rs))))) 3 0 (omega arith, omega arith, λ e. absurd (omega arith)) zero-is)) in
+      (either P (not (eqb (length (r .reports)) (reportWidth * length (blocks (bands rs))))) 3 0 (omega arith, omega arith, λ e. absurd (omega arith)) zero-is)) in
       let begins₂ : take (length fr) src ≡ fr = subst (λ (x : List ℕ). take (length x) src ≡ x) front-is begins in
       let h = header-refusal (layoutOf bs) s t ks (blocks-placed bs) (layer-left bs s t ws w W a) ws rs es c (W .state) (y .in-step) (y .booked) (acceptable bs s t ws w W a) term (y .reader-first .layer-is)
       (ap blocks (y .reader-first .bands-are)) (w .markers) (w .number) src room begins₂ in
@@ -211,6 +212,6 @@ module _ (bs : List Band) (s t : ℕ) (ws rs : List ℕ) (es : List BlockEntry) 
       (either Q (eqb (nextBit src (bioAt (readSop (r .markers) src .skip))) 0) _ _ zero-is
       (either Q (eqb (readHeader src room rs (bioAfter src (bioAt (readSop (r .markers) src .skip))) .refusal) 0) _ _ zero-is late))
     where
-      by-refusal : (r : ReadCall) (x : ℕ) → (x ≡ 0) ⊎ ((x ≡ 13) × (length (r .records) / 4 < length (entry s es (c .counts) (c .lengths) .records))) → (x ≢ 9) × (x ≢ 12) × (x ≡ 13 → length (r .records) < 4 * length (entry s es (c .counts) (c .lengths) .records))
+      by-refusal : (r : ReadCall) (x : ℕ) → (x ≡ 0) ⊎ ((x ≡ 13) × (length (r .records) / recordWidth < length (entry s es (c .counts) (c .lengths) .records))) → (x ≢ 9) × (x ≢ 12) × (x ≡ 13 → length (r .records) < recordWidth * length (entry s es (c .counts) (c .lengths) .records))
       by-refusal r x (inl e) = (omega arith, omega arith, λ z. absurd (omega arith))
       by-refusal r x (inr e) = (omega (arith, e .0), omega (arith, e .0), λ z. omega (arith, e .1))

@@ -15,7 +15,7 @@ use Rattle.t800.specs.declared.Bio.{Bio}
 use Rattle.t800.specs.declared.Markers.{Markers}
 use Rattle.t800.specs.Base.{overwrite}
 use Rattle.t800.specs.Bits.{bioAt, pack, endsInFF, bytesTaken}
-use Rattle.t800.specs.Reports.{BlockReport, SegmentRecord, reportWords, recordWords}
+use Rattle.t800.specs.Reports.{BlockReport, SegmentRecord, reportWords, recordWords, recordWidth}
 use Rattle.t800.specs.State.{Block, notYetIncluded, blocks, bands, layer}
 use Rattle.t800.specs.WriteHeader.{Contribution}
 use Rattle.t800.specs.ReadHeader.{HeaderRead, readBlocks, readHeader}
@@ -70,7 +70,7 @@ unfolding readHeader
 header-is src room rs h t ks us end reps recs l k e w = rw (l, k, e, w)
 
 read-is : (rs scratch : List ℕ) (m : Markers) (src reports records : List ℕ) (n : ℕ) (us : List ℕ) (end : Bio) (reps : List BlockReport) (recs : List SegmentRecord) → readRefusal rs scratch reports ≡ 0
-    → readSop m src ≡ found n → nextBit src (bioAt n) ≡ 1 → readHeader src (length records / 4) rs (bioAfter src (bioAt n)) ≡ readSoFar us end reps recs
+    → readSop m src ≡ found n → nextBit src (bioAt n) ≡ 1 → readHeader src (length records / recordWidth) rs (bioAfter src (bioAt n)) ≡ readSoFar us end reps recs
     → read rs scratch m src reports records ≡ readPresent rs m src records (found n) (readSoFar us end reps recs)
 unfolding read
 read-is rs scratch m src reports records n us end reps recs e₁ e₂ e₃ e₄ = rw (e₁, e₂, e₃, e₄)
@@ -104,9 +104,9 @@ module _ (L : Layout) (s t : ℕ) (ks : List Block) (f : AllPlaced L ks) (ht : t
     pub sop-is : readSop m src ≡ found before
     pub back : HeaderReadBack L s t src room before (length header) ws rs (headerBlocks t ks c ws .words) ks es c
     pub header-back : readHeader src room rs (bioAfter src (bioAt before)) ≡ readSoFar (back .words) (back .end) (owedEntry .reports) (owedEntry .records)
-    pub behind : ℕ
-    pub eph-is : readEph m src (before + length header) ≡ found behind
-    pub all : before + length header + behind ≡ length (withMarkers m number header)
+    pub after : ℕ
+    pub eph-is : readEph m src (before + length header) ≡ found after
+    pub all : before + length header + after ≡ length (withMarkers m number header)
 
   pub front-read : (room : ℕ) → length (owedEntry .records) ≤ room → take (length (withMarkers m number header)) src ≡ withMarkers m number header → FrontRead room
   unfolding withMarkers
@@ -126,7 +126,7 @@ module _ (L : Layout) (s t : ℕ) (ks : List Block) (f : AllPlaced L ks) (ht : t
         sop-is = sop-read m number src (header ++ (C ++ tail)) from-header;
         back = h;
         header-back = header-is src room rs (bioAfter src (bioAt (length A))) t ks (h .words) (h .end) (owedEntry .reports) (owedEntry .records) l kb (h .is) (h .whole);
-        behind = length C;
+        after = length C;
         eph-is = eph-read m src (length A + length header) tail at-eph;
         all = sym (length-append (A ++ header) C ∙ ap (λ (z : ℕ). z + length C) (length-append A header));
       }
@@ -141,13 +141,13 @@ module _ (L : Layout) (s t : ℕ) (ks : List Block) (f : AllPlaced L ks) (ht : t
     pub booked-after : AllBooked (headerBlocks t ks c ws .words) ks (addCounts es (c .counts))
     pub reader-first : (j : ℕ) → j < 13 → getD words j 0 ≡ getD rs j 0
 
-  pub packet-read : (scratch reports records : List ℕ) → readRefusal rs scratch reports ≡ 0 → 4 * length (owedEntry .records) ≤ length records
+  pub packet-read : (scratch reports records : List ℕ) → readRefusal rs scratch reports ≡ 0 → recordWidth * length (owedEntry .records) ≤ length records
       → take (length (withMarkers m number header)) src ≡ withMarkers m number header → PacketRead records (read rs scratch m src reports records)
   packet-read scratch reports records why enough e =
-      let F = front-read (length records / 4) (omega arith) e in
+      let F = front-read (length records / recordWidth) (omega arith) e in
       let h = F .back in
       let is = read-is rs scratch m src reports records (F .before) (h .words) (h .end) (owedEntry .reports) (owedEntry .records) why (F .sop-is) (h .first-bit) (F .header-back)
-      ∙ present-is rs t m src records (F .before) (h .words) (h .end) (owedEntry .reports) (owedEntry .records) (F .before + length header) (F .behind) l (h .taken) (F .eph-is) in
+      ∙ present-is rs t m src records (F .before) (h .words) (h .end) (owedEntry .reports) (owedEntry .records) (F .before + length header) (F .after) l (h .taken) (F .eph-is) in
       record {
         words = h .words;
         answer = ap (λ (r : ReadResult). r .answer) is ∙ ap (λ (z : ℕ). record { refusal = 0; present = 1; taken = z; segments = length (owedEntry .records); sop = 0; eph = 0 }) (F .all);

@@ -9,7 +9,7 @@ use Rattle.t800.proofs.Laws.HeaderBits.{bits-passes}
 use Rattle.round_trip.proofs.Trip.Bits.{bioAfter, Reads, reads-split, packed-bits-read}
 use Rattle.round_trip.proofs.Trip.Codes.{passes-read}
 
--- The codeword of n is read behind a bit 0.
+-- The codeword of n is read after a bit 0.
 pub pass-codewords-prefix-free : (m n : ℕ) → 1 ≤ m → m ≤ 164 → 1 ≤ n → n ≤ 164 → IsPrefix (passBits m) (passBits n) → m ≡ n
 pass-codewords-prefix-free m n m1 m164 n1 n164 p =
     let src : List ℕ = pack (0 ∷ passBits n) in

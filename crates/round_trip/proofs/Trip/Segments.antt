@@ -196,7 +196,7 @@ unfolding recordsOf
 no-records s i p [] h = refl
 no-records s i p (l ∷ ls) h = absurd (omega arith)
 
-module _ (src : List ℕ) (room i : ℕ) (k : Block) (s lb : ℕ) (e : Bio) (reps : List BlockReport) (behind : 13 ≤ k .at) where
+module _ (src : List ℕ) (room i : ℕ) (k : Block) (s lb : ℕ) (e : Bio) (reps : List BlockReport) (after-first-words : 13 ≤ k .at) where
   opens-is : (q : ℕ) → opensAt s q ≡ opensIn (termAll s) (bypass s) q
   unfolding opensAt
   opens-is q = refl
@@ -246,7 +246,7 @@ module _ (src : List ℕ) (room i : ℕ) (k : Block) (s lb : ℕ) (e : Bio) (rep
   unfolding readSegments
   one-turn f n ls rs b recs us c recs₂ q h = rw (q, h)
 
-  -- the segment that the next passes go into: how many of them, the first record that they make, and the words behind them
+  -- the segment that the next passes go into: how many of them, the first record that they make, and the words after them
   record NextPasses (ls : List ℕ) (p : ℕ) (rs : List ℕ) : Type 0 where
     passes : ℕ
     bytes : ℕ

@@ -120,14 +120,14 @@ module _ (L : Layout) (u : Tree) (bound : ℕ) (step : Block → ℕ → List �
     (one : (k : Block) (x : ℕ) (ws : List ℕ) → Placed L k → length ws ≡ L .size → ((a : ℕ) → L .Node u a → low ws a ≤ bound)
     → LeavesSet L u ws (step k x ws) (k ∷ []) × R k x (passesSoFar ws (k .at)) (value ws (leafOf u k)) (value (step k x ws) (leafOf u k))) where
   -- a block that was set before changes nothing of it
-  leaves-behind : (ws vs us : List ℕ) (k : Block) (ks : List Block) (xs : List ℕ) → LeavesSet L u ws vs (k ∷ []) → SeparateFromAll k ks → AllPlaced L ks → Leaves u R vs us ks xs → Leaves u R ws us ks xs
-  leaves-behind ws vs us k [] xs s o f h = tt
-  leaves-behind ws vs us k (j ∷ js) [] s o f h = tt
-  leaves-behind ws vs us k (j ∷ js) (x ∷ xs) s o f h =
+  leaves-after : (ws vs us : List ℕ) (k : Block) (ks : List Block) (xs : List ℕ) → LeavesSet L u ws vs (k ∷ []) → SeparateFromAll k ks → AllPlaced L ks → Leaves u R vs us ks xs → Leaves u R ws us ks xs
+  leaves-after ws vs us k [] xs s o f h = tt
+  leaves-after ws vs us k (j ∷ js) [] s o f h = tt
+  leaves-after ws vs us k (j ∷ js) (x ∷ xs) s o f h =
       let p = block-stays L ws vs (nodes-only L u ws vs (s .only)) (j .at) (f .0 .0 .block) .0 in
       let v = s .off (leafOf u j) (o .0 .1 .leaf u, tt) in
       let after : ℕ = value us (leafOf u j) in
-      (subst (λ (z : ℕ). R j x (passesSoFar ws (j .at)) z after) v (subst (λ (z : ℕ). R j x z (value vs (leafOf u j)) after) p (h .0)), leaves-behind ws vs us k js xs s (o .1) (f .1) (h .1))
+      (subst (λ (z : ℕ). R j x (passesSoFar ws (j .at)) z after) v (subst (λ (z : ℕ). R j x z (value vs (leafOf u j)) after) p (h .0)), leaves-after ws vs us k js xs s (o .1) (f .1) (h .1))
 
   each-set : (ks : List Block) (xs ws : List ℕ) → AllPlaced L ks → length ws ≡ L .size → ((a : ℕ) → L .Node u a → low ws a ≤ bound)
       → LeavesSet L u ws (eachBlock step ks xs ws) ks × Leaves u R ws (eachBlock step ks xs ws) ks xs
@@ -142,7 +142,7 @@ module _ (L : Layout) (u : Tree) (bound : ℕ) (step : Block → ℕ → List �
       let r = each-set ks xs vs (f .1) (q .0 .only .long ∙ wl) (λ a n. le-trans (le-of-eq (low-stays L u ws vs (q .0 .only) u a n)) (lo a n)) in
       let last = r .0 .off (leafOf u k) (off-paths u k ks (f .0 .1)) in (
         set-then L u ws vs us k ks (q .0) (r .0),
-        (subst (R k x (passesSoFar ws (k .at)) (value ws (leafOf u k))) (sym last) (q .1), leaves-behind ws vs us k ks xs (q .0) (f .0 .1) (f .1) (r .1)),
+        (subst (R k x (passesSoFar ws (k .at)) (value ws (leafOf u k))) (sym last) (q .1), leaves-after ws vs us k ks xs (q .0) (f .0 .1) (f .1) (r .1)),
       )
 
 -- ---- zero planes

@@ -163,11 +163,3 @@ comma-below src b h = limited-by src b (8 * length src + 8) (leb (8 * length src
 pub comma-value : (src : List ℕ) (b : Bio) → readCommaLimited src b .value ≡ min (readComma src b .value) mostOnes
 unfolding readCommaLimited onesLimit readComma
 comma-value src b = limited-by src b (8 * length src + 8) (leb (8 * length src + 8) mostOnes) refl .1
-
-pub comma-ct : (src : List ℕ) (b : Bio) → b .ct ≤ 8 → readComma src b .bio .ct ≤ 8
-unfolding readComma
-comma-ct src b h = ones-ct src (8 * length src + 8) 0 b h
-
-pub comma-place : (src : List ℕ) (b : Bio) → b .bp ≤ length src + 1 → readComma src b .bio .bp ≤ length src + 1
-unfolding readComma
-comma-place src b h = ones-place src (8 * length src + 8) 0 b h

@@ -9,9 +9,9 @@ use lib.ListN.{length}
 use borrow.Author.Tests.{eq-eqb, ne-eqb, le-leb, lt-leb}
 use Rattle.t800.specs.declared.Bio.{Bio}
 use Rattle.t800.specs.Bits.{Decoded, getBit, readBits}
-use Rattle.t800.specs.PassCount.{readPasses}
+use Rattle.t800.specs.PassCount.{plus, readPasses}
 use Rattle.bio_read.proofs.Laws.ReadChunks.{getBit-ct, readBits-ct, getBit-place, readBits-place, readBits-below}
-use Rattle.t2_codes.specs.PassCount.{counted, readFrom3}
+use Rattle.t2_codes.specs.PassCount.{readFrom3}
 
 abbrev pub passes : ℕ → Bio → Decoded
 passes n b = record { value = n; bio = b }
@@ -42,9 +42,9 @@ module _ (src : List ℕ) (b : Bio) (first : Decoded) (e1 : first ≡ getBit src
     passes-more one2 = ap (λ (d : Decoded). readFrom3 src (d .bio)) is2 ∙ simp (test1, ne-eqb _ _ (λ q. one2 (ap (λ (d : Decoded). d .value) is2 ∙ q)))
 
 module _ (src : List ℕ) (b : Bio) (two : Decoded) (e1 : two ≡ readBits src 2 b) where
-  pub from-3 : two .value ≤ 2 → counted 3 two ≡ readFrom3 src b
+  pub from-3 : two .value ≤ 2 → plus 3 two ≡ readFrom3 src b
   unfolding readFrom3
-  from-3 l = ap (counted 3) e1 ∙ simp (sym (ap (λ (d : Decoded). leb (d .value) 2) e1) ∙ le-leb _ _ l)
+  from-3 l = ap (plus 3) e1 ∙ simp (sym (ap (λ (d : Decoded). leb (d .value) 2) e1) ∙ le-leb _ _ l)
 
   module _ (ones2 : 2 < two .value) (five : Decoded) (e2 : five ≡ readBits src 5 (two .bio)) where
     test2 : leb (readBits src 2 b .value) 2 ≡ false
@@ -53,15 +53,15 @@ module _ (src : List ℕ) (b : Bio) (two : Decoded) (e1 : two ≡ readBits src 2
     is5 : five ≡ readBits src 5 (readBits src 2 b .bio)
     is5 = e2 ∙ ap (λ (d : Decoded). readBits src 5 (d .bio)) e1
 
-    pub from-6 : five .value ≤ 30 → counted 6 five ≡ readFrom3 src b
+    pub from-6 : five .value ≤ 30 → plus 6 five ≡ readFrom3 src b
     unfolding readFrom3
-    from-6 l = ap (counted 6) is5 ∙ simp (test2, sym (ap (λ (d : Decoded). leb (d .value) 30) is5) ∙ le-leb _ _ l)
+    from-6 l = ap (plus 6) is5 ∙ simp (test2, sym (ap (λ (d : Decoded). leb (d .value) 30) is5) ∙ le-leb _ _ l)
 
     module _ (ones5 : 30 < five .value) (seven : Decoded) (e3 : seven ≡ readBits src 7 (five .bio)) where
-      pub from-37 : counted 37 seven ≡ readFrom3 src b
+      pub from-37 : plus 37 seven ≡ readFrom3 src b
       unfolding readFrom3
       from-37 =
-          ap (counted 37) (e3 ∙ ap (λ (d : Decoded). readBits src 7 (d .bio)) is5)
+          ap (plus 37) (e3 ∙ ap (λ (d : Decoded). readBits src 7 (d .bio)) is5)
           ∙ simp (test2, sym (ap (λ (d : Decoded). leb (d .value) 30) is5) ∙ lt-leb _ _ ones5)
 
 -- ---- what it keeps
@@ -72,13 +72,13 @@ module _ (P : Decoded → Type 0) where
   either false x y p q = q
 
   from3-each : (src : List ℕ) (b : Bio) → let two = readBits src 2 b in let five = readBits src 5 (two .bio) in
-      P (counted 3 two) → P (counted 6 five) → P (counted 37 (readBits src 7 (five .bio))) → P (readFrom3 src b)
+      P (plus 3 two) → P (plus 6 five) → P (plus 37 (readBits src 7 (five .bio))) → P (readFrom3 src b)
   unfolding readFrom3
   from3-each src b p3 p6 p37 =
       let two = readBits src 2 b in
       let five = readBits src 5 (two .bio) in
       let seven = readBits src 7 (five .bio) in
-      either (leb (two .value) 2) (counted 3 two) _ p3 (either (leb (five .value) 30) (counted 6 five) (counted 37 seven) p6 p37)
+      either (leb (two .value) 2) (plus 3 two) _ p3 (either (leb (five .value) 30) (plus 6 five) (plus 37 seven) p6 p37)
 
   passes-each : (src : List ℕ) (b : Bio) → let first = getBit src b in let second = getBit src (first .bio) in
       P (passes 1 (first .bio)) → P (passes 2 (second .bio)) → P (readFrom3 src (second .bio)) → P (readPasses src b)

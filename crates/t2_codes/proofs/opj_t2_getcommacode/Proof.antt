@@ -1,4 +1,4 @@
--- `t2_codes::opj_t2_getcommacode` meets its contract. The invariant: what is left to read, behind the ones that are read, is the whole.
+-- `t2_codes::opj_t2_getcommacode` meets its contract. The invariant: what is left to read, after the ones that are read, is the whole.
 -- Assumes nothing.
 use mathlib.Core.Path.{_≡_, sym, ap, _∙_, subst}
 use Prim.Native.Nat.{ℕ, _+_, _-_, _≤_}

@@ -1,4 +1,4 @@
--- `t2_codes::opj_t2_putcommacode` meets its contract. The invariant: what is left to put, behind what is there, is the whole.
+-- `t2_codes::opj_t2_putcommacode` meets its contract. The invariant: what is left to put, after what is there, is the whole.
 -- Assumes nothing.
 use mathlib.Core.Path.{_≡_, refl, sym, ap, _∙_, subst}
 use Prim.Native.Nat.{_-_}

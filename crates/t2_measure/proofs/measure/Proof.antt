@@ -29,8 +29,8 @@ put-front-requires c κs =
     let g = c .before .before .before .before .before .before .before .measure-refusal in
     copy-accepted (a .state .now) (a .scratch .now) (contribution (a .counts .now) (a .lengths .now) (a .marks .now)) (g .result) (g .ensures) (c .before .before .before .before .before .before .if1 .left) _ (c .before .before .before .before .copy .ensures)
 
-sum-lengths-requires : tie.Need-sum-lengths-requires
-sum-lengths-requires c κs =
+total-requires : tie.Need-total-requires
+total-requires c κs =
     let a = c .before .before .before .before .before .before .before .before .before .before .before .before .before .before .before .before .before .args in
     let g = c .before .before .before .before .before .before .before .before .before .before .before .measure-refusal in
     let r = accepted (a .state .now) (a .scratch .now) (contribution (a .counts .now) (a .lengths .now) (a .marks .now)) (g .result) (g .ensures) (c .before .before .before .before .before .before .before .before .before .before .if1 .left) in
@@ -43,7 +43,7 @@ returns-2 c =
     let p = contribution (a .counts .now) (a .lengths .now) (a .marks .now) in
     measure-done (a .state .now) (a .scratch .now) p (a .markers) (g .result) (g .ensures) (0 ∷ []) _ _ (c .before .before .before .before .before .before .before .before .before .before .before .if1 .left)
     (c .before .before .before .before .put-front .ensures ∙ ap (λ (ws : List ℕ). putFront p ws (a .markers) 0 (0 ∷ [])) (c .before .before .before .before .before .before .before .before .before .copy .ensures))
-    (c .sum-lengths .ensures)
+    (c .total .ensures)
 
 pub measure-spec : {M : Type 1} → statement M
 measure-spec =
@@ -54,6 +54,6 @@ measure-spec =
     copy-requires
     (λ c. search needs)
     put-front-requires
-    sum-lengths-requires
+    total-requires
     (λ c. search needs)
     returns-2)

@@ -10,7 +10,7 @@ use Rattle.t800.specs.declared.Band.{Band}
 use Rattle.t800.specs.State.{Block, layer, blocksIn, bandNodes, bandLength, blocksAt}
 use Rattle.t800.specs.Ranges.{bandInRange, bandsInRange}
 use Rattle.t800.proofs.Laws.Layout.{band-length}
-use Rattle.tcd_layout.proofs.Laws.Bands.{length-from}
+use Rattle.t800.proofs.Laws.Lists.{length-from}
 use Rattle.tcd_first_words.proofs.Laws.FirstWords.{and-right}
 use Rattle.tcd_state.proofs.Laws.ValidStates.{block-known, block-bounds}
 use Rattle.t2_read_segments.specs.Reading.{Reading, nextBlocks}

@@ -21,7 +21,8 @@ use Rattle.t800.specs.WriteHeader.{isNew, lengthBitsBefore}
 use Rattle.t800.specs.ReadHeader.{HeaderRead, refused, movedTo, withReport, opensSegment, currentLimit, currentPasses, passesTaken, readSegment, readSegments, readZeroPlanesFrom, readZeroPlanes, firstReport, againReport, readIncluded, readNewBlock, readOldBlock, readBlock, readBlocks}
 use Rattle.t800.proofs.Laws.Tests.{either, if-eq, if-ne, if-lt, if-ge, on-eq, on-lt}
 use Rattle.round_trip.proofs.Trip.Segments.{readSoFar}
-use Rattle.lists.proofs.Laws.Filled.{length-records, record-put, report-put}
+use Rattle.t800.proofs.Laws.Lists.{record-words-length}
+use Rattle.lists.proofs.Laws.Filled.{record-put, report-put}
 use Rattle.lists.specs.Rows.{putRow}
 use Rattle.t2_codes.specs.CommaCode.{mostOnes, readCommaLimited}
 use Rattle.t2_codes.proofs.Laws.PassCount.{passes-between}
@@ -137,7 +138,7 @@ module _ (src reports records : List ℕ) (size : ℕ) where
 
   records-over : (recs : List SegmentRecord) → length recs ≤ room → length (overwrite records (recordWords recs)) ≡ length records
   unfolding overwrite
-  records-over recs h = length-append (recordWords recs) (drop (length (recordWords recs)) records) ∙ omega (arith, length-records recs, length-drop (length (recordWords recs)) records)
+  records-over recs h = length-append (recordWords recs) (drop (length (recordWords recs)) records) ∙ omega (arith, record-words-length recs, length-drop (length (recordWords recs)) records)
 
   segment-ends : (j i : ℕ) (k : Block) (n : ℕ) → Alike j j (nextSegment src i k n) (readSegment src room i k n)
   unfolding nextSegment readSegment

@@ -1,4 +1,4 @@
--- A block's segments one after another: how many passes each takes, what it leaves, and what is left behind it.
+-- A block's segments one after another: how many passes each takes, what it leaves, and what is left after it.
 use mathlib.Core.Path.{_≡_, refl, sym, ap, _∙_, subst}
 use mathlib.Core.Logic.{_≢_}
 use mathlib.Core.Bool.{cond}
@@ -16,7 +16,7 @@ use Rattle.bio_read.proofs.Laws.ReadChunks.{readBits-ct}
 use Rattle.tcd_places.specs.Places.{blockAt}
 use Rattle.tcd_places.proofs.Laws.Before.{same-word}
 use Rattle.t2_read_segments.specs.declared.Segment.{Segment}
-use Rattle.t2_read_segments.specs.Segments.{limitBehind, currentSegment}
+use Rattle.t2_read_segments.specs.Segments.{limitAfter, currentSegment}
 use Rattle.t2_read_segments.specs.Reading.{Reading, stopped, nextSegment, nextSegments, SegmentFits}
 use Rattle.t2_read_segments.proofs.Laws.OneSegment.{segment-opens, segment-open}
 
@@ -25,9 +25,9 @@ use Rattle.t2_read_segments.proofs.Laws.OneSegment.{segment-opens, segm
 abbrev To109 : ℕ → Type 0
 To109 n = (1 ≤ n) × (n ≤ 109)
 
-limit-behind-between : (s m : ℕ) → (1 ≤ limitBehind s m) × (limitBehind s m ≤ 109)
-unfolding limitBehind firstLimit nextLimit
-limit-behind-between s m = either To109 (eqb m 0) _ _ (either To109 (termAll s) 1 _ (omega arith) (either To109 (bypass s) 10 109 (omega arith) (omega arith))) (either To109 (termAll s) 1 _ (omega arith) (either To109 (bypass s) _ 109 (either To109 (eqb m 2) 1 2 (omega arith) (omega arith)) (omega arith)))
+limit-after-between : (s m : ℕ) → (1 ≤ limitAfter s m) × (limitAfter s m ≤ 109)
+unfolding limitAfter firstLimit nextLimit
+limit-after-between s m = either To109 (eqb m 0) _ _ (either To109 (termAll s) 1 _ (omega arith) (either To109 (bypass s) 10 109 (omega arith) (omega arith))) (either To109 (termAll s) 1 _ (omega arith) (either To109 (bypass s) _ 109 (either To109 (eqb m 2) 1 2 (omega arith) (omega arith)) (omega arith)))
 
 abbrev HasRoom : Segment → Type 0
 HasRoom s = (s .used < s .limit) × (s .limit ≤ 109)
@@ -35,10 +35,10 @@ HasRoom s = (s .used < s .limit) × (s .limit ≤ 109)
 pub has-room : (ws : List ℕ) (at : ℕ) (s : Segment) → s ≡ currentSegment ws (blockAt at) → SegmentFits ws at → HasRoom s
 has-room ws at s e f =
     let m : ℕ = getD ws (at + 2) 0 in
-    let l = limit-behind-between (getD ws 2 0) m in
+    let l = limit-after-between (getD ws 2 0) m in
     subst HasRoom (sym e)
     (on-eq m (getD ws (at + 3) 0)
-    (λ q. subst HasRoom (segment-opens ws at (limitBehind (getD ws 2 0) m) q refl) (omega (arith, l .0), l .1))
+    (λ q. subst HasRoom (segment-opens ws at (limitAfter (getD ws 2 0) m) q refl) (omega (arith, l .0), l .1))
     (λ q. subst HasRoom (segment-open ws at q) (omega (arith, f .used, q), f .limit)))
 
 pub taken-is : (ws : List ℕ) (at left n : ℕ) (s : Segment) → s ≡ currentSegment ws (blockAt at) → n ≡ min (s .limit - s .used) left → n ≡ passesTaken ws (blockAt at) left

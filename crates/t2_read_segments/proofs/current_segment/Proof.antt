@@ -5,7 +5,7 @@ use Rattle.t2_read_segments.proofs.current_segment.Statement.{statement
 use Rattle.t2_read_segments.proofs.current_segment.Tie as tie
 
 returns : tie.Need-returns
-returns c = segment-opens (c .before .before .before .before .before .before .args .words .now) (c .before .before .before .before .before .before .args .at) _ (c .before .before .if1 .taken) (c .limit-behind .ensures)
+returns c = segment-opens (c .before .before .before .before .before .before .args .words .now) (c .before .before .before .before .before .before .args .at) _ (c .before .before .if1 .taken) (c .limit-after .ensures)
 
 returns-2 : tie.Need-returns-2
 returns-2 c = segment-open (c .before .before .before .before .args .words .now) (c .before .before .before .before .args .at) (c .if1 .left)

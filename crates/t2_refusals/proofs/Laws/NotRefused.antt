@@ -1,5 +1,5 @@
 -- What a packet says that none of 5, 6, 3, 7, 8 and 9 turns away: of its lists, its counts, and its blocks one by one.
-use mathlib.Core.Path.{_≡_, sym, _∙_}
+use mathlib.Core.Path.{_≡_}
 use mathlib.Core.Logic.{_≢_}
 use mathlib.Core.Bool.{Bool, true, false, not}
 use mathlib.Core.List.{List, [], _∷_}
@@ -13,12 +13,12 @@ use Rattle.t800.specs.Segments.{segmentsOf}
 use Rattle.t800.specs.State.{Block, notYetIncluded, writer, layer, bands, blocks}
 use Rattle.t800.specs.Ranges.{validState}
 use Rattle.t800.specs.WriteHeader.{Contribution, lengthBitsBefore, segmentTooLong, fieldTooWide}
-use Rattle.t800.specs.Packet.{wrongLists, measureRefusal}
+use Rattle.t800.specs.Packet.{wrongLists}
+use Rattle.t800.proofs.Laws.Lists.{lists-right}
 use Rattle.t800.proofs.Laws.Tests.{or-left, or-right, not-refused}
 use Rattle.t2_segments.specs.Segments.{anyTooLong, blockTooWide}
 use Rattle.t2_refusals.specs.Refusals.{contributionRefusal, measureRefusalFor}
-use Rattle.t2_refusals.proofs.Laws.ScratchLength.{refusal-by-scratch-length}
-use Rattle.t2_refusals.proofs.Laws.RefusalParts.{lists-right, blocks-of-valid}
+use Rattle.t2_refusals.proofs.Laws.RefusalParts.{blocks-of-valid}
 
 -- ---- counts
 
@@ -72,9 +72,6 @@ not-refused-for ws n p e =
       none-long = c₅ .0;
       none-wide = c₆ .0;
     }
-
-pub not-refused-measure : (ws scratch : List ℕ) (p : Contribution) → measureRefusal ws scratch p ≡ 0 → NotRefused ws (length scratch) p
-not-refused-measure ws scratch p e = not-refused-for ws (length scratch) p (sym (refusal-by-scratch-length ws scratch p) ∙ e)
 
 -- ---- block by block
 

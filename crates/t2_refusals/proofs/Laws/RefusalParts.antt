@@ -1,19 +1,18 @@
 -- The refusals of measuring from what the code has found: each law takes a value for each part, so that a part that is known decides.
 use mathlib.Core.Path.{_≡_, sym, ap, _∙_, subst}
-use mathlib.Core.Bool.{Bool, true, false, cond, not, _||_}
+use mathlib.Core.Bool.{Bool, true, false, cond, not}
 use mathlib.Core.List.{List}
 use Prim.Native.Nat.{ℕ, _≤_}
 use native.Mathlib.Omega.{arith}
 use lib.ListN.{length, take}
 use lib.Dec.{ltb, eqb}
-use borrow.Author.Tests.{not-false, eqb-true}
 use Rattle.t800.specs.declared.Band.{Band}
-use Rattle.t800.specs.Base.{any, sum}
+use Rattle.t800.specs.Base.{any}
 use Rattle.t800.specs.State.{notYetIncluded, writer, bandCount, layer, bands, blocks, stateLength}
 use Rattle.t800.specs.Ranges.{validState}
 use Rattle.t800.specs.WriteHeader.{Contribution}
 use Rattle.t800.specs.Packet.{wrongLists}
-use Rattle.t800.proofs.Laws.Tests.{or-left, or-right}
+use Rattle.t800.proofs.Laws.Lists.{lists-right}
 use Rattle.tcd_layout.specs.Geometry.{AllUpTo64}
 use Rattle.tcd_layout.proofs.Laws.Bands.{blocks-up-to-12288}
 use Rattle.tcd_shape.specs.Parts.{threeBands}
@@ -23,17 +22,6 @@ use Rattle.t2_widths.specs.Widths.{PassesLeft, segmentsRefusal}
 use Rattle.t2_refusals.specs.Refusals.{contributionRefusal, measureRefusalFor}
 
 -- ---- the lists
-
-pub lists-right : (p : Contribution) (n : ℕ) → wrongLists p n ≡ false → (length (p .counts) ≡ n) × (length (p .lengths) ≡ sum (p .counts)) × (length (p .marks) ≡ sum (p .counts))
-unfolding wrongLists
-lists-right p n h =
-    let a : Bool = not (eqb (length (p .counts)) n) in
-    let b : Bool = not (eqb (length (p .lengths)) (sum (p .counts))) in
-    let c : Bool = not (eqb (length (p .marks)) (sum (p .counts))) in
-    let ab : (a || b) ≡ false = or-left (a || b) c h in
-    let l = eqb-true (length (p .lengths)) (sum (p .counts)) (not-false (eqb (length (p .lengths)) (sum (p .counts))) (or-right a b ab)) in
-    let m = eqb-true (length (p .marks)) (sum (p .counts)) (not-false (eqb (length (p .marks)) (sum (p .counts))) (or-right (a || b) c h)) in
-    (eqb-true (length (p .counts)) n (not-false (eqb (length (p .counts)) n) (or-left a b ab)), l, m)
 
 pub passes-left : (p : Contribution) (n : ℕ) → wrongLists p n ≡ false → PassesLeft (p .counts) (p .lengths) (p .marks)
 passes-left p n h = let r = lists-right p n h in (omega (arith, r .1), omega (arith, r .1, r .2))

@@ -1,6 +1,6 @@
--- A block's segments one after another: the first by itself, those behind it, and what a loop over them keeps.
+-- A block's segments one after another: the first by itself, those after it, and what a loop over them keeps.
 use mathlib.Core.Path.{_≡_, refl, sym, ap, ap₂, _∙_, subst}
-use mathlib.Core.Bool.{Bool, true, false, cond, not, _||_, or-true, or-false}
+use mathlib.Core.Bool.{Bool, true, false, cond, not, _||_, or-false}
 use mathlib.Core.List.{List, [], _∷_}
 use Prim.Native.Nat.{ℕ, zero, suc, _+_, _-_, _/_, _^_, _≤_, _<_, max}
 use native.Mathlib.Numerals.{add-one}
@@ -11,6 +11,7 @@ use lib.Dec.{eqb, ltb, leb}
 use borrow.Author.Tests.{lt-ltb, ltb-false, leb-false}
 use Rattle.t800.specs.Base.{any, halvings, floorLog2}
 use Rattle.t800.specs.Segments.{Segment, segmentsFrom, segmentsOf, width, bitLength, increment}
+use Rattle.t800.proofs.Laws.Lists.{last-pass}
 use Rattle.t800.proofs.Laws.Tests.{if-true, if-false, either, or-left, or-right}
 use Rattle.t2_segments.specs.Segments.{segment, firstFrom, firstSegment, anyTooLong, anyTooWide}
 
@@ -33,10 +34,6 @@ first-last n b l m = same (eqb m 0) (segment (n + 1) (b + l))
     same true s = refl
     same false s = refl
 
-last-pass : (n b l m : ℕ) → segmentsFrom n b (l ∷ []) (m ∷ []) ≡ segment (n + 1) (b + l) ∷ []
-unfolding segmentsFrom
-last-pass n b l m = rw (or-true (not (eqb m 0)))
-
 module _ (n b l x m y : ℕ) (ls ms : List ℕ) where
   pass-ends : eqb m 0 ≡ false → segmentsFrom n b (l ∷ x ∷ ls) (m ∷ y ∷ ms) ≡ segment (n + 1) (b + l) ∷ segmentsFrom 0 0 (x ∷ ls) (y ∷ ms)
   unfolding segmentsFrom
@@ -46,7 +43,7 @@ module _ (n b l x m y : ℕ) (ls ms : List ℕ) where
   unfolding segmentsFrom
   pass-goes-on e = if-false (not (eqb m 0) || false) _ _ (or-false (not (eqb m 0)) ∙ ap not e)
 
--- ---- the first segment and those behind it
+-- ---- the first segment and those after it
 
 -- the first takes `more` of the passes that are left
 record Split (n b : ℕ) (ls ms : List ℕ) : Type 0 where
@@ -153,7 +150,7 @@ pub increment-turn : (lb most : ℕ) (ss : List Segment) (s : Segment) (rest : L
 unfolding increment
 increment-turn lb most ss s rest e = rw e (omega arith)
 
--- what is so of no segment is so neither of the first nor of those behind it
+-- what is so of no segment is so neither of the first nor of those after it
 pub first-not-long : (ss : List Segment) (s : Segment) (rest : List Segment) → ss ≡ s ∷ rest → anyTooLong ss ≡ false → (s .bytes < 2 ^ 31) × (anyTooLong rest ≡ false)
 unfolding any
 first-not-long ss s rest e h =

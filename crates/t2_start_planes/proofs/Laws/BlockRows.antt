@@ -17,7 +17,7 @@ use Rattle.tcd_layout.proofs.Laws.Bands.{end-turn, blocks-split}
 use Rattle.tcd_layout.proofs.Laws.TreeLevels.{padded-front}
 use Rattle.tgt.specs.Path.{rowOver, pathOver, PathIn}
 use Rattle.tgt.proofs.Laws.Path.{TreeLevels, climb, path-climbs, path-in}
-use Rattle.t2_start_planes.specs.Rows.{RowIn}
+use Rattle.t2_start_planes.specs.Rows.{ColumnsIn}
 
 -- band i of the first n, the words of which begin at `at`, ends before the last of them does
 pub band-inside : (bs : List Band) (n i at size : ℕ) → n ≤ length bs → i < n → endOf at (drop i (take n bs)) ≡ size → at + bandLength (getD bs i noBand) ≤ size
@@ -92,7 +92,7 @@ row-inside b y from h e =
 
 -- the nodes of its zero-plane tree over the first n columns lie in a list that holds the band's words
 pub row-in : (at : ℕ) (b : Band) (ls : List Level) (depth : ℕ) → TreeLevels (b .across) (b .down) ls depth → (y : ℕ) → y < b .down → (row : List ℕ) → row ≡ rowOver ls depth y
-    → (base size n : ℕ) → base ≡ at + 3 * bandNodes b → at + bandLength b ≤ size → n ≤ b .across → RowIn size base row depth n
+    → (base size n : ℕ) → base ≡ at + 3 * bandNodes b → at + bandLength b ≤ size → n ≤ b .across → ColumnsIn size base row depth n
 unfolding bandNodes
 row-in at b ls depth t y k row e base size n q fits few = λ x h.
     let m : bandNodes b ≡ nodes (b .across) (b .down) = refl in

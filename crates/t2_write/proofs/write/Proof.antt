@@ -19,8 +19,8 @@ returns c =
     let g = c .before .measure-refusal in
     write-refused (a .state .now) (a .scratch .now) p (a .body .now) (a .markers) (a .number) (a .output .now) (g .result) (g .ensures) (c .if1 .taken)
 
-sum-lengths-requires : tie.Need-sum-lengths-requires
-sum-lengths-requires c κs =
+total-requires : tie.Need-total-requires
+total-requires c κs =
     let a = c .before .before .before .before .before .before .before .before .before .before .args in
     let p = contribution (a .counts .now) (a .lengths .now) (a .marks .now) in
     let g = c .before .measure-refusal in
@@ -32,7 +32,7 @@ returns-2 c =
     let a = c .before .before .before .before .before .before .before .before .before .before .before .before .args in
     let p = contribution (a .counts .now) (a .lengths .now) (a .marks .now) in
     let g = c .before .before .before .measure-refusal in
-    write-body-refused (a .state .now) (a .scratch .now) p (a .body .now) (a .markers) (a .number) (a .output .now) (g .result) (g .ensures) (c .before .before .if1 .left) _ (c .before .sum-lengths .ensures) (c .if2 .taken)
+    write-body-refused (a .state .now) (a .scratch .now) p (a .body .now) (a .markers) (a .number) (a .output .now) (g .result) (g .ensures) (c .before .before .if1 .left) _ (c .before .total .ensures) (c .if2 .taken)
 
 copy-requires : tie.Need-copy-requires
 copy-requires c κs =
@@ -55,7 +55,7 @@ returns-3 c =
     let g = c .before .before .before .before .before .before .before .before .before .before .before .before .before .before .before .before .before .before .before .before .before .before .before .before .before .measure-refusal in
     let k = c .before .before .before .before .before .before .before .before .before .before .before .before .before .before .put-front in
     let f = k .ensures ∙ ap (λ (ws : List ℕ). putFront p ws (a .markers) (a .number) (a .output .now)) (c .before .before .before .before .before .before .before .before .before .before .before .before .before .before .before .before .before .before .before .copy .ensures) in
-    write-no-space (a .state .now) (a .scratch .now) p (a .body .now) (a .markers) (a .number) (a .output .now) (g .result) (g .ensures) (c .before .before .before .before .before .before .before .before .before .before .before .before .before .before .before .before .before .before .before .before .before .before .before .before .if1 .left) _ (c .before .before .before .before .before .before .before .before .before .before .before .before .before .before .before .before .before .before .before .before .before .before .before .sum-lengths .ensures) (c .before .before .before .before .before .before .before .before .before .before .before .before .before .before .before .before .before .before .before .before .before .before .if2 .left) _ f _ _ _ (c .before .before .before .before .before .before .before .before .before .has-room .ensures) (c .before .before .before .before .before .before .before .before .if3 .taken)
+    write-no-space (a .state .now) (a .scratch .now) p (a .body .now) (a .markers) (a .number) (a .output .now) (g .result) (g .ensures) (c .before .before .before .before .before .before .before .before .before .before .before .before .before .before .before .before .before .before .before .before .before .before .before .before .if1 .left) _ (c .before .before .before .before .before .before .before .before .before .before .before .before .before .before .before .before .before .before .before .before .before .before .before .total .ensures) (c .before .before .before .before .before .before .before .before .before .before .before .before .before .before .before .before .before .before .before .before .before .before .if2 .left) _ f _ _ _ (c .before .before .before .before .before .before .before .before .before .has-room .ensures) (c .before .before .before .before .before .before .before .before .if3 .taken)
     (k .kept .0 ∙ c .before .before .before .before .before .before .before .before .before .before .before .before .before .before .before .before .before .before .before .copy .kept .1 .0) (k .kept .1 .0) (c .before .before .before .before .before .before .wipe .ensures) (c .before .before .wipe-bytes .ensures)
 
 put-body-requires : tie.Need-put-body-requires
@@ -77,7 +77,7 @@ returns-4 c =
     let k = c .before .before .before .before .before .before .before .before .before .before .before .before .before .before .before .put-front in
     let f = k .ensures ∙ ap (λ (ws : List ℕ). putFront p ws (a .markers) (a .number) (a .output .now)) (c .before .before .before .before .before .before .before .before .before .before .before .before .before .before .before .before .before .before .before .before .copy .ensures) in
     let room : k .result + length (a .body .now) ≤ length (k .last .1 .0) = room-left _ _ _ (c .before .before .before .before .before .before .before .before .before .before .has-room .ensures) (c .before .before .before .before .before .before .before .before .before .if3 .left) in
-    write-done (a .state .now) (a .scratch .now) p (a .body .now) (a .markers) (a .number) (a .output .now) (g .result) (g .ensures) (c .before .before .before .before .before .before .before .before .before .before .before .before .before .before .before .before .before .before .before .before .before .before .before .before .before .if1 .left) _ (c .before .before .before .before .before .before .before .before .before .before .before .before .before .before .before .before .before .before .before .before .before .before .before .before .sum-lengths .ensures) (c .before .before .before .before .before .before .before .before .before .before .before .before .before .before .before .before .before .before .before .before .before .before .before .if2 .left) _ f _ _ _ (omega (arith, room, k .kept .1 .0)) (c .before .before .before .before .before .before .before .put-body .ensures) (c .before .before .copy2 .ensures) refl
+    write-done (a .state .now) (a .scratch .now) p (a .body .now) (a .markers) (a .number) (a .output .now) (g .result) (g .ensures) (c .before .before .before .before .before .before .before .before .before .before .before .before .before .before .before .before .before .before .before .before .before .before .before .before .before .if1 .left) _ (c .before .before .before .before .before .before .before .before .before .before .before .before .before .before .before .before .before .before .before .before .before .before .before .before .total .ensures) (c .before .before .before .before .before .before .before .before .before .before .before .before .before .before .before .before .before .before .before .before .before .before .before .if2 .left) _ f _ _ _ (omega (arith, room, k .kept .1 .0)) (c .before .before .before .before .before .before .before .put-body .ensures) (c .before .before .copy2 .ensures) refl
 
 pub write-spec : {M : Type 1} → statement M
 write-spec =
@@ -86,7 +86,7 @@ write-spec =
     (λ c κs. search needs)
     (λ c. search needs)
     returns
-    sum-lengths-requires
+    total-requires
     (λ c. search needs)
     returns-2
     copy-requires

@@ -17,7 +17,7 @@ use Rattle.t800.proofs.Laws.Layout.{band-length, end-after}
 use Rattle.t800.proofs.Laws.SetLeaf.{length-setValue}
 use Rattle.t800.proofs.Laws.Tests.{either}
 use Rattle.bio_bytes.specs.Writing.{output, FreeBitsClear}
-use Rattle.tcd_layout.proofs.Laws.Bands.{length-from}
+use Rattle.t800.proofs.Laws.Lists.{length-from}
 use Rattle.tgt_write.specs.Coding.{putCoded}
 use Rattle.t2_write_lengths.specs.Blocks.{coded}
 use Rattle.t2_write_block.specs.Runs.{Running, codeNext, codeAll, AllFit, setNext, setAll}
@@ -27,7 +27,7 @@ use Rattle.t2_write_new_blocks.proofs.Laws.BandRows.{code-append, set-append, a
 use Rattle.tcd_places.specs.Places.{bandBlocks}
 use Rattle.tcd_places.proofs.Laws.Before.{AllBlocks, Before, From, all-append}
 use Rattle.tcd_places.proofs.Laws.BandBlocks.{blocks-from, leaf-before, band-before}
-use Rattle.t2_write_bands.proofs.Laws.TwoBands.{BlockBehind, next-length, code-then-set}
+use Rattle.t2_write_bands.proofs.Laws.TwoBands.{BlockAfter, next-length, code-then-set}
 use Rattle.t2_write_new_blocks.proofs.Laws.AllBlocks.{set-is-blocks, code-is-blocks}
 
 -- ---- setting leaves the words from q on, and the length
@@ -76,15 +76,15 @@ module _ (at : ℕ) (b : Band) where
   trees-before zero i h = tt
   trees-before (suc n) i h = (leaf-before (at + 6 * bandNodes b) at (b .across) (b .down) i (omega arith) (omega arith), trees-before n (i + 1) (omega arith))
 
-  blocks-behind : (q n i : ℕ) → q ≤ at → AllBlocks (BlockBehind q) (blocksFrom at b n i)
+  blocks-after : (q n i : ℕ) → q ≤ at → AllBlocks (BlockAfter q) (blocksFrom at b n i)
   unfolding blocksFrom
-  blocks-behind q zero i h = tt
-  blocks-behind q (suc n) i h = (record { incl = h; own = omega arith }, blocks-behind q n (i + 1) h)
+  blocks-after q zero i h = tt
+  blocks-after q (suc n) i h = (record { incl = h; own = omega arith }, blocks-after q n (i + 1) h)
 
-all-behind : (q at : ℕ) (bs : List Band) → q ≤ at → AllBlocks (BlockBehind q) (blocksAt at bs)
+all-after : (q at : ℕ) (bs : List Band) → q ≤ at → AllBlocks (BlockAfter q) (blocksAt at bs)
 unfolding blocksAt
-all-behind q at [] h = tt
-all-behind q at (b ∷ bs) h = all-append (BlockBehind q) (bandBlocks at b) (blocksAt (at + bandLength b) bs) (blocks-behind at b q (blocksIn b) 0 h) (all-behind q (at + bandLength b) bs (omega arith))
+all-after q at [] h = tt
+all-after q at (b ∷ bs) h = all-append (BlockAfter q) (bandBlocks at b) (blocksAt (at + bandLength b) bs) (blocks-after at b q (blocksIn b) 0 h) (all-after q (at + bandLength b) bs (omega arith))
 
 all-from : (q at : ℕ) (bs : List Band) → q ≤ at → AllBlocks (From q) (blocksAt at bs)
 unfolding blocksAt
@@ -94,7 +94,7 @@ all-from q at (b ∷ bs) h = all-append (From q) (bandBlocks at b) (blocksAt (at
 -- ---- one band
 
 module _ (at : ℕ) (b : Band) (t : ℕ) (cs : List ℕ) where
-  -- its new blocks set, its blocks and those behind can be coded as before
+  -- its new blocks set, its blocks and those after them can be coded as before
   set-still-fit : (ls ms : List ℕ) (ks : List Block) (ws : List ℕ) (j i p : ℕ) → AllBlocks (From (at + 6 * bandNodes b)) ks → AllFit cs ls ms ws ks i p → AllFit cs ls ms (setAll t cs (bandBlocks at b) j ws) ks i p
   set-still-fit ls ms ks ws j i p a f =
       all-still-fit (at + 6 * bandNodes b) cs ls ms _ ws ks i p (set-keeps (at + 6 * bandNodes b) t cs (bandBlocks at b) j ws (trees-before at b (blocksIn b) 0 (omega arith))) a f
@@ -155,7 +155,7 @@ bands-are-blocks t cs ls ms at (b ∷ bs) s h =
     let i : ℕ = s .block + length js in
     bands-are-blocks t cs ls ms q bs u (omega arith)
     ∙ ap (λ (z : ℕ). codeAll t cs ls ms ks (newSet t cs ks z u)) (coded-blocks t cs ls ms js v)
-    ∙ ap (codeAll t cs ls ms ks) (sym (code-then-set q t i cs ls ms js ks v (omega (arith, end-after q bs)) (band-before at b) (all-behind q q bs (omega arith))))
+    ∙ ap (codeAll t cs ls ms ks) (sym (code-then-set q t i cs ls ms js ks v (omega (arith, end-after q bs)) (band-before at b) (all-after q q bs (omega arith))))
     ∙ sym (code-append t cs ls ms js ks (newSet t cs ks i v))
     ∙ ap (λ (ws : List ℕ). codeAll t cs ls ms (js ++ ks) (record { words = ws; output = s .output; block = s .block; pass = s .pass })) (sym (set-append t cs js ks (s .block) (s .words)))
 

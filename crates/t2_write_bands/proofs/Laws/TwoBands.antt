@@ -24,6 +24,10 @@ use Rattle.tcd_places.proofs.Laws.Before.{AllBlocks, Before, BlockBefore}
 abbrev onto : List ℕ → Coded → Coded
 onto ys d = record { bits = d .bits; words = d .words ++ ys }
 
+either-onto : (n : Bool) (ys : List ℕ) (x y : Coded) → cond n (onto ys x) (onto ys y) ≡ onto ys (cond n x y)
+either-onto true ys x y = refl
+either-onto false ys x y = refl
+
 front : (xs ys : List ℕ) (i : ℕ) → i < length xs → getD (xs ++ ys) i 0 ≡ getD xs i 0
 front xs ys i h = List·getD-append xs ys 0 i h
 
@@ -62,21 +66,13 @@ module _ (q : ℕ) (k : Block) (b : BlockBefore q k) (xs ys : List ℕ) (m : len
   unfolding codeInclusion
   incl-front t c =
       (λ i. cond (new-front i) (path-front (k .inclTree) (t + 1) (reverse (k .path)) 0 xs ys (subst (λ (z : ℕ). Before z (k .inclTree) (reverse (k .path))) (sym m) (b .incl)) i) (record { bits = cond (ltb 0 c) 1 0 ∷ []; words = xs ++ ys }))
-      ∙ by (isNew xs k)
-    where
-      by : (n : Bool) → cond n (onto ys (codePath (k .inclTree) (t + 1) (reverse (k .path)) 0 xs)) (record { bits = cond (ltb 0 c) 1 0 ∷ []; words = xs ++ ys }) ≡ onto ys (cond n (codePath (k .inclTree) (t + 1) (reverse (k .path)) 0 xs) (record { bits = cond (ltb 0 c) 1 0 ∷ []; words = xs }))
-      by true = refl
-      by false = refl
+      ∙ either-onto (isNew xs k) ys (codePath (k .inclTree) (t + 1) (reverse (k .path)) 0 xs) (record { bits = cond (ltb 0 c) 1 0 ∷ []; words = xs })
 
   planes-front : codeZeroPlanes k (xs ++ ys) ≡ onto ys (codeZeroPlanes k xs)
   unfolding codeZeroPlanes
   planes-front =
       (λ i. cond (new-front i) (path-front (k .zeroTree) notYetPlanes (reverse (k .path)) 0 xs ys (subst (λ (z : ℕ). Before z (k .zeroTree) (reverse (k .path))) (sym m) (b .zero)) i) (record { bits = []; words = xs ++ ys }))
-      ∙ by (isNew xs k)
-    where
-      by : (n : Bool) → cond n (onto ys (codePath (k .zeroTree) notYetPlanes (reverse (k .path)) 0 xs)) (record { bits = []; words = xs ++ ys }) ≡ onto ys (cond n (codePath (k .zeroTree) notYetPlanes (reverse (k .path)) 0 xs) (record { bits = []; words = xs }))
-      by true = refl
-      by false = refl
+      ∙ either-onto (isNew xs k) ys (codePath (k .zeroTree) notYetPlanes (reverse (k .path)) 0 xs) (record { bits = []; words = xs })
 
   bits-front : lengthBitsBefore (xs ++ ys) k ≡ lengthBitsBefore xs k
   unfolding lengthBitsBefore
@@ -122,17 +118,17 @@ block-front q k b xs ys m t c segments =
     let e = incl-front q k b xs ys m t c in
     let f = ap (λ (d : Coded). codeZeroPlanes k (d .words)) e ∙ planes-front q k b (i .words) ys (incl-length t c k xs ∙ m) in
     let g = ap (λ (d : Coded). codePasses k c segments (d .words)) f ∙ passes-front q k b (z .words) ys (planes-length k (i .words) ∙ incl-length t c k xs ∙ m) c segments in
-    (λ j. chosen (e j) (f j) (g j)) ∙ by (eqb c 0) i (all i z p)
-  where
-    by : (n : Bool) (x y : Coded) → cond n (onto ys x) (onto ys y) ≡ onto ys (cond n x y)
-    by true x y = refl
-    by false x y = refl
+    (λ j. chosen (e j) (f j) (g j)) ∙ either-onto (eqb c 0) ys i (all i z p)
 
 -- ---- setting in the back part
 
 set-back : (xs ys : List ℕ) (i v : ℕ) → set (xs ++ ys) (length xs + i) v ≡ xs ++ set ys i v
 set-back [] ys i v = ap (λ (z : ℕ). set ys z v) (zero-add i)
 set-back (x ∷ xs) ys i v = ap (λ (z : ℕ). set (x ∷ (xs ++ ys)) z v) (suc-add (length xs) i) ∙ ap (λ (zs : List ℕ). x ∷ zs) (set-back xs ys i v)
+
+either-back : (t : Bool) (xs us vs : List ℕ) → cond t (xs ++ us) (xs ++ vs) ≡ xs ++ cond t us vs
+either-back true xs us vs = refl
+either-back false xs us vs = refl
 
 value-back : (xs ys : List ℕ) (base : ℕ) (ns : List ℕ) (v : ℕ) → length xs ≤ base → setValue base ns v (xs ++ ys) ≡ xs ++ setValue (base - length xs) ns v ys
 unfolding setValue
@@ -142,14 +138,10 @@ value-back xs ys base (n ∷ ns) v h =
     let g : getD (xs ++ ys) (base + 3 * n) 0 ≡ getD ys (base - length xs + 3 * n) 0 = ap (λ (z : ℕ). getD (xs ++ ys) z 0) e ∙ getD-append-add xs ys (base - length xs + 3 * n) 0 in
     let w : set (xs ++ ys) (base + 3 * n) v ≡ xs ++ set ys (base - length xs + 3 * n) v = ap (λ (z : ℕ). set (xs ++ ys) z v) e ∙ set-back xs ys (base - length xs + 3 * n) v in
     (λ i. cond (ltb v (g i)) ((ap (setValue base ns v) w ∙ value-back xs (set ys (base - length xs + 3 * n) v) base ns v h) i) (xs ++ ys))
-    ∙ by (ltb v (getD ys (base - length xs + 3 * n) 0)) (setValue (base - length xs) ns v (set ys (base - length xs + 3 * n) v)) ys
-  where
-    by : (t : Bool) (us vs : List ℕ) → cond t (xs ++ us) (xs ++ vs) ≡ xs ++ cond t us vs
-    by true us vs = refl
-    by false us vs = refl
+    ∙ either-back (ltb v (getD ys (base - length xs + 3 * n) 0)) xs (setValue (base - length xs) ns v (set ys (base - length xs + 3 * n) v)) ys
 
 -- the block's inclusion tree and words stand from q on
-pub record BlockBehind (q : ℕ) (j : Block) : Type 0 where
+pub record BlockAfter (q : ℕ) (j : Block) : Type 0 where
   pub incl : q ≤ j .inclTree
   pub own : q ≤ j .at
 
@@ -160,44 +152,40 @@ abbrev allShifted : ℕ → List Block → List Block
 allShifted q [] = []
 allShifted q (j ∷ js) = shifted q j ∷ allShifted q js
 
-next-back : (t c : ℕ) (j : Block) (xs ys : List ℕ) → BlockBehind (length xs) j → setNext t j c (xs ++ ys) ≡ xs ++ setNext t (shifted (length xs) j) c ys
+next-back : (t c : ℕ) (j : Block) (xs ys : List ℕ) → BlockAfter (length xs) j → setNext t j c (xs ++ ys) ≡ xs ++ setNext t (shifted (length xs) j) c ys
 unfolding setNext isNew
 next-back t c j xs ys b =
     let e : j .at ≡ length xs + (j .at - length xs) = omega (arith, b .own) in
     let g : getD (xs ++ ys) (j .at) 0 ≡ getD ys (j .at - length xs) 0 = ap (λ (z : ℕ). getD (xs ++ ys) z 0) e ∙ getD-append-add xs ys (j .at - length xs) 0 in
-    (λ i. cond (eqb (g i) 0 && ltb 0 c) (value-back xs ys (j .inclTree) (j .path) t (b .incl) i) (xs ++ ys)) ∙ by (eqb (getD ys (j .at - length xs) 0) 0 && ltb 0 c) _ ys
-  where
-    by : (n : Bool) (us vs : List ℕ) → cond n (xs ++ us) (xs ++ vs) ≡ xs ++ cond n us vs
-    by true us vs = refl
-    by false us vs = refl
+    (λ i. cond (eqb (g i) 0 && ltb 0 c) (value-back xs ys (j .inclTree) (j .path) t (b .incl) i) (xs ++ ys)) ∙ either-back (eqb (getD ys (j .at - length xs) 0) 0 && ltb 0 c) xs _ ys
 
-all-back : (t : ℕ) (cs : List ℕ) (js : List Block) (i : ℕ) (xs ys : List ℕ) → AllBlocks (BlockBehind (length xs)) js → setAll t cs js i (xs ++ ys) ≡ xs ++ setAll t cs (allShifted (length xs) js) i ys
+all-back : (t : ℕ) (cs : List ℕ) (js : List Block) (i : ℕ) (xs ys : List ℕ) → AllBlocks (BlockAfter (length xs)) js → setAll t cs js i (xs ++ ys) ≡ xs ++ setAll t cs (allShifted (length xs) js) i ys
 unfolding setAll
 all-back t cs [] i xs ys b = refl
 all-back t cs (j ∷ js) i xs ys b = ap (setAll t cs js (i + 1)) (next-back t (getD cs i 0) j xs ys (b .0)) ∙ all-back t cs js (i + 1) xs _ (b .1)
 
 -- ---- one after the other, in either order
 
-parts : (q t c i : ℕ) (k : Block) (segments : List Segment) (cs : List ℕ) (js : List Block) (xs ys : List ℕ) → length xs ≡ q → BlockBefore q k → AllBlocks (BlockBehind q) js
+parts : (q t c i : ℕ) (k : Block) (segments : List Segment) (cs : List ℕ) (js : List Block) (xs ys : List ℕ) → length xs ≡ q → BlockBefore q k → AllBlocks (BlockAfter q) js
     → codeBlock t k c segments (setAll t cs js i (xs ++ ys)) ≡ record { bits = codeBlock t k c segments (xs ++ ys) .bits; words = setAll t cs js i (codeBlock t k c segments (xs ++ ys) .words) }
 parts q t c i k segments cs js xs ys m b a =
     let d : Coded = codeBlock t k c segments xs in
     let zs : List ℕ = setAll t cs (allShifted q js) i ys in
     let back : (us : List ℕ) → length us ≡ q → setAll t cs js i (us ++ ys) ≡ us ++ zs = λ us e.
-    all-back t cs js i us ys (subst (λ (z : ℕ). AllBlocks (BlockBehind z) js) (sym e) a) ∙ ap (λ (z : ℕ). us ++ setAll t cs (allShifted z js) i ys) e in
+    all-back t cs js i us ys (subst (λ (z : ℕ). AllBlocks (BlockAfter z) js) (sym e) a) ∙ ap (λ (z : ℕ). us ++ setAll t cs (allShifted z js) i ys) e in
     let f : codeBlock t k c segments (xs ++ ys) ≡ onto ys d = block-front q k b xs ys m t c segments in
     ap (codeBlock t k c segments) (back xs m)
     ∙ block-front q k b xs zs m t c segments
     ∙ (λ j. record { bits = d .bits; words = sym (back (d .words) (block-length t c k segments xs ∙ m)) j })
     ∙ sym (ap (λ (x : Coded). record { bits = x .bits; words = setAll t cs js i (x .words) }) f)
 
-pub block-then-set : (q t c i : ℕ) (k : Block) (segments : List Segment) (cs : List ℕ) (js : List Block) (ws : List ℕ) → q ≤ length ws → BlockBefore q k → AllBlocks (BlockBehind q) js
+pub block-then-set : (q t c i : ℕ) (k : Block) (segments : List Segment) (cs : List ℕ) (js : List Block) (ws : List ℕ) → q ≤ length ws → BlockBefore q k → AllBlocks (BlockAfter q) js
     → codeBlock t k c segments (setAll t cs js i ws) ≡ record { bits = codeBlock t k c segments ws .bits; words = setAll t cs js i (codeBlock t k c segments ws .words) }
 block-then-set q t c i k segments cs js ws h b a =
     let m : length (take q ws) ≡ q = length-take q ws ∙ omega arith in
     subst (λ (vs : List ℕ). codeBlock t k c segments (setAll t cs js i vs) ≡ record { bits = codeBlock t k c segments vs .bits; words = setAll t cs js i (codeBlock t k c segments vs .words) }) (take-append-drop q ws) (parts q t c i k segments cs js (take q ws) (drop q ws) m b a)
 
-next-then-set : (q t i : ℕ) (cs ls ms : List ℕ) (k : Block) (js : List Block) (s : Running) → q ≤ length (s .words) → BlockBefore q k → AllBlocks (BlockBehind q) js
+next-then-set : (q t i : ℕ) (cs ls ms : List ℕ) (k : Block) (js : List Block) (s : Running) → q ≤ length (s .words) → BlockBefore q k → AllBlocks (BlockAfter q) js
     → codeNext t cs ls ms k (newSet t cs js i s) ≡ newSet t cs js i (codeNext t cs ls ms k s)
 unfolding codeNext
 next-then-set q t i cs ls ms k js s h b a = ap (behindCoded s (getD cs (s .block) 0)) (block-then-set q t _ i k _ cs js (s .words) h b a)
@@ -207,7 +195,7 @@ unfolding codeNext
 next-length t cs ls ms k s = block-length t _ k _ (s .words)
 
 -- a band's blocks coded before or after a later band's new blocks are set
-pub code-then-set : (q t i : ℕ) (cs ls ms : List ℕ) (ks js : List Block) (s : Running) → q ≤ length (s .words) → AllBlocks (BlockBefore q) ks → AllBlocks (BlockBehind q) js
+pub code-then-set : (q t i : ℕ) (cs ls ms : List ℕ) (ks js : List Block) (s : Running) → q ≤ length (s .words) → AllBlocks (BlockBefore q) ks → AllBlocks (BlockAfter q) js
     → codeAll t cs ls ms ks (newSet t cs js i s) ≡ newSet t cs js i (codeAll t cs ls ms ks s)
 unfolding codeAll
 code-then-set q t i cs ls ms [] js s h b a = refl

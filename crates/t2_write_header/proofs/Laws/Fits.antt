@@ -9,7 +9,7 @@ use lib.ListN.{length, getD, take, drop, length-take, length-drop}
 use lib.Seq.{drop-drop}
 use Rattle.t800.specs.Base.{any, sum}
 use Rattle.t800.specs.Segments.{segmentsOf}
-use Rattle.t800.specs.State.{Block, writer, bands, blocks}
+use Rattle.t800.specs.State.{Block, writer, bands, blocks, notYetIncluded}
 use Rattle.t800.specs.Ranges.{validState}
 use Rattle.t800.specs.WriteHeader.{Contribution, isNew, lengthBitsBefore, segmentTooLong, fieldTooWide}
 use Rattle.t800.proofs.Laws.Layout.{Layout, AllPlaced, layoutOf, blocks-placed}
@@ -26,9 +26,9 @@ use Rattle.tcd_places.proofs.Laws.Before.{AllBlocks}
 -- ---- the words of a block in a state that 5 lets pass
 
 abbrev Bounded : List ℕ → Block → Type 0
-Bounded ws k = (getD ws (k .at) 0 ≤ 164 * 999) × (getD ws (k .at + 1) 0 ≤ 32)
+Bounded ws k = (getD ws (k .at) 0 ≤ 164 * notYetIncluded) × (getD ws (k .at + 1) 0 ≤ 32)
 
-placed-bounded : (L : Layout) (ws : List ℕ) (ks : List Block) → AllPlaced L ks → ((p : ℕ) → L .BlockAt p → (getD ws p 0 ≤ 164 * 999) × (getD ws (p + 1) 0 ≤ 32)) → AllBlocks (Bounded ws) ks
+placed-bounded : (L : Layout) (ws : List ℕ) (ks : List Block) → AllPlaced L ks → ((p : ℕ) → L .BlockAt p → (getD ws p 0 ≤ 164 * notYetIncluded) × (getD ws (p + 1) 0 ≤ 32)) → AllBlocks (Bounded ws) ks
 placed-bounded L ws [] f h = tt
 placed-bounded L ws (k ∷ ks) f h = (h (k .at) (f .0 .0 .block), placed-bounded L ws ks (f .1) h)
 

@@ -6,7 +6,7 @@ use native.Mathlib.Omega.{arith}
 use lib.ListN.{length, set}
 use Rattle.t800.specs.declared.Band.{Band}
 use Rattle.t800.specs.Bits.{pack}
-use Rattle.t800.specs.State.{writer, layer, bands, blocks, stateLength}
+use Rattle.t800.specs.State.{writer, layer, bands, blocks, stateLength, notYetIncluded}
 use Rattle.t800.specs.TagTree.{Coded}
 use Rattle.t800.specs.WriteHeader.{Contribution, setNewBlocks, codeHeader}
 use Rattle.t800.proofs.Laws.HeaderBits.{bits-blocks}
@@ -26,7 +26,7 @@ module _ (ws : List ℕ) (n : ℕ) (p : Contribution) (r : NotRefused ws n p) wh
   abbrev all : Coded
   all = headerBlocks (layer ws) (blocks (bands ws)) p ws
 
-  pub layer-left : layer ws < 999
+  pub layer-left : layer ws < notYetIncluded
   layer-left = omega (arith, r .layer-left, valid-state writer ws n (r .valid) .layer-up-to)
 
   bits-up-to : length (all .bits) ≤ 20000 * 12288

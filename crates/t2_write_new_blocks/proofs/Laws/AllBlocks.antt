@@ -37,7 +37,7 @@ none-set t cs (k ∷ ks) i ws l h =
     let same : setNext t k c ws ≡ ws = if-false (isNew ws k && ltb 0 c) _ _ (ap (λ (b : Bool). isNew ws k && b) (or-left (ltb 0 c) (any (λ (c : ℕ). ltb 0 c) rest) g) ∙ and-false (isNew ws k)) in
     ap (setAll t cs ks (i + 1)) same ∙ none-set t cs ks (i + 1) ws (omega arith) (or-right (ltb 0 c) (any (λ (c : ℕ). ltb 0 c) rest) g)
 
--- one block, then those behind it
+-- one block, then those after it
 blocks-turn : (t : ℕ) (k : Block) (ks : List Block) (c : ℕ) (cs ls ms ws : List ℕ) (o : Output)
     → putCoded (putBits o (codeBlock t k c (segmentsOf (take c ls) (take c ms)) ws .bits)) (codeBlocks t ks cs (drop c ls) (drop c ms) (codeBlock t k c (segmentsOf (take c ls) (take c ms)) ws .words)) ≡ putCoded o (codeBlocks t (k ∷ ks) (c ∷ cs) ls ms ws)
 unfolding codeBlocks

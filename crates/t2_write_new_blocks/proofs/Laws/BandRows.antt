@@ -1,4 +1,4 @@
--- A band row by row: its blocks are t800's, and what is left behind a row.
+-- A band row by row: its blocks are t800's, and what is left after a row.
 use mathlib.Core.Path.{_≡_, refl, sym, ap, _∙_, subst}
 use mathlib.Core.List.{List, [], _∷_, _++_}
 use Prim.Native.Nat.{ℕ, zero, suc, _+_, _-_, _*_, _<_}
@@ -10,7 +10,7 @@ use Rattle.t800.specs.State.{Block, bandNodes, blocksFrom}
 use Rattle.t800.specs.WriteHeader.{isNew, lengthBitsBefore, codeInclusion, codeZeroPlanes, codePasses, codeBlock}
 use Rattle.bio_bytes.specs.Writing.{FreeBitsClear}
 use Rattle.tcd_layout.specs.Geometry.{padded}
-use Rattle.tcd_layout.proofs.Laws.Bands.{length-from}
+use Rattle.t800.proofs.Laws.Lists.{length-from}
 use Rattle.tgt.specs.Path.{rowOver}
 use Rattle.tgt.proofs.Laws.Path as tgt
 use Rattle.tcd_places.specs.declared.Place.{Place}

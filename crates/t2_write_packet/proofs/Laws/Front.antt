@@ -35,8 +35,8 @@ part-put l at end xs part h e p =
     let q = ap (λ (z : List ℕ). take at l ++ (xs ++ z)) (ap (λ (z : ℕ). drop z (drop at l)) n ∙ drop-drop (length xs) at l) ∙ sym (append-assoc (take at l) xs (drop (at + length xs) l)) ∙ sym (sets-eq xs l at h) in
     (λ i. bytesPut (take at l ++ (p i ++ drop (end - at) (drop at l))) end) ∙ (λ i. bytesPut (q i) (e i))
 
-pub room-behind : (bytes front body : ℕ) → front ≤ bytes → leb body (bytes - front) ≡ leb (front + body) bytes
-room-behind bytes front body h =
+pub room-after : (bytes front body : ℕ) → front ≤ bytes → leb body (bytes - front) ≡ leb (front + body) bytes
+room-after bytes front body h =
     on-le body (bytes - front)
     (λ k. le-leb body (bytes - front) k ∙ sym (le-leb (front + body) bytes (omega arith)))
     (λ k. lt-leb body (bytes - front) k ∙ sym (lt-leb (front + body) bytes (omega arith)))
@@ -82,11 +82,3 @@ module _ (ws : List ℕ) (n : ℕ) (p : Contribution) (r : NotRefused ws n p) wh
   pub header-ends : (start : ℕ) (bytes : List ℕ) (h : HeaderCoded) → start ≤ 6 → h ≡ putHeader p ws start bytes → h .end ≤ 250000006
   unfolding putHeader
   header-ends start bytes h l e = omega (arith, ap (λ (k : HeaderCoded). k .end) e, header-small ws n p r)
-
-  pub front-small : (m : Markers) (number : ℕ) → length (front ws p m number) ≤ 250000012
-  unfolding front withMarkers ephBytes
-  front-small m number =
-      let sop : List ℕ = cond (m .sop) (sopBytes number) [] in
-      let eph : List ℕ = cond (m .eph) ephBytes [] in
-      let head : List ℕ = pack (codeHeader p ws .bits) in
-      omega (arith, length-append (sop ++ head) eph, length-append sop head, header-small ws n p r, sop-up-to (m .sop) number, marker-up-to (m .eph) ephBytes (omega arith))

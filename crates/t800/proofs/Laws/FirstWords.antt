@@ -1,4 +1,4 @@
--- What the first thirteen words of a state say: role, bands, style and next layer. No change behind them changes that.
+-- What the first thirteen words of a state say: role, bands, style and next layer. No change after them changes that.
 use mathlib.Core.Path.{_≡_, refl, _∙_}
 use mathlib.Core.Logic.{_≢_}
 use mathlib.Core.Bool.{true}

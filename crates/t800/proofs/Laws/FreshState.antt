@@ -83,13 +83,13 @@ block-here (suc n) (suc (suc zero)) more h = refl
 block-here (suc n) (suc (suc (suc zero))) more h = refl
 block-here (suc n) (suc (suc (suc (suc i)))) more h = block-here n i more (omega arith)
 
--- word i of a list behind n others
-behind : (at : ℕ) (ws xs ys : List ℕ) (n i : ℕ) → length xs ≡ n → drop at ws ≡ xs ++ ys → getD ws (at + n + i) 0 ≡ getD ys i 0
-behind at ws xs ys n i l e =
+-- word i of a list, after n others
+word-after : (at : ℕ) (ws xs ys : List ℕ) (n i : ℕ) → length xs ≡ n → drop at ws ≡ xs ++ ys → getD ws (at + n + i) 0 ≡ getD ys i 0
+word-after at ws xs ys n i l e =
     ap (λ (z : ℕ). getD ws z 0) (let q : at + n + i ≡ at + (length xs + i) = omega arith in q)
     ∙ sym (getD-drop at ws (length xs + i) 0) ∙ ap (λ (z : List ℕ). getD z (length xs + i) 0) e ∙ getD-append-add xs ys i 0
 
--- the bands' words behind the inclusion tree of the first, and behind both its trees
+-- the bands' words after the inclusion tree of the first, and after both its trees
 split-first : (b : Band) (bs : List Band) → freshBands (b ∷ bs) ≡ freshNodes notYetIncluded (bandNodes b) ++ (freshNodes notYetPlanes (bandNodes b) ++ (freshBlocks (blocksIn b) ++ freshBands bs))
 unfolding freshBands
 split-first b bs =
@@ -115,7 +115,7 @@ tree-words inclusion at ws b bs e = (
 )
 tree-words zeroPlanes at ws b bs e = (
   freshBlocks (blocksIn b) ++ freshBands bs,
-  λ i. behind at ws (freshNodes notYetIncluded (bandNodes b)) (freshNodes notYetPlanes (bandNodes b) ++ (freshBlocks (blocksIn b) ++ freshBands bs)) (3 * bandNodes b) i
+  λ i. word-after at ws (freshNodes notYetIncluded (bandNodes b)) (freshNodes notYetPlanes (bandNodes b) ++ (freshBlocks (blocksIn b) ++ freshBands bs)) (3 * bandNodes b) i
       (length-nodes notYetIncluded (bandNodes b)) (e ∙ split-first b bs),
 )
 
@@ -139,7 +139,7 @@ block-words at ws (b ∷ bs) p e (inl c) j h =
     let i : ℕ = 4 * c .0 + j in
     let l : length trees ≡ 6 * n = length-append (freshNodes notYetIncluded n) (freshNodes notYetPlanes n) ∙ ap₂ (λ (x y : ℕ). x + y) (length-nodes notYetIncluded n) (length-nodes notYetPlanes n) ∙ omega arith in
     let q : p + j ≡ at + 6 * n + i = omega (arith, c .2) in
-    ap (λ (z : ℕ). getD ws z 0) q ∙ behind at ws trees (freshBlocks (blocksIn b) ++ freshBands bs) (6 * n) i l (e ∙ split-second b bs) ∙ block-here (blocksIn b) i (freshBands bs) (omega (arith, c .1))
+    ap (λ (z : ℕ). getD ws z 0) q ∙ word-after at ws trees (freshBlocks (blocksIn b) ++ freshBands bs) (6 * n) i l (e ∙ split-second b bs) ∙ block-here (blocksIn b) i (freshBands bs) (omega (arith, c .1))
 block-words at ws (b ∷ bs) p e (inr n) j h = block-words (at + bandLength b) ws bs p (after-own at ws b bs e) n j h
 
 after-first : (r s : ℕ) (bs : List Band) → drop 13 (freshState r s bs) ≡ freshBands bs

@@ -98,9 +98,9 @@ some-before at b (suc n) i leaf a rest lo hi h =
     (λ e. inl (subst (λ (z : ℕ). In a (zeroPath (blockOf at b z))) e h))
     (λ e. inr (some-before at b n (i + 1) leaf a rest (omega arith) (omega arith) h))
 
-some-behind : (a : ℕ) (ks js : List Block) → SomeBelow a js → SomeBelow a (ks ++ js)
-some-behind a [] js s = s
-some-behind a (k ∷ ks) js s = inr (some-behind a ks js s)
+some-after : (a : ℕ) (ks js : List Block) → SomeBelow a js → SomeBelow a (ks ++ js)
+some-after a [] js s = s
+some-after a (k ∷ ks) js s = inr (some-after a ks js s)
 
 some-below : (at : ℕ) (bs : List Band) (a : ℕ) → NodeFrom zeroPlanes at bs a → SomeBelow a (blocksAt at bs)
 unfolding blocksAt bandNodes blocksIn
@@ -109,7 +109,7 @@ some-below at (b ∷ bs) a (inl c) =
     let l = leaf-below (b .across) (b .down) (c .0) (c .1) in
     some-before at b (blocksIn b) 0 (l .0) a (blocksAt (at + bandLength b) bs) (omega arith) (omega (arith, l .1))
     (subst (λ (z : ℕ). In z (zeroPath (blockOf at b (l .0)))) (sym (c .2)) (in-addresses (at + 3 * bandNodes b) (c .0) (pathToRoot (b .across) (b .down) (l .0)) (l .2)))
-some-below at (b ∷ bs) a (inr n) = some-behind a (blocksFrom at b (blocksIn b) 0) (blocksAt (at + bandLength b) bs) (some-below (at + bandLength b) bs a n)
+some-below at (b ∷ bs) a (inr n) = some-after a (blocksFrom at b (blocksIn b) 0) (blocksAt (at + bandLength b) bs) (some-below (at + bandLength b) bs a n)
 
 -- ---- setting the leaves
 

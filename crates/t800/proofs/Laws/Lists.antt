@@ -10,7 +10,7 @@ use borrow.Author.Tests.{not-false, eqb-true}
 use Rattle.t800.specs.declared.Band.{Band}
 use Rattle.t800.specs.Base.{sum}
 use Rattle.t800.specs.Segments.{segmentsFrom}
-use Rattle.t800.specs.Reports.{SegmentRecord, recordWords}
+use Rattle.t800.specs.Reports.{SegmentRecord, recordWidth, recordWords}
 use Rattle.t800.specs.State.{Block, blocksFrom}
 use Rattle.t800.specs.Ranges.{blockTooDeep}
 use Rattle.t800.specs.Start.{setZeroPlanes}
@@ -23,7 +23,7 @@ unfolding blocksFrom
 length-from at b zero i = refl
 length-from at b (suc n) i = ap suc (length-from at b n (i + 1))
 
-pub record-words-length : (rs : List SegmentRecord) → length (recordWords rs) ≡ 4 * length rs
+pub record-words-length : (rs : List SegmentRecord) → length (recordWords rs) ≡ recordWidth * length rs
 unfolding recordWords
 record-words-length [] = refl
 record-words-length (r ∷ rs) = let i = record-words-length rs in omega arith

@@ -1,4 +1,4 @@
--- What `pack` makes of bits (T.800, B.10.1): behind a byte FF stands a byte below 80, so that no marker, FF 90 or above, can arise
+-- What `pack` makes of bits (T.800, B.10.1): after a byte FF stands a byte below 80, so that no marker, FF 90 or above, can arise
 -- within a header, and the last byte isn't FF.
 use mathlib.Core.Path.{_≡_, refl}
 use mathlib.Core.Logic.{_≢_}
@@ -33,7 +33,7 @@ last-may-follow x byte h = (h, go (eqb byte 255) refl)
     go true e = ((λ _. omega arith), omega arith)
     go false e = eqb-false byte 255 e
 
--- `free` bits are free in `byte`, and what they can hold keeps it below 80 behind FF
+-- `free` bits are free in `byte`, and what they can hold keeps it below 80 after FF
 packed-may-follow : (x byte free : ℕ) (bs : List ℕ) → AreBits bs → (x ≡ 255 → byte + 2 ^ free ≤ 128) → MayFollow x (packFrom byte free bs)
 unfolding packFrom bitsAfter
 packed-may-follow x byte free [] bits h = last-may-follow x byte (λ e. omega (arith, h e, pow-pos free))

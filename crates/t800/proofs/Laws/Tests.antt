@@ -74,7 +74,7 @@ not-refused false n x h e = (refl, e)
 
 -- ---- lists
 
--- what stands at place p and behind it
+-- what stands at place p and after it
 pub drop-head {ℓ} : {A : Type ℓ} (s : List A) (p : ℕ) (x : A) (xs : List A) (d : A) → drop p s ≡ x ∷ xs
     → (p < length s) × (getD s p d ≡ x) × (drop (suc p) s ≡ xs)
 drop-head s p x xs d e =

@@ -18,6 +18,7 @@ use Rattle.t800.specs.State.{Block, blockOf, blocksIn, bandNodes, bandLength, e
 use Rattle.t800.specs.Ranges.{badShape}
 use Rattle.t800.proofs.Laws.Tests.{or-left, or-right}
 use Rattle.t800.proofs.Laws.Layout.{band-length}
+use Rattle.t800.proofs.Laws.Lists.{length-from}
 use Rattle.tcd_layout.specs.Geometry.{noBand, padded, bandLevels, SidesUpTo64, AllUpTo64}
 use Rattle.tcd_layout.proofs.Laws.TreeLevels.{area-up-to-4096, nodes-up-to-28672}
 
@@ -64,13 +65,6 @@ sides-of-first bs n i h k s =
     let l : i < length (take n bs) = simp length-take (omega arith) in
     subst SidesUpTo64 (getD-take n bs i noBand k) (sides-of (take n bs) i l s)
 
--- the bands before those are in range too
-pub sides-before : (bs : List Band) (m n : ℕ) → m ≤ n → AllUpTo64 (take n bs) → AllUpTo64 (take m bs)
-sides-before bs zero n h s = tt
-sides-before [] (suc m) n h s = tt
-sides-before (b ∷ bs) (suc m) zero h s = absurd (omega arith)
-sides-before (b ∷ bs) (suc m) (suc n) h s = (s .0, sides-before bs m n (omega arith) (s .1))
-
 sides-of-all : (bs : List Band) → any (λ b. ltb 64 (b .across) || ltb 64 (b .down)) bs ≡ false → AllUpTo64 bs
 unfolding any
 sides-of-all [] e = tt
@@ -105,12 +99,7 @@ nodes-of-band-up-to b s = nodes-up-to-28672 (b .across) (b .down) (s .0) (s .1)
 pub band-length-up-to : (b : Band) → SidesUpTo64 b → bandLength b ≤ 188416
 band-length-up-to b s = omega (arith, band-length b, nodes-of-band-up-to b s, blocks-up-to-4096 b s)
 
-pub length-from : (at : ℕ) (b : Band) (n i : ℕ) → length (blocksFrom at b n i) ≡ n
-unfolding blocksFrom
-length-from at b zero i = refl
-length-from at b (suc n) i = let r = length-from at b n (i + 1) in omega arith
-
--- m blocks, and n behind them
+-- m blocks, and n after them
 pub blocks-split : (at : ℕ) (b : Band) (m n i : ℕ) → blocksFrom at b (m + n) i ≡ blocksFrom at b m i ++ blocksFrom at b n (i + m)
 unfolding blocksFrom
 blocks-split at b zero n i =

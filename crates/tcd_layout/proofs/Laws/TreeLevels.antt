@@ -1,19 +1,19 @@
 -- One level of a tree after another, as the loops over levels take them; and how many nodes a tree has at most.
-use mathlib.Core.Path.{_≡_, refl, sym, ap, _∙_}
+use mathlib.Core.Path.{_≡_, sym, ap, _∙_}
 use mathlib.Core.Bool.{cond}
 use mathlib.Core.List.{List, [], _∷_, _++_}
 use Prim.Native.Nat.{ℕ, zero, suc, _+_, _-_, _*_, _/_, _≤_, _<_}
 use native.Mathlib.Nat.{mul-le-mul}
 use native.Mathlib.Numerals.{add-one}
 use native.Mathlib.Omega.{arith}
-use lib.ListN.{length, take, drop, getD, set, replicate, length-append, length-replicate}
+use lib.ListN.{length, take, drop, set, replicate}
 use lib.Seq.{sets, sets-eq, take-append-seam}
 use lib.Dec.{leb}
 use Rattle.t800.specs.declared.Level.{Level}
-use Rattle.t800.specs.TagTree.{levelsFrom, levels, nodesIn, nodes}
+use Rattle.t800.specs.TagTree.{levelsFrom, noLevel, levels, nodesIn, nodes}
 use Rattle.t800.proofs.Laws.Tests.{if-le, if-gt, either}
 use Rattle.t800.proofs.Laws.Levels.{at-most-seven-levels}
-use Rattle.tcd_layout.specs.Geometry.{noLevel, padded}
+use Rattle.tcd_layout.specs.Geometry.{padded}
 use Rattle.tcd_layout.proofs.Laws.Lists.{drop-replicate}
 
 abbrev pub level : ℕ → ℕ → Level
@@ -39,30 +39,9 @@ levels-over-none w h =
     ∙ ap (λ (n : ℕ). levels w h ++ drop n (replicate 7 noLevel)) e
     ∙ ap (λ (ls : List Level). levels w h ++ ls) (drop-replicate 7 (length (levels w h)) noLevel)
 
--- an array of seven levels read at a place: past the tree's there are empty ones
-pub padded-at : (ls : List Level) (i : ℕ) → getD (padded ls) i noLevel ≡ getD ls i noLevel
-unfolding padded
-padded-at ls i = behind ls (7 - length ls) i
-  where
-    empty : (n i : ℕ) → getD (replicate n noLevel) i noLevel ≡ noLevel
-    empty zero i = refl
-    empty (suc n) zero = refl
-    empty (suc n) (suc i) = empty n i
-
-    behind : (ls : List Level) (n i : ℕ) → getD (ls ++ replicate n noLevel) i noLevel ≡ getD ls i noLevel
-    behind [] n i = empty n i
-    behind (l ∷ ls) n zero = refl
-    behind (l ∷ ls) n (suc i) = behind ls n i
-
 pub padded-front : (ls : List Level) → take (length ls) (padded ls) ≡ ls
 unfolding padded
 padded-front ls = take-append-seam ls (replicate (7 - length ls) noLevel)
-
-pub padded-length : (w h : ℕ) → length (padded (levels w h)) ≡ 7
-unfolding padded
-padded-length w h =
-    let k = at-most-seven-levels w h in
-    length-append (levels w h) (replicate (7 - length (levels w h)) noLevel) ∙ omega (arith, length-replicate (7 - length (levels w h)) noLevel)
 
 module _ (x y u v : ℕ) (below : 1 < x * y) (across : u ≡ (x + 1) / 2) (down : v ≡ (y + 1) / 2) where
   parents : (n m : ℕ) → n ≡ suc m → levelsFrom n x y ≡ level x y ∷ levelsFrom m u v

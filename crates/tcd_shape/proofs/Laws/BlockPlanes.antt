@@ -1,4 +1,4 @@
--- Refusal 4 of blocks, band by band: the planes of a band's blocks lie behind those of the bands before it.
+-- Refusal 4 of blocks, band by band: the planes of a band's blocks lie after those of the bands before it.
 use mathlib.Core.Path.{_≡_, refl, sym, ap, ap₂, _∙_}
 use mathlib.Core.Bool.{Bool, true, false, _||_}
 use mathlib.Core.List.{List, [], _∷_, _++_}
@@ -12,6 +12,7 @@ use Rattle.t800.specs.Base.{any}
 use Rattle.t800.specs.State.{Block, blocksIn, bandLength, blocksFrom, blocksAt, blocks}
 use Rattle.t800.specs.Ranges.{blockTooDeep}
 use Rattle.t800.proofs.Laws.Tests.{on-le}
+use Rattle.t800.proofs.Laws.Lists.{none-too-deep}
 
 -- what stands for the definition while the bands are gone through: the planes that are left, for the bands that are left
 unfoldable pub deepFrom : List Band → List ℕ → Bool
@@ -22,16 +23,11 @@ pub or-group : (a b c : Bool) → (a || (b || c)) ≡ (a || b || c)
 or-group true b c = refl
 or-group false b c = refl
 
-none-left : (ks : List Block) → blockTooDeep ks [] ≡ false
-unfolding blockTooDeep
-none-left [] = refl
-none-left (k ∷ ks) = refl
-
 -- n blocks of one band
 of-band : (at : ℕ) (b : Band) (n i : ℕ) (ks : List Block) (ps : List ℕ) → blockTooDeep (blocksFrom at b n i ++ ks) ps ≡ (any (λ p. ltb (b .planes) p) (take n ps) || blockTooDeep ks (drop n ps))
 unfolding blockTooDeep blocksFrom any
 of-band at b zero i ks ps = refl
-of-band at b (suc n) i ks [] = sym (none-left ks)
+of-band at b (suc n) i ks [] = sym (none-too-deep ks)
 of-band at b (suc n) i ks (p ∷ ps) =
     ap (λ (t : Bool). ltb (b .planes) p || t) (of-band at b n (i + 1) ks ps)
     ∙ or-group (ltb (b .planes) p) (any (λ p. ltb (b .planes) p) (take n ps)) (blockTooDeep ks (drop n ps))

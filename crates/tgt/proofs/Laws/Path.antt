@@ -9,10 +9,10 @@ use lib.ListN.{length, getD, take, drop, replicate, length-append, length-replic
 use lib.Pow.{shr-shr}
 use lib.Seq.{length-take-le, drop-cons, getD-take, take-at, take-append-seam}
 use Rattle.t800.specs.declared.Level.{Level}
-use Rattle.t800.specs.TagTree.{levels, nodes, pathFrom, pathToRoot}
+use Rattle.t800.specs.TagTree.{noLevel, levels, nodes, pathFrom, pathToRoot}
 use Rattle.t800.proofs.Laws.Levels.{at-most-seven-levels}
 use Rattle.t800.proofs.Laws.Paths.{All, AllBelow, Halves, levels-halve, LeafPath, leaf-path}
-use Rattle.tgt.specs.Path.{rowFrom, rowOver, nodesOver, pathOver, leafWord, PathIn, noLevel, SmallLevels}
+use Rattle.tgt.specs.Path.{rowFrom, rowOver, nodesOver, pathOver, leafWord, PathIn, SmallLevels}
 
 -- ---- one node more, from the leaf up and from the root down
 
@@ -61,7 +61,7 @@ pub record TreeLevels (w h : ℕ) (ls : List Level) (depth : ℕ) : Type 0 where
   pub are : take depth ls ≡ levels w h
   pub many : length (levels w h) ≡ depth
 
--- whatever stands behind them
+-- whatever stands after them
 pub tree-levels : (w h : ℕ) (rest : List Level) → TreeLevels w h (levels w h ++ rest) (length (levels w h))
 tree-levels w h rest = record { are = take-append-seam (levels w h) rest; many = refl }
 

@@ -8,13 +8,11 @@ use native.Mathlib.Omega.{arith}
 use lib.ListN.{length, getD, set, take, drop, replicate, length-set, drop-of-length-le, take-append-drop}
 use lib.Seq.{length-take-le, drop-cons, drop-drop, drop-set-lt, getD-take, take-suc-set}
 use Rattle.t800.specs.declared.Level.{Level}
-use Rattle.tgt.specs.Path.{noLevel, rowFrom, rowOver}
+use Rattle.t800.specs.TagTree.{noLevel}
+use Rattle.tgt.specs.Path.{rowFrom, rowOver}
 use borrow.Author.Needs.{needs}
 use Rattle.tgt.proofs.opj_tgt_row.Statement.{statement}
 use Rattle.tgt.proofs.opj_tgt_row.Tie as tie
-
-sides-small : (a b : ℕ) → a ≤ 64 → b ≤ 64 → a * b ≤ 4096
-sides-small a b h g = mul-le-mul h g
 
 -- one level more
 row-turn : (ls : List Level) (row : List ℕ) (l : Level) (i n y : ℕ) → i < length ls → i < length row → l ≡ getD ls i noLevel
@@ -49,12 +47,12 @@ array-copy-out-l c = let s = c .before .before in let g : length (s .args .t1) �
 mul-before : tie.Need-mul-before Inv-loop μ-loop
 mul-before c = let l = c .before .before .before .before .loop in
     let s = c .before .before .before .before .before in
-    omega (arith, sides-small _ _ (l .inv .3) (s .pre .0 .across (l .i) (c .before .before .before .loop-test .taken)))
+    omega (arith, mul-le-mul (l .inv .3) (s .pre .0 .across (l .i) (c .before .before .before .loop-test .taken)))
 
 add-row : tie.Need-add-row Inv-loop μ-loop
 add-row c = let l = c .before .before .before .before .loop in
     let s = c .before .before .before .before .before in
-    omega (arith, s .pre .0 .atMostSeven, sides-small _ _ (l .inv .3) (s .pre .0 .across (l .i) (c .before .before .before .loop-test .taken)))
+    omega (arith, s .pre .0 .atMostSeven, mul-le-mul (l .inv .3) (s .pre .0 .across (l .i) (c .before .before .before .loop-test .taken)))
 
 element-write-row : tie.Need-element-write-row Inv-loop μ-loop
 element-write-row c = omega (arith, c .before .before .before .before .before .pre .0 .atMostSeven)
@@ -62,12 +60,12 @@ element-write-row c = omega (arith, c .before .before .before .before .before .p
 mul-size : tie.Need-mul-size Inv-loop μ-loop
 mul-size c = let l = c .before .before .before .before .loop in
     let s = c .before .before .before .before .before in
-    omega (arith, sides-small _ _ (s .pre .0 .across (l .i) (c .before .before .before .loop-test .taken)) (s .pre .0 .down (l .i) (c .before .before .before .loop-test .taken)))
+    omega (arith, mul-le-mul (s .pre .0 .across (l .i) (c .before .before .before .loop-test .taken)) (s .pre .0 .down (l .i) (c .before .before .before .loop-test .taken)))
 
 add-below : tie.Need-add-below Inv-loop μ-loop
 add-below c = let l = c .before .before .before .before .loop in
     let s = c .before .before .before .before .before in
-    omega (arith, s .pre .0 .atMostSeven, sides-small _ _ (s .pre .0 .across (l .i) (c .before .before .before .loop-test .taken)) (s .pre .0 .down (l .i) (c .before .before .before .loop-test .taken)))
+    omega (arith, s .pre .0 .atMostSeven, mul-le-mul (s .pre .0 .across (l .i) (c .before .before .before .loop-test .taken)) (s .pre .0 .down (l .i) (c .before .before .before .loop-test .taken)))
 
 loop-again : tie.Need-loop-again Inv-loop μ-loop
 loop-again c = let l = c .before .before .before .before .loop in
@@ -80,7 +78,7 @@ loop-again c = let l = c .before .before .before .before .loop in
     let long : length (take depth levels) ≡ depth = length-take-le depth levels (omega arith) in (
       simp length-set (l .inv .0),
       omega arith,
-      omega (arith, sides-small _ _ (s .pre .0 .across (l .i) here) (s .pre .0 .down (l .i) here)),
+      omega (arith, mul-le-mul (s .pre .0 .across (l .i) here) (s .pre .0 .down (l .i) here)),
       omega arith,
       row-turn (take depth levels) (l .row) (getD levels (l .i) noLevel) (l .i) (l .below) (l .place) (omega arith) (omega arith) (sym (getD-take depth levels (l .i) noLevel here)) ∙ l .inv .4,
       rest-turn (l .row) (l .i) (l .below + l .place * getD levels (l .i) noLevel .w) (omega arith) (l .inv .5),

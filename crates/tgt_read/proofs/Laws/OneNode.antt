@@ -12,7 +12,7 @@ use borrow.Author.Tests.{le-ltb, ltb-true, ltb-false}
 use Rattle.t800.specs.declared.Bio.{Bio}
 use Rattle.t800.specs.Bits.{getBit}
 use Rattle.t800.specs.TagTree.{NodeRead, PathRead, value, low, readNode, readPath}
-use Rattle.t800.specs.State.{Block}
+use Rattle.t800.specs.State.{Block, notYetPlanes}
 use Rattle.t800.specs.ReadHeader.{readZeroPlanesFrom}
 use Rattle.t800.proofs.Laws.Tests.{on-lt}
 use Rattle.tgt.specs.Path.{nodesOver, pathOver}
@@ -144,10 +144,10 @@ module _ (src : List ℕ) (k : Block) (single : reverse (k .path) ≡ k .leaf �
       let r = readNode src (t - max 0 (low ws at)) (value ws at) (max 0 (low ws at)) b in
       lt-length-set (set ws at (r .value)) (at + 1) (r .low) (lt-length-set ws at (r .value) h)
 
-  raised : (f t : ℕ) (ws : List ℕ) (b : Bio) → at + 1 < length ws → t + f ≡ 1000 → readZeroPlanesFrom src k (suc f) t ws b ≡ pathOf (once 1000 ws b)
+  raised : (f t : ℕ) (ws : List ℕ) (b : Bio) → at + 1 < length ws → t + f ≡ notYetPlanes + 1 → readZeroPlanesFrom src k (suc f) t ws b ≡ pathOf (once (notYetPlanes + 1) ws b)
   unfolding readZeroPlanesFrom
   raised zero t ws b room e =
-      let q : t ≡ 1000 = omega arith in
+      let q : t ≡ notYetPlanes + 1 = omega arith in
       same (ltb (value (readPath src (k .zeroTree) t (reverse (k .path)) 0 ws b .words) at) t) (readPath src (k .zeroTree) t (reverse (k .path)) 0 ws b)
       ∙ path-once t ws b
       ∙ ap (λ (u : ℕ). pathOf (once u ws b)) q
@@ -156,10 +156,10 @@ module _ (src : List ℕ) (k : Block) (single : reverse (k .path) ≡ k .leaf �
       ∙ by (ltb (value (once t ws b .words) at) t) refl (raised f (t + 1) (once t ws b .words) (once t ws b .bio) (once-room t ws b room) (omega arith))
     where
       by : (p : Bool) → ltb (value (once t ws b .words) at) t ≡ p
-          → readZeroPlanesFrom src k (suc f) (t + 1) (once t ws b .words) (once t ws b .bio) ≡ pathOf (once 1000 (once t ws b .words) (once t ws b .bio))
-          → cond p (pathOf (once t ws b)) (readZeroPlanesFrom src k (suc f) (t + 1) (once t ws b .words) (once t ws b .bio)) ≡ pathOf (once 1000 ws b)
-      by true h i = ap pathOf (sym (read-enough src at t ws b room 1000 (ltb-true _ _ h)) ∙ read-twice src at t ws b room 1000 (omega arith))
-      by false h i = i ∙ ap pathOf (read-twice src at t ws b room 1000 (omega arith))
+          → readZeroPlanesFrom src k (suc f) (t + 1) (once t ws b .words) (once t ws b .bio) ≡ pathOf (once (notYetPlanes + 1) (once t ws b .words) (once t ws b .bio))
+          → cond p (pathOf (once t ws b)) (readZeroPlanesFrom src k (suc f) (t + 1) (once t ws b .words) (once t ws b .bio)) ≡ pathOf (once (notYetPlanes + 1) ws b)
+      by true h i = ap pathOf (sym (read-enough src at t ws b room (notYetPlanes + 1) (ltb-true _ _ h)) ∙ read-twice src at t ws b room (notYetPlanes + 1) (omega arith))
+      by false h i = i ∙ ap pathOf (read-twice src at t ws b room (notYetPlanes + 1) (omega arith))
 
 -- one level
 
@@ -168,6 +168,6 @@ unfolding nodesOver
 one-over row x long = let z : x / 2 ^ 0 ≡ x = omega arith in node-down row 1 x (omega arith) long ∙ ap (λ (y : ℕ). (getD row 0 0 + y) ∷ []) z
 
 pub raised-at-once : (src : List ℕ) (base : ℕ) (row : List ℕ) (x : ℕ) (ws : List ℕ) (b : Bio) → 1 ≤ length row → base + 3 * (getD row 0 0 + x) + 2 < length ws
-    → readZeroPlanesFrom src (leafOf base row 1 x) 1001 0 ws b ≡ readPath src base 1000 (reverse (pathOver row 1 x)) 0 ws b
+    → readZeroPlanesFrom src (leafOf base row 1 x) (notYetPlanes + 2) 0 ws b ≡ readPath src base (notYetPlanes + 1) (reverse (pathOver row 1 x)) 0 ws b
 raised-at-once src base row x ws b long room =
-    raised src (leafOf base row 1 x) (one-over row x long) 1000 0 ws b (omega arith) (omega arith) ∙ sym (path-once src (leafOf base row 1 x) (one-over row x long) 1000 ws b)
+    raised src (leafOf base row 1 x) (one-over row x long) (notYetPlanes + 1) 0 ws b (omega arith) (omega arith) ∙ sym (path-once src (leafOf base row 1 x) (one-over row x long) (notYetPlanes + 1) ws b)

@@ -1,25 +1,24 @@
 -- Reading a node in the steps of the code, a path node by node, and a leaf's value by raising the threshold.
-use mathlib.Core.Path.{_≡_, refl, sym, ap, _∙_}
+use mathlib.Core.Path.{_≡_, sym, ap, _∙_}
 use mathlib.Core.Bool.{true, false, cond}
 use mathlib.Core.List.{List, [], _∷_, reverse}
 use Prim.Native.Nat.{ℕ, zero, suc, _+_, _-_, _*_, _≤_, _<_, max, min}
 use native.Mathlib.Omega.{arith}
 use lib.Dec.{eqb, ltb}
-use lib.ListN.{length, getD, set}
+use lib.ListN.{length, set}
 use lib.Seq.{set-getD}
 use Rattle.t800.specs.declared.Bio.{Bio}
 use Rattle.t800.specs.Bits.{getBit}
 use Rattle.t800.specs.TagTree.{NodeRead, PathRead, value, low, readNode, readPath}
-use Rattle.t800.specs.State.{Block}
+use Rattle.t800.specs.State.{Block, notYetPlanes}
 use Rattle.t800.specs.ReadHeader.{readZeroPlanesFrom}
 use Rattle.t800.proofs.Laws.Tests.{either, if-true, if-false}
 use Rattle.bio_read.proofs.Laws.ReadChunks.{getBit-ct, getBit-place}
-use Rattle.tgt_read.specs.Reading.{pathRead, LeafAfter, leafAfter, belowIn, leafOf, NodeAfter, readAt}
+use Rattle.tgt_read.specs.Reading.{pathRead, LeafAfter, leafAfter, belowIn, NodeAfter, readAt}
 use Rattle.tgt_read.specs.declared.LeafRead.{LeafRead}
-use Rattle.tgt.specs.Path.{pathOver, leafWord}
 use Rattle.tgt_read.proofs.Laws.Seeking.{cut-short}
 
--- ---- what a bit keeps, reading keeps: that at most eight bits are held, and that the place is at most one behind the input's end
+-- ---- what a bit keeps, reading keeps: that at most eight bits are held, and that the place is at most one past the input's end
 
 module _ (src : List ℕ) (Kept : Bio → Type 0) (bit : (b : Bio) → Kept b → Kept (getBit src b .bio)) where
   node-keeps : (d v l : ℕ) (b : Bio) → Kept b → Kept (readNode src d v l b .bio)
@@ -95,37 +94,22 @@ leaf-says t at ws r p e = (ap (λ (a : LeafAfter). pathRead (a .words) (a .bio))
 
 -- ---- raising the threshold
 
-module _ (src : List ℕ) (k : Block) (t : ℕ) (ws : List ℕ) (b : Bio) (r : PathRead) (is : r ≡ readPath src (k .zeroTree) t (reverse (k .path)) 0 ws b) (less : t < 1001) where
+module _ (src : List ℕ) (k : Block) (t : ℕ) (ws : List ℕ) (b : Bio) (r : PathRead) (is : r ≡ readPath src (k .zeroTree) t (reverse (k .path)) 0 ws b) (less : t < notYetPlanes + 2) where
   abbrev after : ℕ → PathRead → PathRead
   after f r = cond (ltb (value (r .words) (k .zeroTree + 3 * k .leaf)) t) r (readZeroPlanesFrom src k f (t + 1) (r .words) (r .bio))
 
-  raise-by : readZeroPlanesFrom src k (1001 - t) t ws b ≡ after (1001 - (t + 1)) r
+  raise-by : readZeroPlanesFrom src k (notYetPlanes + 2 - t) t ws b ≡ after (notYetPlanes + 2 - (t + 1)) r
   unfolding readZeroPlanesFrom
   raise-by =
-      let e : 1001 - t ≡ suc (1001 - (t + 1)) = omega arith in
-      ap (λ (f : ℕ). readZeroPlanesFrom src k f t ws b) e ∙ ap (after (1001 - (t + 1))) (sym is)
+      let e : notYetPlanes + 2 - t ≡ suc (notYetPlanes + 2 - (t + 1)) = omega arith in
+      ap (λ (f : ℕ). readZeroPlanesFrom src k f t ws b) e ∙ ap (after (notYetPlanes + 2 - (t + 1))) (sym is)
 
-  pub raise-stop : ltb (value (r .words) (k .zeroTree + 3 * k .leaf)) t ≡ true → readZeroPlanesFrom src k (1001 - t) t ws b ≡ r
+  pub raise-stop : ltb (value (r .words) (k .zeroTree + 3 * k .leaf)) t ≡ true → readZeroPlanesFrom src k (notYetPlanes + 2 - t) t ws b ≡ r
   raise-stop h = raise-by ∙ if-true _ _ _ h
 
-  pub raise-on : ltb (value (r .words) (k .zeroTree + 3 * k .leaf)) t ≡ false → readZeroPlanesFrom src k (1001 - (t + 1)) (t + 1) (r .words) (r .bio) ≡ readZeroPlanesFrom src k (1001 - t) t ws b
+  pub raise-on : ltb (value (r .words) (k .zeroTree + 3 * k .leaf)) t ≡ false → readZeroPlanesFrom src k (notYetPlanes + 2 - (t + 1)) (t + 1) (r .words) (r .bio) ≡ readZeroPlanesFrom src k (notYetPlanes + 2 - t) t ws b
   raise-on h = sym (raise-by ∙ if-false _ _ _ h)
 
-pub raise-end : (src : List ℕ) (k : Block) (t : ℕ) (ws : List ℕ) (b : Bio) → 1001 ≤ t → readZeroPlanesFrom src k (1001 - t) t ws b ≡ pathRead ws b
+pub raise-end : (src : List ℕ) (k : Block) (t : ℕ) (ws : List ℕ) (b : Bio) → notYetPlanes + 2 ≤ t → readZeroPlanesFrom src k (notYetPlanes + 2 - t) t ws b ≡ pathRead ws b
 unfolding readZeroPlanesFrom
-raise-end src k t ws b h = let e : 1001 - t ≡ 0 = omega arith in ap (λ (f : ℕ). readZeroPlanesFrom src k f t ws b) e
-
--- only a block's zero-plane tree, leaf and path count
-only-leaf : (src : List ℕ) (k : Block) (f t : ℕ) (ws : List ℕ) (b : Bio)
-    → readZeroPlanesFrom src k f t ws b ≡ readZeroPlanesFrom src (record { inclTree = 0; zeroTree = k .zeroTree; leaf = k .leaf; path = k .path; at = 0; planes = 0 }) f t ws b
-unfolding readZeroPlanesFrom
-only-leaf src k zero t ws b = refl
-only-leaf src k (suc f) t ws b =
-    let r = readPath src (k .zeroTree) t (reverse (k .path)) 0 ws b in
-    ap (λ (m : PathRead). cond (ltb (value (r .words) (k .zeroTree + 3 * k .leaf)) t) r m) (only-leaf src k f (t + 1) (r .words) (r .bio))
-
-pub same-leaf : (src : List ℕ) (k : Block) (base : ℕ) (row : List ℕ) (depth x f t : ℕ) (ws : List ℕ) (b : Bio) → base ≡ k .zeroTree → leafWord base row x ≡ base + 3 * k .leaf → pathOver row depth x ≡ k .path
-    → readZeroPlanesFrom src (leafOf base row depth x) f t ws b ≡ readZeroPlanesFrom src k f t ws b
-same-leaf src k base row depth x f t ws b p q s =
-    let e : getD row 0 0 + x ≡ k .leaf = omega arith in
-    (λ i. readZeroPlanesFrom src (record { inclTree = 0; zeroTree = p i; leaf = e i; path = s i; at = 0; planes = 0 }) f t ws b) ∙ sym (only-leaf src k f t ws b)
+raise-end src k t ws b h = let e : notYetPlanes + 2 - t ≡ 0 = omega arith in ap (λ (f : ℕ). readZeroPlanesFrom src k f t ws b) e

@@ -8,13 +8,13 @@ use native.Mathlib.Omega.{arith}
 use lib.Count.{leadingZeros, leading-length}
 use lib.Dec.{eqb, ltb}
 use lib.Pow.{pow-add, shr-shr, field, mod-mod-pow, pow-lt, pow-pos}
-use borrow.Author.Tests.{eq-eqb, ne-eqb, lt-ltb, ltb-true, eqb-true}
+use borrow.Author.Tests.{eq-eqb, lt-ltb, ltb-true, eqb-true}
 use Rattle.t800.specs.declared.Bio.{Bio}
 use Rattle.t800.specs.Bits.{Decoded, byteIn, heldBit, getBit}
 use Rattle.t800.specs.TagTree.{NodeRead, readNode}
 use Rattle.t800.proofs.Laws.Tests.{if-lt, if-ge, if-eq, if-ne, on-lt, on-eq}
-use Rattle.bio_write.proofs.Laws.WriteChunks.{bioOf}
-use Rattle.bio_read.proofs.Laws.ReadChunks.{byteIn-ct}
+use Rattle.bio_bytes.proofs.Laws.HeldWord.{bioOf}
+use Rattle.bio_read.proofs.Laws.ReadChunks.{byteIn-ct, get-held}
 use Rattle.tgt_read.specs.Reading.{seen, LeadingZeros}
 
 -- ---- the value bounds the bits as the threshold does
@@ -34,13 +34,6 @@ pub cut-short : (src : List ℕ) (t v l : ℕ) (b : Bio) → readNode src (t - l
 cut-short src t v l b = let e : min (t - l) (v - l) ≡ min v t - l = omega arith in cut-by src (t - l) v l b ∙ ap (λ (k : ℕ). readNode src k v l b) e
 
 -- ---- a held bit
-
-get-held : (src : List ℕ) (p u c : ℕ) → getBit src (bioOf p u (suc c)) ≡ record { value = u / 2 ^ c % 2; bio = bioOf p u c }
-unfolding getBit heldBit
-get-held src p u c =
-    let e : suc c - 1 ≡ c = omega arith in
-    let z : suc c ≡ 0 → ⊥ = omega arith in
-    simp (ne-eqb (suc c) 0 z, e)
 
 module _ (src : List ℕ) (d v l p u c : ℕ) (under : l < v) where
   abbrev afterBit : Decoded → NodeRead
@@ -115,7 +108,7 @@ module _ (src : List ℕ) (b : Bio) (d v l z : ℕ) (f : l + d ≤ v) (s : Leadi
       ∙ held-one src (d - z - 1) v (l + z) (b .bp) (b .buf) (b .ct - z - 1) (omega arith) (s .one g)
       ∙ ap (λ (n : ℕ). seen (l + z) (l + z) (bioOf (b .bp) (b .buf) n)) e
 
--- ---- whether the search goes on behind the held word
+-- ---- whether the search goes on after the held word
 
 pub runs-on-is : (b : Bio) (d : ℕ) → ltb (b .ct) d && eqb (b .buf % 2 ^ (b .ct)) 0 ≡ true → (b .ct < d) × (b .buf % 2 ^ (b .ct) ≡ 0)
 runs-on-is b d e = by (ltb (b .ct) d) (eqb (b .buf % 2 ^ (b .ct)) 0) refl refl e

@@ -2,11 +2,12 @@
 -- Assumes nothing.
 use mathlib.Core.Path.{_≡_, refl, sym, _∙_, subst}
 use mathlib.Core.List.{reverse}
-use Prim.Native.Nat.{ℕ, _-_, _≤_}
+use Prim.Native.Nat.{ℕ, _+_, _-_, _≤_}
 use native.Mathlib.Omega.{arith}
 use lib.ListN.{length}
 use Rattle.t800.specs.TagTree.{PathRead, readPath}
 use Rattle.t800.specs.ReadHeader.{readZeroPlanesFrom}
+use Rattle.t800.specs.State.{notYetPlanes}
 use Rattle.tgt.specs.Path.{pathOver, leafWord, PathIn}
 use Rattle.tgt_read.specs.Reading.{pathRead, leafOf}
 use Rattle.tgt_read.proofs.Laws.Reading.{readPath-ct, leaf-says, raise-stop, raise-on, raise-end}
@@ -16,11 +17,11 @@ use Rattle.tgt_read.proofs.raise.Tie as tie
 abbrev Inv-loop : tie.InvT-loop
 Inv-loop words₀ src base row depth x bio₀ threshold₀ words bio threshold = (bio .ct ≤ 8)
     × (length words ≡ length words₀)
-    × (threshold ≤ 1001)
-    × (readZeroPlanesFrom src (leafOf base row depth x) (1001 - threshold) threshold words bio ≡ readZeroPlanesFrom src (leafOf base row depth x) 1001 0 words₀ bio₀)
+    × (threshold ≤ notYetPlanes + 2)
+    × (readZeroPlanesFrom src (leafOf base row depth x) (notYetPlanes + 2 - threshold) threshold words bio ≡ readZeroPlanesFrom src (leafOf base row depth x) (notYetPlanes + 2) 0 words₀ bio₀)
 
 abbrev μ-loop : tie.MeasureT-loop
-μ-loop words₀ src base row depth x bio₀ threshold₀ words bio threshold = 1001 - threshold
+μ-loop words₀ src base row depth x bio₀ threshold₀ words bio threshold = notYetPlanes + 2 - threshold
 
 loop-holds : tie.Need-loop-holds Inv-loop μ-loop
 loop-holds c = (c .before .before .pre .0, refl, omega arith, refl)

@@ -2,10 +2,11 @@
 -- Assumes nothing.
 use mathlib.Core.Path.{_≡_, sym, _∙_, subst}
 use mathlib.Core.List.{reverse}
-use Prim.Native.Nat.{ℕ}
+use Prim.Native.Nat.{ℕ, _+_}
 use native.Mathlib.Omega.{arith}
 use Rattle.t800.specs.TagTree.{readPath}
 use Rattle.t800.specs.ReadHeader.{readZeroPlanesFrom}
+use Rattle.t800.specs.State.{notYetPlanes}
 use Rattle.tgt.specs.Path.{pathOver}
 use Rattle.tgt_read.specs.Reading.{leafOf}
 use Rattle.tgt_read.proofs.Laws.OneNode.{raised-at-once}
@@ -22,7 +23,7 @@ returns c =
     let base = s .args .base in
     let x = s .args .x in
     c .before .before .decode-path .ensures
-    ∙ subst (λ (d : ℕ). readPath src base 1000 (reverse (pathOver row d x)) 0 ws (s .args .b) ≡ readZeroPlanesFrom src (leafOf base row d x) 1001 0 ws (s .args .b)) (sym (c .before .before .before .before .if1 .taken)) (sym (raised-at-once src base row x ws (s .args .b) (omega (arith, s .pre .1 .long, s .pre .1 .some)) (omega (arith, s .pre .1 .inside 0 (s .pre .1 .some)))))
+    ∙ subst (λ (d : ℕ). readPath src base (notYetPlanes + 1) (reverse (pathOver row d x)) 0 ws (s .args .b) ≡ readZeroPlanesFrom src (leafOf base row d x) (notYetPlanes + 2) 0 ws (s .args .b)) (sym (c .before .before .before .before .if1 .taken)) (sym (raised-at-once src base row x ws (s .args .b) (omega (arith, s .pre .1 .long, s .pre .1 .some)) (omega (arith, s .pre .1 .inside 0 (s .pre .1 .some)))))
 
 pub read-planes-spec : {M : Type 1} → statement M
 read-planes-spec =

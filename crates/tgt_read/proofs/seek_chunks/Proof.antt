@@ -55,8 +55,8 @@ loop-again c = let s = c .before .before .before .before .before .before .before
 leading-zeros-requires : tie.Need-leading-zeros-requires Inv-loop μ-loop
 leading-zeros-requires c κs = c .before .before .loop .inv .0
 
-behind-bits-requires : tie.Need-behind-bits-requires Inv-loop μ-loop
-behind-bits-requires c κs = omega (arith, c .before .leading-zeros .ensures .atMost, c .if2 .taken)
+after-bits-requires : tie.Need-after-bits-requires Inv-loop μ-loop
+after-bits-requires c κs = omega (arith, c .before .leading-zeros .ensures .atMost, c .if2 .taken)
 
 add-t15 : tie.Need-add-t15 Inv-loop μ-loop
 add-t15 c = omega (arith, c .before .before .before .before .before .loop .inv .1)
@@ -64,18 +64,18 @@ add-t15 c = omega (arith, c .before .before .before .before .before .loop .inv .
 returns : tie.Need-returns Inv-loop μ-loop
 returns c = let s = c .before .before .before .before .before .before .before in
     let l = c .before .before .before .before .before .loop in
-    ap (seen (s .args .value) (l .from + l .more)) (c .behind-bits .ensures)
+    ap (seen (s .args .value) (l .from + l .more)) (c .after-bits .ensures)
     ∙ sym (seek-end (s .args .src .now) (l .bio) (l .more) (s .args .value) (l .from) (c .before .before .leading-zeros .result) (l .inv .1) (c .before .before .leading-zeros .ensures) (c .before .if2 .taken))
     ∙ l .inv .2
 
 add-reached : tie.Need-add-reached Inv-loop μ-loop
 add-reached c = omega (arith, c .before .before .before .before .loop .inv .1, c .if2 .left)
 
-add-behind-bits : tie.Need-add-behind-bits Inv-loop μ-loop
-add-behind-bits c = omega (arith, c .before .leading-zeros .ensures .atMost, c .before .before .before .before .loop .inv .0)
+add-after-bits : tie.Need-add-after-bits Inv-loop μ-loop
+add-after-bits c = omega (arith, c .before .leading-zeros .ensures .atMost, c .before .before .before .before .loop .inv .0)
 
-behind-bits-requires-2 : tie.Need-behind-bits-requires-2 Inv-loop μ-loop
-behind-bits-requires-2 c κs = let l = c .before .before .before .before .loop in
+after-bits-requires-2 : tie.Need-after-bits-requires-2 Inv-loop μ-loop
+after-bits-requires-2 c κs = let l = c .before .before .before .before .loop in
     let z = c .before .leading-zeros in
     omega (arith, not-on (l .bio) (l .more) (z .result) (sym (c .before .before .before .runs-on .ensures) ∙ c .before .before .if1 .left) (z .ensures) (c .if2 .left))
 
@@ -84,7 +84,7 @@ returns-2 c = let s = c .before .before .before .before .before .before .before 
     let l = c .before .before .before .before .before .loop in
     let z = c .before .before .leading-zeros in
     let g = not-on (l .bio) (l .more) (z .result) (sym (c .before .before .before .before .runs-on .ensures) ∙ c .before .before .before .if1 .left) (z .ensures) (c .before .if2 .left) in
-    ap (seen (l .from + z .result) (l .from + z .result)) (c .behind-bits2 .ensures)
+    ap (seen (l .from + z .result) (l .from + z .result)) (c .after-bits2 .ensures)
     ∙ sym (seek-one (s .args .src .now) (l .bio) (l .more) (s .args .value) (l .from) (z .result) (l .inv .1) (z .ensures) (c .before .if2 .left) g)
     ∙ l .inv .2
 
@@ -102,10 +102,10 @@ seek-chunks-spec =
     loop-less
     loop-again
     leading-zeros-requires
-    behind-bits-requires
+    after-bits-requires
     add-t15
     returns
     add-reached
-    add-behind-bits
-    behind-bits-requires-2
+    add-after-bits
+    after-bits-requires-2
     returns-2)

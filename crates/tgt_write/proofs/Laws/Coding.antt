@@ -13,8 +13,9 @@ use Rattle.t800.specs.declared.Bio.{Bio}
 use Rattle.t800.specs.TagTree.{codePath, lowAfter, nodeBits, knownAfter, value, low, known}
 use Rattle.t800.proofs.Laws.Tests.{if-ne}
 use Rattle.bio_bytes.specs.Writing.{Output, output, byteOut, makeRoom, putBit, putBits, holdBit, FreeBitsClear}
+use Rattle.bio_bytes.proofs.Laws.HeldWord.{bioOf}
 use Rattle.bio_write.proofs.Laws.FreeBits.{byteOut-ct, putBits-append, putBits-clear}
-use Rattle.bio_write.proofs.Laws.WriteChunks.{bioOf, put-held}
+use Rattle.bio_write.proofs.Laws.WriteChunks.{put-held}
 use Rattle.tgt_write.specs.Coding.{LeafCoded, putCoded, NodeCoded, codeFrom, codeNode, told}
 
 -- ---- zeros only take places
@@ -68,7 +69,7 @@ both true b e = (refl, e)
 both false b e = absurd (true≢false (sym e))
 
 module _ (t at from : ℕ) (ws : List ℕ) (o : Output) where
-  -- storing known again, behind a new low
+  -- storing known again, after a new low
   known-again : (to : ℕ) → set (set ws (at + 1) to) (at + 2) (known ws at) ≡ set ws (at + 1) to
   known-again to =
       let n : at + 2 ≡ at + 1 → ⊥ = omega arith in
@@ -81,7 +82,7 @@ module _ (t at from : ℕ) (ws : List ℕ) (o : Output) where
   code-to-threshold to e h =
       rw (sym e, le-ltb to t h, append-nil (replicate {A = ℕ} (to - from) 0), known-again to)
 
-  -- the value is reached below it: the 1 behind them
+  -- the value is reached below it: the 1 after them
   pub code-to-value : (to : ℕ) (c : LeafCoded) → to ≡ lowAfter (value ws at) from t → to < t
       → c ≡ told (set ws (at + 1) to) (putBits o (replicate (to - from) 0)) (at + 2)
       → codeFrom t at from ws o ≡ record { words = c .words; output = c .output; low = to }

@@ -39,14 +39,14 @@ loop-again c = let l = c .before .before .before .before .before .before .before
       ap (λ (x : Output). putBits x (replicate (l .left - l .bio .ct) 0)) (r .ensures) ∙ zeros-turn (l .out) (l .bio) (l .left) (c .before .before .before .before .before .if1 .taken) ∙ l .inv .2,
     )
 
-behind-bits-requires : tie.Need-behind-bits-requires Inv-loop μ-loop
-behind-bits-requires c κs = c .if1 .left
+after-bits-requires : tie.Need-after-bits-requires Inv-loop μ-loop
+after-bits-requires c κs = c .if1 .left
 
 same-length : tie.Need-same-length Inv-loop μ-loop
 same-length c = c .before .before .before .loop .inv .1
 
 returns : tie.Need-returns Inv-loop μ-loop
-returns c = let l = c .before .before .before .loop in ap (output (l .out)) (c .behind-bits .ensures) ∙ zeros-end (l .out) (l .bio) (l .left) (c .before .if1 .left) ∙ l .inv .2
+returns c = let l = c .before .before .before .loop in ap (output (l .out)) (c .after-bits .ensures) ∙ zeros-end (l .out) (l .bio) (l .left) (c .before .if1 .left) ∙ l .inv .2
 
 pub zeros-spec : {M : Type 1} → statement M
 zeros-spec =
@@ -59,6 +59,6 @@ zeros-spec =
     (λ c κs. search needs)
     loop-less
     loop-again
-    behind-bits-requires
+    after-bits-requires
     same-length
     returns)
