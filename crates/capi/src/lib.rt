@@ -5,7 +5,7 @@ ghost use lib.ListN.{length};
 ghost use Rattle.t800.specs.State.{writer, reader};
 ghost use Rattle.t800.specs.Start.{start};
 ghost use Rattle.t2_refusals.specs.Refusals.{contribution};
-ghost use Rattle.t2_read_parts.specs.Answers.{readResult};
+ghost use Rattle.t2_read_settle.specs.Results.{readResult};
 ghost use Rattle.t2_records.specs.Segments.{wordsOf};
 ghost use Rattle.capi.specs.Calls.{band, threeBands, stateLengthOf, measureCall, writeCall, readCall};
 ghost use Rattle.capi.specs.Numbers.{numbersCall};

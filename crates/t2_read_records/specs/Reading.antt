@@ -10,7 +10,7 @@ use Rattle.t800.specs.declared.ReadAnswer.{ReadAnswer}
 use Rattle.t800.specs.State.{notYetIncluded, reader, layer}
 use Rattle.t800.specs.Ranges.{validState}
 use Rattle.t800.specs.Packet.{ReadResult, refusedAnswer, read}
-use Rattle.t2_read_parts.specs.Answers.{readResult}
+use Rattle.t2_read_settle.specs.Results.{readResult}
 use Rattle.t2_records.specs.declared.Segment.{Segment}
 use Rattle.t2_records.specs.Segments.{wordsOf}
 

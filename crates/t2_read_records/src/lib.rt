@@ -2,7 +2,7 @@
 ghost use mathlib.Core.Path.{_≡_};
 ghost use Prim.Native.Nat.{_*_};
 ghost use lib.Dec.{eqb};
-ghost use Rattle.t2_read_parts.specs.Answers.{readResult};
+ghost use Rattle.t2_read_settle.specs.Results.{readResult};
 ghost use Rattle.t2_read_records.specs.Reading.{wrongListNumber, readNumbers, toFill, structsRead, readStructs};
 use t2_records::Segment;
 use t800::Markers;
