@@ -9,7 +9,7 @@ use Rattle.t800.specs.declared.ReadAnswer.{ReadAnswer}
 use Rattle.t800.specs.State.{notYetIncluded, reader, layer}
 use Rattle.t800.specs.Ranges.{validState}
 use Rattle.t800.specs.Packet.{ReadResult, refusedAnswer, read}
-use Rattle.t2_read_parts.specs.Answers.{readResult}
+use Rattle.t2_read_settle.specs.Results.{readResult}
 
 -- 3 for the work list, where neither 5 nor 6 comes before it
 unfoldable pub wrongListNumber : List ℕ → List ℕ → ℕ

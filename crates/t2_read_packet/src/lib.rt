@@ -1,7 +1,7 @@
 // Reading one packet (t2.rs): turned away, or by its first bit, behind SOP, absent or present.
 ghost use mathlib.Core.Path.{_≡_};
 ghost use Rattle.t800.specs.Packet.{read};
-ghost use Rattle.t2_read_parts.specs.Answers.{readResult};
+ghost use Rattle.t2_read_settle.specs.Results.{readResult};
 use t800::Markers;
 use t800::ReadAnswer;
 use tcd_style::Marker;
@@ -25,7 +25,7 @@ pub fn read(
     let start = bio_read::opj_bio_init_dec(s.skip);
     let first = bio_lent::bit_in(src, start);
     if first.value == 0 {
-        return t2_read_parts::read_absent(state, scratch, reports, src, m, s, first.bio);
+        return t2_read_settle::read_absent(state, scratch, reports, src, m, s, first.bio);
     }
-    t2_read_parts::read_present(state, scratch, reports, records, src, m, s, first.bio)
+    t2_read_present::read_present(state, scratch, reports, records, src, m, s, first.bio)
 }

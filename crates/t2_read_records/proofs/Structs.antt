@@ -25,7 +25,7 @@ use Rattle.t800.specs.RoundTrip.{ReadCall, readOf}
 use Rattle.t2_theorems.specs.Calls.{WasRead}
 use Rattle.t2_theorems.specs.Numbers.{NoneHolds, readChecks, NumbersOfCalls}
 use Rattle.t2_theorems.proofs.Numbers.{numbers-of-calls}
-use Rattle.t2_read_parts.specs.Answers.{readResult}
+use Rattle.t2_read_settle.specs.Results.{readResult}
 use Rattle.t2_records.specs.declared.Segment.{Segment}
 use Rattle.t2_records.specs.Segments.{wordsOf, segmentAt, filled}
 use Rattle.t2_read_numbers.specs.Reading.{wrongListNumber, wrongList, readNumbers, toFill}

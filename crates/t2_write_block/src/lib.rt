@@ -1,6 +1,6 @@
 // The coding of blocks in a packet header (opj_t2_encode_packet of t2.rs): a block from its parts, and a row of them.
 ghost use mathlib.Core.Path.{_≡_};
-ghost use Prim.Native.Nat.{_+_, _<_, _≤_};
+ghost use Prim.Native.Nat.{_+_, _<_};
 ghost use lib.Dec.{T};
 ghost use lib.ListN.{length, getD};
 ghost use Rattle.t800.specs.WriteHeader.{codeBlock};

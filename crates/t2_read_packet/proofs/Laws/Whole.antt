@@ -11,7 +11,8 @@ use Rattle.t800.specs.Bits.{Decoded, bioAt, getBit}
 use Rattle.t800.specs.MarkerSegments.{MarkerRead, readMarker, readSop}
 use Rattle.t800.specs.ReadHeader.{readHeader}
 use Rattle.t800.specs.Packet.{ReadResult, refusedAnswer, readRefusal, readAbsent, read}
-use Rattle.t2_read_parts.specs.Answers.{readResult, presentOrBroken}
+use Rattle.t2_read_present.specs.Answers.{presentOrBroken}
+use Rattle.t2_read_settle.specs.Results.{readResult}
 
 module _ (ws scratch : List ℕ) (m : Markers) (src reports records : List ℕ) where
   pub unchanged-is : (why : ℕ) (answer : ReadAnswer) → why ≡ readRefusal ws scratch reports → why ≢ 0 → answer ≡ refusedAnswer why → readResult ws scratch reports records answer ≡ read ws scratch m src reports records

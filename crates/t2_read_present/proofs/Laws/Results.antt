@@ -1,4 +1,4 @@
--- The parts of a read: an absent packet, a header that is refused, and one that is read.
+-- A header that is refused, and one that is read.
 use mathlib.Core.Path.{_≡_, sym, ap, _∙_, subst}
 use mathlib.Core.Logic.{_≢_}
 use mathlib.Core.List.{List, _++_, append-nil}
@@ -13,21 +13,14 @@ use Rattle.t800.specs.Reports.{BlockReport, reportWords}
 use Rattle.t800.specs.State.{layer, bands, blocks}
 use Rattle.t800.specs.MarkerSegments.{MarkerRead}
 use Rattle.t800.specs.ReadHeader.{HeaderRead, readHeader}
-use Rattle.t800.specs.Packet.{refusedAnswer, readAbsent, readPresent}
+use Rattle.t800.specs.Packet.{refusedAnswer, readPresent}
 use Rattle.t800.proofs.Laws.Tests.{if-eq, if-ne}
 use Rattle.lists.proofs.Laws.Filled.{length-reports}
 use Rattle.t2_read_segments.specs.Reading.{Reading, heldBy}
 use Rattle.t2_read_header.specs.Header.{ReadsHeader}
 use Rattle.t2_read_marks.specs.Marks.{doneAnswer}
-use Rattle.t2_read_parts.specs.Answers.{readResult, presentOrBroken}
-
-pub absent-is : (ws : List ℕ) (m : Markers) (src reports records : List ℕ) (s : MarkerRead) (b : Bio) (scratch rows : List ℕ) (answer : ReadAnswer)
-    → scratch ≡ set ws 3 (layer ws + 1) → rows ≡ wiped reports → answer ≡ doneAnswer m src s b 0 0
-    → readResult (set ws 3 (layer ws + 1)) scratch rows records answer ≡ readAbsent ws m src reports records s b
-unfolding readAbsent doneAnswer
-absent-is ws m src reports records s b scratch rows answer p q r = λ j. readResult (set ws 3 (layer ws + 1)) (p j) (q j) records (r j)
-
--- ---- a header, refused or read
+use Rattle.t2_read_present.specs.Answers.{presentOrBroken}
+use Rattle.t2_read_settle.specs.Results.{readResult}
 
 over-all : (lent : List ℕ) (rs : List BlockReport) → length lent ≡ 4 * length rs → overwrite lent (reportWords rs) ≡ reportWords rs
 unfolding overwrite

@@ -1,4 +1,4 @@
--- `t2_read_parts::read_absent` meets its contract.
+-- `t2_read_settle::read_absent` meets its contract.
 use mathlib.Core.Path.{sym}
 use native.Mathlib.Omega.{arith}
 use lib.ListN.{length, length-set}
@@ -6,10 +6,10 @@ use Rattle.t800.specs.State.{reader}
 use Rattle.tcd_state.proofs.Laws.ValidStates.{valid-state}
 use Rattle.t2_read_header.proofs.Laws.HeaderEnd.{thirteen-words}
 use Rattle.t2_read_marks.specs.Marks.{markerRead}
-use Rattle.t2_read_parts.proofs.Laws.Results.{absent-is}
+use Rattle.t2_read_settle.proofs.Laws.Absent.{absent-is}
 use borrow.Author.Needs.{needs}
-use Rattle.t2_read_parts.proofs.read_absent.Statement.{statement}
-use Rattle.t2_read_parts.proofs.read_absent.Tie as tie
+use Rattle.t2_read_settle.proofs.read_absent.Statement.{statement}
+use Rattle.t2_read_settle.proofs.read_absent.Tie as tie
 
 slice-read-next : tie.Need-slice-read-next
 slice-read-next c =

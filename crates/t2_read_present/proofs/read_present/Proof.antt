@@ -1,4 +1,4 @@
--- `t2_read_parts::read_present` meets its contract.
+-- `t2_read_present::read_present` meets its contract.
 use mathlib.Core.Path.{_≡_, sym, _∙_, subst}
 use mathlib.Core.Bool.{true}
 use mathlib.Core.List.{List}
@@ -11,10 +11,10 @@ use Rattle.tcd_state.proofs.Laws.ValidStates.{valid-state}
 use Rattle.t2_read_segments.specs.Reading.{reading}
 use Rattle.t2_read_header.proofs.Laws.HeaderEnd.{thirteen-words}
 use Rattle.t2_read_marks.specs.Marks.{markerRead}
-use Rattle.t2_read_parts.proofs.Laws.Results.{broken-is, present-is}
+use Rattle.t2_read_present.proofs.Laws.Results.{broken-is, present-is}
 use borrow.Author.Needs.{needs}
-use Rattle.t2_read_parts.proofs.read_present.Statement.{statement}
-use Rattle.t2_read_parts.proofs.read_present.Tie as tie
+use Rattle.t2_read_present.proofs.read_present.Statement.{statement}
+use Rattle.t2_read_present.proofs.read_present.Tie as tie
 
 copy-requires : tie.Need-copy-requires
 copy-requires c κs =

@@ -1,16 +1,14 @@
-// A packet behind its first bit (t2.rs): an absent one, and a header read into scratch and settled in the state.
+// What a read leaves in the lent lists (t2.rs): an absent packet's next layer, a header's words settled in the state, or all wiped.
 ghost use mathlib.Core.Path.{_≡_};
 ghost use mathlib.Core.Bool.{true};
-ghost use Prim.Native.Nat.{_+_, _*_, _/_, _<_, _≤_};
+ghost use Prim.Native.Nat.{_+_, _<_, _≤_};
 ghost use lib.ListN.{length, set};
 ghost use Rattle.t800.specs.Base.{wiped};
-ghost use Rattle.t800.specs.State.{reader, layer, bands, blocks};
+ghost use Rattle.t800.specs.State.{reader, layer};
 ghost use Rattle.t800.specs.Ranges.{validState};
-ghost use Rattle.t800.specs.ReadHeader.{readHeader};
 ghost use Rattle.t800.specs.Packet.{readAbsent};
-ghost use Rattle.t2_read_segments.specs.Reading.{BitsIn};
 ghost use Rattle.t2_read_marks.specs.Marks.{markerRead};
-ghost use Rattle.t2_read_parts.specs.Answers.{readResult, WithAnyRecords, presentOrBroken};
+ghost use Rattle.t2_read_settle.specs.Results.{readResult, WithAnyRecords};
 use t2_read_marks::MarkerFound;
 use t800::Bio;
 use t800::Markers;
@@ -36,7 +34,7 @@ pub fn read_absent(
     t2_read_marks::done(src, m, s, b, 0, 0)
 }
 
-fn wipe_all(scratch: &mut [u32], reports: &mut [u32], records: &mut [u32])
+pub fn wipe_all(scratch: &mut [u32], reports: &mut [u32], records: &mut [u32])
     ensures { λ _. ⌜ (now (scratch .exit) ≡ wiped (now (scratch .entry))) × (now (reports .exit) ≡ wiped (now (reports .entry))) × (now (records .exit) ≡ wiped (now (records .entry))) ⌝ }
 {
     lists::wipe(scratch);
@@ -45,35 +43,11 @@ fn wipe_all(scratch: &mut [u32], reports: &mut [u32], records: &mut [u32])
 }
 
 // What was read becomes the state, with the next layer.
-fn settle(state: &mut [u32], scratch: &mut [u32])
+pub fn settle(state: &mut [u32], scratch: &mut [u32])
     requires { ⌜ (length (now scratch) ≡ length (now state)) × (3 < length (now state)) × (layer (now state) < 999) ⌝ }
     ensures { λ _. ⌜ (now (state .exit) ≡ set (now (scratch .entry)) 3 (layer (now (state .entry)) + 1)) × (now (scratch .exit) ≡ set (now (scratch .entry)) 3 (layer (now (state .entry)) + 1)) ⌝ }
 {
     let next = state[3] + 1;
     scratch[3] = next;
     lists::copy(scratch, state);
-}
-
-// A first bit 1.
-pub fn read_present(
-    state: &mut [u32],
-    scratch: &mut [u32],
-    reports: &mut [u32],
-    records: &mut [u32],
-    src: &[u8],
-    m: Markers,
-    s: MarkerFound,
-    b: Bio,
-) -> ReadAnswer
-    requires { ⌜ (validState reader (now state) (length (now scratch)) ≡ true) × (layer (now state) < 999) × (length (now reports) ≡ 4 * length (blocks (bands (now state)))) × (BitsIn (now src) b) ⌝ }
-    ensures { λ r. ⌜ readResult (now (state .exit)) (now (scratch .exit)) (now (reports .exit)) (now (records .exit)) r ≡ presentOrBroken (now (state .entry)) (now (scratch .entry)) m (now (src .entry)) (now (reports .entry)) (now (records .entry)) (markerRead s) (readHeader (now (src .entry)) (length (now (records .entry)) / 4) (now (state .entry)) b) ⌝ }
-{
-    lists::copy(state, scratch);
-    let run = t2_read_header::opj_t2_read_packet_header(scratch, reports, records, src, b);
-    if run.refusal != 0 {
-        wipe_all(scratch, reports, records);
-        return t2_read_refusals::refused(run.refusal);
-    }
-    settle(state, scratch);
-    t2_read_marks::done(src, m, s, run.bio, 1, run.count)
 }

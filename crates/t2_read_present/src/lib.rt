@@ -1,0 +1,40 @@
+// A packet whose first bit is 1 (t2.rs): its header read into scratch and settled in the state, or refused.
+ghost use mathlib.Core.Path.{_≡_};
+ghost use mathlib.Core.Bool.{true};
+ghost use Prim.Native.Nat.{_*_, _/_, _<_};
+ghost use lib.ListN.{length};
+ghost use Rattle.t800.specs.State.{reader, layer, bands, blocks};
+ghost use Rattle.t800.specs.Ranges.{validState};
+ghost use Rattle.t800.specs.ReadHeader.{readHeader};
+ghost use Rattle.t2_read_segments.specs.Reading.{BitsIn};
+ghost use Rattle.t2_read_marks.specs.Marks.{markerRead};
+ghost use Rattle.t2_read_present.specs.Answers.{presentOrBroken};
+ghost use Rattle.t2_read_settle.specs.Results.{readResult};
+use t2_read_marks::MarkerFound;
+use t800::Bio;
+use t800::Markers;
+use t800::ReadAnswer;
+
+// A first bit 1.
+pub fn read_present(
+    state: &mut [u32],
+    scratch: &mut [u32],
+    reports: &mut [u32],
+    records: &mut [u32],
+    src: &[u8],
+    m: Markers,
+    s: MarkerFound,
+    b: Bio,
+) -> ReadAnswer
+    requires { ⌜ (validState reader (now state) (length (now scratch)) ≡ true) × (layer (now state) < 999) × (length (now reports) ≡ 4 * length (blocks (bands (now state)))) × (BitsIn (now src) b) ⌝ }
+    ensures { λ r. ⌜ readResult (now (state .exit)) (now (scratch .exit)) (now (reports .exit)) (now (records .exit)) r ≡ presentOrBroken (now (state .entry)) (now (scratch .entry)) m (now (src .entry)) (now (reports .entry)) (now (records .entry)) (markerRead s) (readHeader (now (src .entry)) (length (now (records .entry)) / 4) (now (state .entry)) b) ⌝ }
+{
+    lists::copy(state, scratch);
+    let run = t2_read_header::opj_t2_read_packet_header(scratch, reports, records, src, b);
+    if run.refusal != 0 {
+        t2_read_settle::wipe_all(scratch, reports, records);
+        return t2_read_refusals::refused(run.refusal);
+    }
+    t2_read_settle::settle(state, scratch);
+    t2_read_marks::done(src, m, s, run.bio, 1, run.count)
+}
