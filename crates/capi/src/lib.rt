@@ -106,8 +106,6 @@ pub extern "C" fn tonkelvi_start_reader(
     t2::start_reader(count, bands, style, planes, state)
 }
 
-// ---- the lent list of answer words
-
 // ---- packets
 
 // Answers header and body bytes.

@@ -20,6 +20,7 @@ use Rattle.round_trip.proofs.Trip.Calls.{is-accepted}
 use Rattle.t2_theorems.specs.Calls.{Started, Written, WasRead, written, Follows, wasAccepted, owedFor, owedOf, allTerminated, packetMade, ReadAsOwed, RoundTripOfCalls}
 use Rattle.t2_layer.specs.Layer.{FirstLayer, Lent, startOf, writeOfLayer, layerResult, layerBy, writeAndRead, GivesEntry}
 use Rattle.t2_theorems.proofs.RoundTrip.{round-trip-of-calls}
+use Rattle.t800.specs.Reports.{reportWidth, recordWidth}
 
 one-owed : (style : ℕ) (book : List BlockEntry) (w : Written) → wasAccepted w ≡ true → owedOf style book (written w ∷ []) ≡ owedFor style book w ∷ []
 unfolding owedOf
@@ -49,7 +50,7 @@ module _ (w : Started writer) (r : Started reader) (p : Written) (q : WasRead) (
   packet = owedFor (w .style) book p
 
   pub read-back : T (terminatedAsStyle (w .style) book (p .call .contribution .counts) (p .call .contribution .marks)) → length (q .call .scratch) ≡ length (r .result .state)
-      → length (q .call .reports) ≡ 4 * length (packet .entry .reports) → 4 * length (packet .entry .records) ≤ length (q .call .records) → defs.GivesEntry packet (q .call) (q .result)
+      → length (q .call .reports) ≡ reportWidth * length (packet .entry .reports) → recordWidth * length (packet .entry .records) ≤ length (q .call .records) → defs.GivesEntry packet (q .call) (q .result)
   unfolding ReadAsOwed Follows RoundTripOfCalls
   read-back t scratch reports records =
       let e : wasAccepted p ≡ true = eq-eqb (p .result .answer .refusal) 0 accepted in

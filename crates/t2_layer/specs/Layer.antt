@@ -1,4 +1,4 @@
--- One layer written and read back: what the book owes for it (document 01, "The round trip").
+-- One layer written and read back: what the book owes for it (SCOPE S15).
 use mathlib.Core.Path.{_≡_}
 use Prim.Native.Nat.{ℕ, _*_, _≤_}
 use mathlib.Core.Bool.{cond, not}
@@ -11,7 +11,7 @@ use Rattle.t800.specs.declared.ReadAnswer.{ReadAnswer}
 use Rattle.t800.specs.Base.{overwrite}
 use Rattle.t800.specs.State.{writer, reader}
 use Rattle.t800.specs.Start.{StartResult, start}
-use Rattle.t800.specs.Reports.{reportWords, recordWords}
+use Rattle.t800.specs.Reports.{reportWords, recordWords, reportWidth, recordWidth}
 use Rattle.t800.specs.WriteHeader.{Contribution}
 use Rattle.t800.specs.Packet.{front, WriteResult, write, ReadResult, refusedAnswer, read}
 use Rattle.t800.specs.Book.{Entry, newBook, entry, terminatedAsStyle}
@@ -88,8 +88,8 @@ pub record Premises (l : FirstLayer) (b : Lent) : Type 0 where
   pub accepted : writeOfLayer l b .answer .refusal ≡ 0
   pub terminated : T (terminatedAsStyle (l .style) (newBook (take (l .count) (l .bands)) (l .planes)) (l .contribution .counts) (l .contribution .marks))
   pub scratch-length : length (b .scratch) ≡ length (b .reader)
-  pub reports-length : length (b .reports) ≡ 4 * length (entryOf l .reports)
-  pub records-enough : 4 * length (entryOf l .records) ≤ length (b .records)
+  pub reports-length : length (b .reports) ≡ reportWidth * length (entryOf l .reports)
+  pub records-enough : recordWidth * length (entryOf l .records) ≤ length (b .records)
 
 -- then the answer, the reports and the records are the entry
 pub record ReadBack (l : FirstLayer) (b : Lent) (answer : ReadAnswer) (reports records : List ℕ) : Type 0 where

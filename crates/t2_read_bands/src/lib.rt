@@ -3,7 +3,7 @@ ghost use mathlib.Core.Path.{_≡_};
 ghost use Prim.Native.Nat.{_<_, _≤_};
 ghost use lib.ListN.{length, take};
 ghost use Rattle.t800.specs.TagTree.{levels};
-ghost use Rattle.t800.specs.State.{layer, bands, blocks, endOf};
+ghost use Rattle.t800.specs.State.{layer, bands, blocks, endOf, notYetIncluded};
 ghost use Rattle.tcd_layout.specs.Geometry.{AllUpTo64, padded};
 ghost use Rattle.t2_read_segments.specs.Reading.{reading, nextBlocks, BitsIn};
 ghost use Rattle.tcd_places.specs.Places.{BandIn, bandBlocks, gridOf};
@@ -26,7 +26,7 @@ fn read_band(
     layer: u32,
     block: usize,
 ) -> Run
-    requires { ⌜ (BitsIn (now src) (r .bio)) × (r .refusal ≡ 0) × (BandIn (length (now words)) (g .start) band) × (g ≡ gridOf (g .start) band) × (tree ≡ padded (levels (band .across) (band .down))) × (layer < 999) × (block ≤ 12288) × (BandFits (now words) (g .start) band) ⌝ }
+    requires { ⌜ (BitsIn (now src) (r .bio)) × (r .refusal ≡ 0) × (BandIn (length (now words)) (g .start) band) × (g ≡ gridOf (g .start) band) × (tree ≡ padded (levels (band .across) (band .down))) × (layer < notYetIncluded) × (block ≤ 12288) × (BandFits (now words) (g .start) band) ⌝ }
     ensures { λ o. ⌜ reading (now (words .exit)) (now (reports .exit)) (now (records .exit)) o ≡ nextBlocks (now (src .entry)) layer block (bandBlocks (g .start) band) (reading (now (words .entry)) (now (reports .entry)) (now (records .entry)) r) ⌝ }
 {
     let mut run = r;
@@ -69,7 +69,7 @@ pub fn read_bands(
     n: usize,
     layer: u32,
 ) -> Run
-    requires { ⌜ (BitsIn (now src) (r .bio)) × (r .refusal ≡ 0) × (n ≤ 3) × (AllUpTo64 (take n bands)) × (endOf 13 (take n bands) ≤ length (now words)) × (layer < 999) × (BandsFit (now words) 13 (take n bands)) ⌝ }
+    requires { ⌜ (BitsIn (now src) (r .bio)) × (r .refusal ≡ 0) × (n ≤ 3) × (AllUpTo64 (take n bands)) × (endOf 13 (take n bands) ≤ length (now words)) × (layer < notYetIncluded) × (BandsFit (now words) 13 (take n bands)) ⌝ }
     ensures { λ o. ⌜ reading (now (words .exit)) (now (reports .exit)) (now (records .exit)) o ≡ nextBlocks (now (src .entry)) layer 0 (blocks (take n bands)) (reading (now (words .entry)) (now (reports .entry)) (now (records .entry)) r) ⌝ }
 {
     let trees = tcd_layout::band_levels(bands);

@@ -6,6 +6,7 @@ ghost use Rattle.t2_read_segments.specs.Reading.{reading, nextNew, nextOld, nex
 ghost use Rattle.tcd_places.specs.Places.{BlockIn, RowIn, blockAt, blockIn, rowBlocks};
 use t2_read_segments::Run;
 use tcd_places::Place;
+ghost use Rattle.t800.specs.State.{notYetIncluded};
 
 // ---- one block
 
@@ -22,7 +23,7 @@ fn read_new(
     planes: u32,
     block: usize,
 ) -> Run
-    requires { ⌜ (r .bio .ct ≤ 8) × (BlockIn (length (now words)) p (now row)) × (layer < 999) × (block < 2 ^ 32) × (SegmentFits (now words) (p .at)) ⌝ }
+    requires { ⌜ (r .bio .ct ≤ 8) × (BlockIn (length (now words)) p (now row)) × (layer < notYetIncluded) × (block < 2 ^ 32) × (SegmentFits (now words) (p .at)) ⌝ }
     ensures { λ o. ⌜ reading (now (words .exit)) (now (reports .exit)) (now (records .exit)) o ≡ nextNew (now (src .entry)) layer block (blockIn p (now (row .entry)) planes) (reading (now (words .entry)) (now (reports .entry)) (now (records .entry)) r) ⌝ }
 {
     let w = tgt_read::opj_tgt_decode(words, src, r.bio, p.incl, row, p.depth, p.x, layer + 1);
@@ -78,7 +79,7 @@ fn read_block(
     planes: u32,
     block: usize,
 ) -> Run
-    requires { ⌜ (r .bio .ct ≤ 8) × (BlockIn (length (now words)) p (now row)) × (layer < 999) × (block < 2 ^ 32) × (BlockFits (now words) (p .at)) ⌝ }
+    requires { ⌜ (r .bio .ct ≤ 8) × (BlockIn (length (now words)) p (now row)) × (layer < notYetIncluded) × (block < 2 ^ 32) × (BlockFits (now words) (p .at)) ⌝ }
     ensures { λ o. ⌜ reading (now (words .exit)) (now (reports .exit)) (now (records .exit)) o ≡ nextBlock (now (src .entry)) layer block (blockIn p (now (row .entry)) planes) (reading (now (words .entry)) (now (reports .entry)) (now (records .entry)) r) ⌝ }
 {
     let at = p.at;
@@ -115,7 +116,7 @@ pub fn read_row(
     planes: u32,
     block: usize,
 ) -> Run
-    requires { ⌜ (BitsIn (now src) (r .bio)) × (r .refusal ≡ 0) × (RowIn (length (now words)) p (now row) n) × (layer < 999) × (block + n ≤ 2 ^ 32) × (BlocksFit (now words) (p .at) n) ⌝ }
+    requires { ⌜ (BitsIn (now src) (r .bio)) × (r .refusal ≡ 0) × (RowIn (length (now words)) p (now row) n) × (layer < notYetIncluded) × (block + n ≤ 2 ^ 32) × (BlocksFit (now words) (p .at) n) ⌝ }
     ensures { λ o. ⌜ reading (now (words .exit)) (now (reports .exit)) (now (records .exit)) o ≡ nextBlocks (now (src .entry)) layer block (rowBlocks p (now (row .entry)) planes n 0) (reading (now (words .entry)) (now (reports .entry)) (now (records .entry)) r) ⌝ }
 {
     let mut run = r;

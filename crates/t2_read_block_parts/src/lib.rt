@@ -36,7 +36,7 @@ pub fn moved(r: Run, bio: Bio) -> Run
     }
 }
 
-// Included for the first time, behind the inclusion.
+// Included for the first time, after the inclusion.
 pub fn read_first(
     words: &mut [u32],
     reports: &mut [u32],

@@ -1,19 +1,20 @@
-// A packet header read behind its first bit (opj_t2_read_packet_header of t2.rs): its bands, and its end.
+// A packet header read after its first bit (opj_t2_read_packet_header of t2.rs): its bands, and its end.
 ghost use mathlib.Core.Path.{_≡_};
 ghost use mathlib.Core.Bool.{true};
 ghost use Prim.Native.Nat.{_*_, _<_};
 ghost use lib.ListN.{length};
-ghost use Rattle.t800.specs.State.{reader, layer, bands, blocks};
+ghost use Rattle.t800.specs.State.{reader, layer, bands, blocks, notYetIncluded};
 ghost use Rattle.t800.specs.Ranges.{validState};
 ghost use Rattle.t2_read_segments.specs.Reading.{reading, BitsIn};
 ghost use Rattle.t2_read_header.specs.Header.{ReadsHeader};
 use t2_read_segments::Run;
 use t800::Bio;
+ghost use Rattle.t800.specs.Reports.{reportWidth};
 
 // The refusal at a header's end.
 pub const HEADER_END: u32 = 12;
 
-// Of the state in `words`, behind the first bit.
+// Of the state in `words`, after the first bit.
 pub fn opj_t2_read_packet_header(
     words: &mut [u32],
     reports: &mut [u32],
@@ -21,7 +22,7 @@ pub fn opj_t2_read_packet_header(
     src: &[u8],
     b: Bio,
 ) -> Run
-    requires { ⌜ (validState reader (now words) (length (now words)) ≡ true) × (layer (now words) < 999) × (length (now reports) ≡ 4 * length (blocks (bands (now words)))) × (BitsIn (now src) b) ⌝ }
+    requires { ⌜ (validState reader (now words) (length (now words)) ≡ true) × (layer (now words) < notYetIncluded) × (length (now reports) ≡ reportWidth * length (blocks (bands (now words)))) × (BitsIn (now src) b) ⌝ }
     ensures { λ o. ⌜ ReadsHeader (now (src .entry)) (now (reports .entry)) (now (records .entry)) (now (words .entry)) b (reading (now (words .exit)) (now (reports .exit)) (now (records .exit)) o) ⌝ }
 {
     let bands = tcd_first_words::bands_of(words);

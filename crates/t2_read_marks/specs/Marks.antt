@@ -11,7 +11,7 @@ use Rattle.t2_read_marks.specs.declared.MarkerFound.{MarkerFound}
 abbrev pub markerRead : MarkerFound → MarkerRead
 markerRead f = record { skip = f .skip; mark = f .mark }
 
--- the answer where nothing is refused, the header's bits ending at b: EPH is looked for behind them
+-- the answer where nothing is refused, the header's bits ending at b: EPH is looked for after them
 unfoldable pub doneAnswer : Markers → List ℕ → MarkerRead → Bio → ℕ → ℕ → ReadAnswer
 doneAnswer m src s b present segments =
     let at = bytesTaken src b in

@@ -60,8 +60,8 @@ pub fn done(
     ensures { λ r. ⌜ r ≡ doneAnswer m (now (src .entry)) (markerRead s) b present segments ⌝ }
 {
     let end = bio_read::opj_bio_inalign(src, b);
-    let behind = end.bio;
-    let at = behind.bp;
+    let after = end.bio;
+    let at = after.bp;
     let e = read_marker(m.eph, Marker::EPH, src, at);
     let taken = at + e.skip;
     ReadAnswer {

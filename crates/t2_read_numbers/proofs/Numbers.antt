@@ -10,21 +10,22 @@ use lib.Dec.{eqb}
 use borrow.Author.Tests.{eq-eqb, ne-eqb}
 use Rattle.t800.specs.declared.Markers.{Markers}
 use Rattle.t800.specs.declared.ReadAnswer.{ReadAnswer}
-use Rattle.t800.specs.State.{reader, layer}
+use Rattle.t800.specs.State.{reader, layer, notYetIncluded}
 use Rattle.t800.specs.Ranges.{validState}
 use Rattle.t800.specs.Packet.{read}
 use Rattle.t800.proofs.Laws.Tests.{on-eq}
 use Rattle.t2_read_numbers.specs.Reading.{wrongListNumber, wrongList, readNumbers, toFill}
+use Rattle.t800.specs.Reports.{recordWidth}
 
 -- ---- four words for each record
 
-pub not-four-each : (words room : ℕ) → words / 4 ≢ room → false ≡ eqb words (4 * room)
-not-four-each words room n = sym (ne-eqb words (4 * room) (λ e. n (omega arith)))
+pub not-four-each : (words room : ℕ) → words / 4 ≢ room → false ≡ eqb words (recordWidth * room)
+not-four-each words room n = sym (ne-eqb words (recordWidth * room) (λ e. n (omega arith)))
 
-pub four-each : (words room : ℕ) → words / 4 ≡ room → eqb (words % 4) 0 ≡ eqb words (4 * room)
+pub four-each : (words room : ℕ) → words / 4 ≡ room → eqb (words % 4) 0 ≡ eqb words (recordWidth * room)
 four-each words room e = on-eq (words % 4) 0
-    (λ z. eq-eqb (words % 4) 0 z ∙ sym (eq-eqb words (4 * room) (omega arith)))
-    (λ z. ne-eqb (words % 4) 0 z ∙ sym (ne-eqb words (4 * room) (λ q. z (omega arith))))
+    (λ z. eq-eqb (words % 4) 0 z ∙ sym (eq-eqb words (recordWidth * room) (omega arith)))
+    (λ z. ne-eqb (words % 4) 0 z ∙ sym (ne-eqb words (recordWidth * room) (λ q. z (omega arith))))
 
 -- ---- the numbers before it
 
@@ -34,22 +35,22 @@ module _ (ws scratch : List ℕ) where
   wrong-5 e = rw e
 
   module _ (valid : validState reader ws (length scratch) ≡ true) where
-    pub wrong-6 : layer ws ≡ 999 → 6 ≡ wrongListNumber ws scratch
+    pub wrong-6 : layer ws ≡ notYetIncluded → 6 ≡ wrongListNumber ws scratch
     unfolding wrongListNumber
-    wrong-6 e = rw (valid, eq-eqb (layer ws) 999 e)
+    wrong-6 e = rw (valid, eq-eqb (layer ws) notYetIncluded e)
 
-    pub wrong-3 : layer ws ≢ 999 → 3 ≡ wrongListNumber ws scratch
+    pub wrong-3 : layer ws ≢ notYetIncluded → 3 ≡ wrongListNumber ws scratch
     unfolding wrongListNumber
-    wrong-3 e = rw (valid, ne-eqb (layer ws) 999 e)
+    wrong-3 e = rw (valid, ne-eqb (layer ws) notYetIncluded e)
 
 -- ---- the read
 
 module _ (ws scratch : List ℕ) (m : Markers) (src reports numbers : List ℕ) (room : ℕ) where
-  pub numbers-refused : eqb (length numbers) (4 * room) ≡ false → readNumbers ws scratch m src reports numbers room ≡ wrongList ws scratch reports numbers
+  pub numbers-refused : eqb (length numbers) (recordWidth * room) ≡ false → readNumbers ws scratch m src reports numbers room ≡ wrongList ws scratch reports numbers
   unfolding readNumbers
   numbers-refused e = rw e
 
-  pub numbers-read : eqb (length numbers) (4 * room) ≡ true → readNumbers ws scratch m src reports numbers room ≡ read ws scratch m src reports numbers
+  pub numbers-read : eqb (length numbers) (recordWidth * room) ≡ true → readNumbers ws scratch m src reports numbers room ≡ read ws scratch m src reports numbers
   unfolding readNumbers
   numbers-read e = rw e
 

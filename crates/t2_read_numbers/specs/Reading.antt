@@ -10,6 +10,7 @@ use Rattle.t800.specs.State.{notYetIncluded, reader, layer}
 use Rattle.t800.specs.Ranges.{validState}
 use Rattle.t800.specs.Packet.{ReadResult, refusedAnswer, read}
 use Rattle.t2_read_settle.specs.Results.{readResult}
+use Rattle.t800.specs.Reports.{recordWidth}
 
 -- 3 for the work list, where neither 5 nor 6 comes before it
 unfoldable pub wrongListNumber : List ℕ → List ℕ → ℕ
@@ -24,7 +25,7 @@ wrongList ws scratch reports records = readResult ws scratch reports records (re
 -- the read into numbers, with room for so many records
 unfoldable pub readNumbers : List ℕ → List ℕ → Markers → List ℕ → List ℕ → List ℕ → ℕ → ReadResult
 readNumbers ws scratch m src reports numbers room =
-    cond (eqb (length numbers) (4 * room)) (read ws scratch m src reports numbers) (wrongList ws scratch reports numbers)
+    cond (eqb (length numbers) (recordWidth * room)) (read ws scratch m src reports numbers) (wrongList ws scratch reports numbers)
 
 -- how many records are then stored: the segments found, or all where the numbers were wiped
 unfoldable pub toFill : ReadAnswer → ℕ → ℕ

@@ -6,10 +6,11 @@ ghost use Rattle.t2_read_settle.specs.Results.{readResult};
 ghost use Rattle.t2_read_numbers.specs.Reading.{wrongListNumber, readNumbers, toFill};
 use t800::Markers;
 use t800::ReadAnswer;
+ghost use Rattle.t800.specs.Reports.{recordWidth};
 
 // Four words for each record.
 fn four_each(words: usize, room: usize) -> bool
-    ensures { λ r. ⌜ r ≡ eqb words (4 * room) ⌝ }
+    ensures { λ r. ⌜ r ≡ eqb words (recordWidth * room) ⌝ }
 {
     if words / 4 != room {
         return false;

@@ -3,7 +3,7 @@ ghost use mathlib.Core.Path.{_≡_};
 ghost use mathlib.Core.Bool.{true};
 ghost use Prim.Native.Nat.{_*_, _/_, _<_};
 ghost use lib.ListN.{length};
-ghost use Rattle.t800.specs.State.{reader, layer, bands, blocks};
+ghost use Rattle.t800.specs.State.{reader, layer, bands, blocks, notYetIncluded};
 ghost use Rattle.t800.specs.Ranges.{validState};
 ghost use Rattle.t800.specs.ReadHeader.{readHeader};
 ghost use Rattle.t2_read_segments.specs.Reading.{BitsIn};
@@ -14,6 +14,7 @@ use t2_read_marks::MarkerFound;
 use t800::Bio;
 use t800::Markers;
 use t800::ReadAnswer;
+ghost use Rattle.t800.specs.Reports.{reportWidth, recordWidth};
 
 // A first bit 1.
 pub fn read_present(
@@ -26,8 +27,8 @@ pub fn read_present(
     s: MarkerFound,
     b: Bio,
 ) -> ReadAnswer
-    requires { ⌜ (validState reader (now state) (length (now scratch)) ≡ true) × (layer (now state) < 999) × (length (now reports) ≡ 4 * length (blocks (bands (now state)))) × (BitsIn (now src) b) ⌝ }
-    ensures { λ r. ⌜ readResult (now (state .exit)) (now (scratch .exit)) (now (reports .exit)) (now (records .exit)) r ≡ presentOrBroken (now (state .entry)) (now (scratch .entry)) m (now (src .entry)) (now (reports .entry)) (now (records .entry)) (markerRead s) (readHeader (now (src .entry)) (length (now (records .entry)) / 4) (now (state .entry)) b) ⌝ }
+    requires { ⌜ (validState reader (now state) (length (now scratch)) ≡ true) × (layer (now state) < notYetIncluded) × (length (now reports) ≡ reportWidth * length (blocks (bands (now state)))) × (BitsIn (now src) b) ⌝ }
+    ensures { λ r. ⌜ readResult (now (state .exit)) (now (scratch .exit)) (now (reports .exit)) (now (records .exit)) r ≡ presentOrBroken (now (state .entry)) (now (scratch .entry)) m (now (src .entry)) (now (reports .entry)) (now (records .entry)) (markerRead s) (readHeader (now (src .entry)) (length (now (records .entry)) / recordWidth) (now (state .entry)) b) ⌝ }
 {
     lists::copy(state, scratch);
     let run = t2_read_header::opj_t2_read_packet_header(scratch, reports, records, src, b);

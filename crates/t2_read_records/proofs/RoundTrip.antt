@@ -7,7 +7,7 @@ use lib.ListN.{length, drop}
 use lib.Dec.{eqb}
 use borrow.Author.Tests.{eq-eqb, ne-eqb}
 use Rattle.t800.specs.Base.{overwrite}
-use Rattle.t800.specs.Reports.{SegmentRecord, recordWords}
+use Rattle.t800.specs.Reports.{SegmentRecord, recordWords, recordWidth}
 use Rattle.t800.specs.Packet.{ReadResult, refusedAnswer}
 use Rattle.t800.specs.RoundTrip.{ReadCall, readOf, Owed, GivesEntry}
 use Rattle.t800.proofs.Laws.Tests.{if-true, if-false, on-eq}
@@ -24,19 +24,19 @@ use Rattle.t2_records.proofs.Stored.{words-determine}
 -- ---- a read into structs is one into numbers
 
 module _ (r : ReadMade) where
-  is-read : length (r .numbers) ≡ 4 * length (r .records) → resultOf r ≡ readOf (r .state) (callOf r)
+  is-read : length (r .numbers) ≡ recordWidth * length (r .records) → resultOf r ≡ readOf (r .state) (callOf r)
   unfolding readStructs
-  is-read e = ap (λ (z : StructsRead). z .result) (r .met ∙ if-true (eqb (length (r .numbers)) (4 * length (r .records))) _ _ (eq-eqb (length (r .numbers)) (4 * length (r .records)) e))
+  is-read e = ap (λ (z : StructsRead). z .result) (r .met ∙ if-true (eqb (length (r .numbers)) (recordWidth * length (r .records))) _ _ (eq-eqb (length (r .numbers)) (recordWidth * length (r .records)) e))
 
-  is-wrong : length (r .numbers) ≢ 4 * length (r .records)
+  is-wrong : length (r .numbers) ≢ recordWidth * length (r .records)
       → r .left ≡ record { answer = refusedAnswer (wrongListNumber (r .state) (r .scratch)); state = r .state; scratch = r .scratch; reports = r .reports; numbers = r .numbers; records = r .records }
   unfolding readStructs
   is-wrong n =
-      let e = r .met ∙ if-false (eqb (length (r .numbers)) (4 * length (r .records))) _ _ (ne-eqb (length (r .numbers)) (4 * length (r .records)) n) in
+      let e = r .met ∙ if-false (eqb (length (r .numbers)) (recordWidth * length (r .records))) _ _ (ne-eqb (length (r .numbers)) (recordWidth * length (r .records)) n) in
       let same = words-determine (r .left .records) (r .records) (ap (λ (z : StructsRead). z .result .records) e) in
       λ i. record { answer = e i .result .answer; state = e i .result .state; scratch = e i .result .scratch; reports = e i .result .reports; numbers = e i .numbers; records = same i }
 
-  abbrev was-read : length (r .numbers) ≡ 4 * length (r .records) → WasRead
+  abbrev was-read : length (r .numbers) ≡ recordWidth * length (r .records) → WasRead
   was-read e = record { state = r .state; call = callOf r; result = resultOf r; met = is-read e }
 
 pub structs-are-numbers : StructsAreNumbers
@@ -80,7 +80,7 @@ structs-as-owed : (ws : List ℕ) (os : List Owed) (rs : List ReaderMade) → ((
 unfolding ReadAsOwed numbers.ReadAsOwed
 structs-as-owed ws os [] h = h []
 structs-as-owed ws os (refusedMade r ∷ rs) h =
-    λ e n. on-eq (length (r .numbers)) (4 * length (r .records))
+    λ e n. on-eq (length (r .numbers)) (recordWidth * length (r .records))
     (λ l. structs-as-owed (r .left .state) os rs (λ ts. h (numbers.refusedMade (was-read r l) ∷ ts) e n))
     (λ l. structs-as-owed (r .left .state) os rs (λ ts. subst (λ (s : List ℕ). numbers.ReadAsOwed s os ts) (sym (ap (λ (z : Left). z .state) (is-wrong r l) ∙ e)) (h ts)))
 structs-as-owed ws [] (packetMade r ∷ rs) h = tt

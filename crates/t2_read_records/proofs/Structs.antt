@@ -15,7 +15,7 @@ use Rattle.t800.specs.Base.{overwrite, wiped}
 use Rattle.t800.specs.Bits.{Decoded, bioAt, getBit}
 use Rattle.t800.specs.State.{reader, notYetIncluded, layer, bands, blocks}
 use Rattle.t800.specs.Ranges.{validState}
-use Rattle.t800.specs.Reports.{SegmentRecord, recordWords}
+use Rattle.t800.specs.Reports.{SegmentRecord, recordWords, reportWidth, recordWidth}
 use Rattle.t800.specs.MarkerSegments.{readSop}
 use Rattle.t800.specs.ReadHeader.{HeaderRead, readHeader}
 use Rattle.t800.specs.Packet.{ReadResult, refusedAnswer, readRefusal, readAbsent, readPresent, read}
@@ -76,7 +76,7 @@ unfolding readRefusal toFill
 early-stores-none ws scratch reports room =
     either None (not (validState reader ws (length scratch))) 5 _ (λ n. refl)
     (either None (eqb (layer ws) notYetIncluded) 6 _ (λ n. refl)
-    (either None (not (eqb (length reports) (4 * length (blocks (bands ws))))) 3 0 (λ n. refl) (λ n. absurd (n refl))))
+    (either None (not (eqb (length reports) (reportWidth * length (blocks (bands ws))))) 3 0 (λ n. refl) (λ n. absurd (n refl))))
   where
     None : ℕ → Type 0
     None n = n ≢ 0 → toFill (refusedAnswer n) room ≡ 0
@@ -110,14 +110,14 @@ module _ (ws scratch : List ℕ) (m : Markers) (src reports : List ℕ) where
       (cond (eqb (first .value) 0) (readAbsent ws m src reports records (readSop m src) (first .bio))
       (cond (eqb (header n .refusal) 0) (readPresent ws m src records (readSop m src) (header n)) (broken n records)))
 
-  read-is-at : (records : List ℕ) → read ws scratch m src reports records ≡ readAt (length records / 4) records
+  read-is-at : (records : List ℕ) → read ws scratch m src reports records ≡ readAt (length records / recordWidth) records
   unfolding read readAt
   read-is-at records = refl
 
   -- a header that is refused gives 9, 12 or 13, and all records are stored
-  module _ (records : List ℕ) (room : ℕ) (in-time : why ≡ 0) (present : eqb (first .value) 0 ≡ false) (fails : eqb (header (length records / 4) .refusal) 0 ≡ false) where
+  module _ (records : List ℕ) (room : ℕ) (in-time : why ≡ 0) (present : eqb (first .value) 0 ≡ false) (fails : eqb (header (length records / recordWidth) .refusal) 0 ≡ false) where
     abbrev number : ℕ
-    number = header (length records / 4) .refusal
+    number = header (length records / recordWidth) .refusal
 
     abbrev call : ReadCall
     call = record { scratch = scratch; markers = m; input = src; reports = reports; records = records }
@@ -131,12 +131,12 @@ module _ (ws scratch : List ℕ) (m : Markers) (src reports : List ℕ) where
         ap (λ (z : ReadResult). z .answer .refusal)
         (read-is-at records ∙ if-false (not (eqb why 0)) _ _ (ap not (eq-eqb why 0 in-time)) ∙ if-false (eqb (first .value) 0) _ _ present ∙ if-false (eqb number 0) _ _ fails)
 
-    no-list : (validState reader ws (length scratch) ≡ true) × (eqb (layer ws) notYetIncluded ≡ false) × (eqb (length reports) (4 * length (blocks (bands ws))) ≡ true)
+    no-list : (validState reader ws (length scratch) ≡ true) × (eqb (layer ws) notYetIncluded ≡ false) × (eqb (length reports) (reportWidth * length (blocks (bands ws))) ≡ true)
     unfolding readRefusal
     no-list =
         let a = not-refused (not (validState reader ws (length scratch))) 5 _ (omega arith) in-time in
         let b = not-refused (eqb (layer ws) notYetIncluded) 6 _ (omega arith) (a .1) in
-        let c = not-refused (not (eqb (length reports) (4 * length (blocks (bands ws))))) 3 0 (omega arith) (b .1) in
+        let c = not-refused (not (eqb (length reports) (reportWidth * length (blocks (bands ws))))) 3 0 (omega arith) (b .1) in
         (unnot _ (a .0), b .0, unnot _ (c .0))
       where
         unnot : (b : Bool) → not b ≡ false → b ≡ true

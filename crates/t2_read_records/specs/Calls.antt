@@ -10,7 +10,7 @@ use Rattle.t800.specs.declared.Markers.{Markers}
 use Rattle.t800.specs.declared.ReadAnswer.{ReadAnswer}
 use Rattle.t800.specs.State.{writer, reader}
 use Rattle.t800.specs.Ranges.{validState}
-use Rattle.t800.specs.Reports.{SegmentRecord}
+use Rattle.t800.specs.Reports.{SegmentRecord, recordWidth}
 use Rattle.t800.specs.Packet.{ReadResult, refusedAnswer}
 use Rattle.t800.specs.Book.{newBook}
 use Rattle.t800.specs.RoundTrip.{ReadCall, readOf, withMore, Owed, ReadsPacket, GivesEntry}
@@ -54,8 +54,8 @@ resultOf r = readResult (r .left .state) (r .left .scratch) (r .left .reports) (
 -- nothing. Words determine structs.
 unfoldable pub StructsAreNumbers : Type 0
 StructsAreNumbers =
-    ((r : ReadMade) → length (r .numbers) ≡ 4 * length (r .records) → resultOf r ≡ readOf (r .state) (callOf r))
-    × ((r : ReadMade) → length (r .numbers) ≢ 4 * length (r .records)
+    ((r : ReadMade) → length (r .numbers) ≡ recordWidth * length (r .records) → resultOf r ≡ readOf (r .state) (callOf r))
+    × ((r : ReadMade) → length (r .numbers) ≢ recordWidth * length (r .records)
     → r .left ≡ record { answer = refusedAnswer (wrongListNumber (r .state) (r .scratch)); state = r .state; scratch = r .scratch; reports = r .reports; numbers = r .numbers; records = r .records })
     × ((rs ss : List Segment) → wordsOf rs ≡ wordsOf ss → rs ≡ ss)
 
@@ -81,10 +81,10 @@ ReadAsOwed ws os (refusedMade r ∷ rs) = r .state ≡ ws → 0 < r .left .answe
 ReadAsOwed ws [] (packetMade r ∷ rs) = Unit {0}
 ReadAsOwed ws (o ∷ os) (packetMade r ∷ rs) =
     r .state ≡ ws
-    → length (r .numbers) ≡ 4 * length (r .records)
+    → length (r .numbers) ≡ recordWidth * length (r .records)
     → ReadsPacket ws o (callOf r)
     → (GivesStructs o r)
-    × ((more : List ℕ) (m : ReadMade) → m .state ≡ ws → length (m .numbers) ≡ 4 * length (m .records) → callOf m ≡ withMore (callOf r) more → GivesStructs o m)
+    × ((more : List ℕ) (m : ReadMade) → m .state ≡ ws → length (m .numbers) ≡ recordWidth * length (m .records) → callOf m ≡ withMore (callOf r) more → GivesStructs o m)
     × ReadAsOwed (r .left .state) os rs
 
 -- DEMAND 3 with reads into structs: a writer and a reader started with the same bands and style, and no planes for the reader

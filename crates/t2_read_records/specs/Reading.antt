@@ -12,6 +12,7 @@ use Rattle.t2_read_settle.specs.Results.{readResult}
 use Rattle.t2_records.specs.declared.Segment.{Segment}
 use Rattle.t2_records.specs.Segments.{wordsOf}
 use Rattle.t2_read_numbers.specs.Reading.{wrongList}
+use Rattle.t800.specs.Reports.{recordWidth}
 
 -- what a read leaves: the records as their words, which determine them, and the work list
 pub record StructsRead : Type 0 where
@@ -27,4 +28,4 @@ readStructs ws scratch m src reports numbers records =
     let words = wordsOf records in
     let done : StructsRead = record { result = read ws scratch m src reports words; numbers = read ws scratch m src reports numbers .records } in
     let wrong : StructsRead = record { result = wrongList ws scratch reports words; numbers = numbers } in
-    cond (eqb (length numbers) (4 * length records)) done wrong
+    cond (eqb (length numbers) (recordWidth * length records)) done wrong

@@ -4,7 +4,7 @@ ghost use mathlib.Core.Bool.{true};
 ghost use Prim.Native.Nat.{_+_, _<_, _≤_};
 ghost use lib.ListN.{length, set};
 ghost use Rattle.t800.specs.Base.{wiped};
-ghost use Rattle.t800.specs.State.{reader, layer};
+ghost use Rattle.t800.specs.State.{reader, layer, notYetIncluded};
 ghost use Rattle.t800.specs.Ranges.{validState};
 ghost use Rattle.t800.specs.Packet.{readAbsent};
 ghost use Rattle.t2_read_marks.specs.Marks.{markerRead};
@@ -24,7 +24,7 @@ pub fn read_absent(
     s: MarkerFound,
     b: Bio,
 ) -> ReadAnswer
-    requires { ⌜ (validState reader (now state) (length (now scratch)) ≡ true) × (layer (now state) < 999) × (b .bp ≤ length (now src) + 1) ⌝ }
+    requires { ⌜ (validState reader (now state) (length (now scratch)) ≡ true) × (layer (now state) < notYetIncluded) × (b .bp ≤ length (now src) + 1) ⌝ }
     ensures { λ r. ⌜ WithAnyRecords (λ records. readResult (now (state .exit)) (now (scratch .exit)) (now (reports .exit)) records r) (λ records. readAbsent (now (state .entry)) m (now (src .entry)) (now (reports .entry)) records (markerRead s) b) ⌝ }
 {
     let next = state[3] + 1;
@@ -44,7 +44,7 @@ pub fn wipe_all(scratch: &mut [u32], reports: &mut [u32], records: &mut [u32])
 
 // What was read becomes the state, with the next layer.
 pub fn settle(state: &mut [u32], scratch: &mut [u32])
-    requires { ⌜ (length (now scratch) ≡ length (now state)) × (3 < length (now state)) × (layer (now state) < 999) ⌝ }
+    requires { ⌜ (length (now scratch) ≡ length (now state)) × (3 < length (now state)) × (layer (now state) < notYetIncluded) ⌝ }
     ensures { λ _. ⌜ (now (state .exit) ≡ set (now (scratch .entry)) 3 (layer (now (state .entry)) + 1)) × (now (scratch .exit) ≡ set (now (scratch .entry)) 3 (layer (now (state .entry)) + 1)) ⌝ }
 {
     let next = state[3] + 1;

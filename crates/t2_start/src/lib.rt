@@ -7,12 +7,6 @@ use t800::Band;
 use tcd_style::READER;
 use tcd_style::WRITER;
 
-// ---- the checks
-
-// ---- a fresh state
-
-// ---- zero planes
-
 // ---- the calls
 
 // What both roles do: the checks, and a fresh state.

@@ -1,4 +1,4 @@
-// The parts of a start: its refusals, the first words, the zero planes.
+// The parts of a start: its refusals, the first words, fresh bands.
 ghost use mathlib.Core.Path.{_≡_};
 ghost use mathlib.Core.Bool.{not, _||_};
 ghost use mathlib.Core.List.{[], _∷_, _++_};
@@ -89,7 +89,7 @@ fn first_words(state: &mut [u32], role: u32, count: u32, style: u32)
     state[3] = 0;
 }
 
-// Band i of the first n, and zeros behind them.
+// Band i of the first n, and zeros after them.
 fn used_band(bands: [Band; 3], n: usize, i: usize) -> Band
     requires { ⌜ n ≤ 3 ⌝ }
     ensures { λ r. ⌜ r ≡ getD (take n bands) i noBand ⌝ }
@@ -145,8 +145,8 @@ fn fresh_band(state: &mut [u32], at: usize, nodes: usize, blocks: usize)
     tgt::opj_tgt_reset(state, at, nodes, NOT_YET_INCLUDED);
     let second = at + tree;
     tgt::opj_tgt_reset(state, second, nodes, NOT_YET_PLANES);
-    let behind = second + tree;
-    zero_blocks(state, behind, blocks);
+    let after = second + tree;
+    zero_blocks(state, after, blocks);
 }
 
 fn fresh_bands(state: &mut [u32], bands: [Band; 3], n: usize)

@@ -33,7 +33,7 @@ fn segment_too_long(counts: &[u32], lengths: &[u32], marks: &[u8]) -> bool
 
 // ---- all blocks' widths (9)
 
-// n blocks whose words begin at `at`. The lists are those of these blocks and any behind them.
+// n blocks whose words begin at `at`. The lists are those of these blocks and any after them.
 fn blocks_too_wide(
     state: &[u32],
     at: usize,

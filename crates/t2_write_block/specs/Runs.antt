@@ -16,7 +16,7 @@ use Rattle.t2_write_lengths.specs.Blocks.{PassesFit}
 
 -- ---- coding
 
--- words, output, and how many blocks and passes of the lists are behind
+-- words, output, and how many blocks and passes of the lists are done
 pub record Running : Type 0 where
   pub words : List ℕ
   pub output : Output
@@ -26,14 +26,14 @@ pub record Running : Type 0 where
 abbrev pub running : List ℕ → List ℕ → Run → Running
 running ws bytes r = record { words = ws; output = output bytes (r .bio); block = r .block; pass = r .pass }
 
-abbrev pub behindCoded : Running → ℕ → Coded → Running
-behindCoded s c b = record { words = b .words; output = putBits (s .output) (b .bits); block = s .block + 1; pass = s .pass + c }
+abbrev pub afterCoded : Running → ℕ → Coded → Running
+afterCoded s c b = record { words = b .words; output = putBits (s .output) (b .bits); block = s .block + 1; pass = s .pass + c }
 
 -- in layer t, by counts, lengths and marks
 unfoldable pub codeNext : ℕ → List ℕ → List ℕ → List ℕ → Block → Running → Running
 codeNext t cs ls ms k s =
     let c = getD cs (s .block) 0 in
-    behindCoded s c (codeBlock t k c (segmentsOf (take c (drop (s .pass) ls)) (take c (drop (s .pass) ms))) (s .words))
+    afterCoded s c (codeBlock t k c (segmentsOf (take c (drop (s .pass) ls)) (take c (drop (s .pass) ms))) (s .words))
 
 unfoldable pub codeAll : ℕ → List ℕ → List ℕ → List ℕ → List Block → Running → Running
 codeAll t cs ls ms [] s = s

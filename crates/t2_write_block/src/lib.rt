@@ -13,8 +13,9 @@ ghost use Rattle.tcd_places.specs.Places.{BlockIn, RowIn, blockIn, rowBlocks};
 ghost use Rattle.t2_write_block.specs.Runs.{running, codeNext, codeAll, NextFits, AllFit};
 use t800::Bio;
 use tcd_places::Place;
+ghost use Rattle.t800.specs.State.{notYetIncluded};
 
-// Where the bits stand, and how many blocks and passes of the caller's lists are behind.
+// Where the bits stand, and how many blocks and passes of the caller's lists are done.
 pub struct Run {
     pub bio: Bio,
     pub block: usize,
@@ -35,7 +36,7 @@ fn code_block(
     lengths: &[u32],
     marks: &[u8],
 ) -> Bio
-    requires { ⌜ (T (isPassTable (now codes))) × (FreeBitsClear b) × (BlockIn (length (now words)) p (now row)) × (layer < 999) × (PassesFit (getD (now words) (p .at) 0) (getD (now words) (p .at + 1) 0) count (now lengths) (now marks)) ⌝ }
+    requires { ⌜ (T (isPassTable (now codes))) × (FreeBitsClear b) × (BlockIn (length (now words)) p (now row)) × (layer < notYetIncluded) × (PassesFit (getD (now words) (p .at) 0) (getD (now words) (p .at + 1) 0) count (now lengths) (now marks)) ⌝ }
     ensures { λ r. ⌜ leafCoded (now (words .exit)) (now (out .exit)) r ≡ putCoded (output (now (out .entry)) b) (codeBlock layer (blockIn p (now (row .entry)) 0) count (segmentsOf (now (lengths .entry)) (now (marks .entry))) (now (words .entry))) ⌝ }
 {
     let told = t2_write_block_parts::code_inclusion(words, out, b, p, row, layer, count);
@@ -60,7 +61,7 @@ fn code_next(
     lengths: &[u32],
     marks: &[u8],
 ) -> Run
-    requires { ⌜ (T (isPassTable (now codes))) × (FreeBitsClear (r .bio)) × (BlockIn (length (now words)) p (now row)) × (layer < 999) × (NextFits (now counts) (now lengths) (now marks) (now words) (p .at) (r .block) (r .pass)) ⌝ }
+    requires { ⌜ (T (isPassTable (now codes))) × (FreeBitsClear (r .bio)) × (BlockIn (length (now words)) p (now row)) × (layer < notYetIncluded) × (NextFits (now counts) (now lengths) (now marks) (now words) (p .at) (r .block) (r .pass)) ⌝ }
     ensures { λ s. ⌜ running (now (words .exit)) (now (out .exit)) s ≡ codeNext layer (now (counts .entry)) (now (lengths .entry)) (now (marks .entry)) (blockIn p (now (row .entry)) 0) (running (now (words .entry)) (now (out .entry)) r) ⌝ }
 {
     let block = r.block;
@@ -101,7 +102,7 @@ pub fn code_row(
     lengths: &[u32],
     marks: &[u8],
 ) -> Run
-    requires { ⌜ (T (isPassTable (now codes))) × (FreeBitsClear (r .bio)) × (RowIn (length (now words)) p (now row) n) × (layer < 999) × (AllFit (now counts) (now lengths) (now marks) (now words) (rowBlocks p (now row) 0 n 0) (r .block) (r .pass)) ⌝ }
+    requires { ⌜ (T (isPassTable (now codes))) × (FreeBitsClear (r .bio)) × (RowIn (length (now words)) p (now row) n) × (layer < notYetIncluded) × (AllFit (now counts) (now lengths) (now marks) (now words) (rowBlocks p (now row) 0 n 0) (r .block) (r .pass)) ⌝ }
     ensures { λ s. ⌜ running (now (words .exit)) (now (out .exit)) s ≡ codeAll layer (now (counts .entry)) (now (lengths .entry)) (now (marks .entry)) (rowBlocks p (now (row .entry)) 0 n 0) (running (now (words .entry)) (now (out .entry)) r) ⌝ }
 {
     let mut run = r;

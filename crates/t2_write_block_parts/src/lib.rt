@@ -13,6 +13,7 @@ ghost use Rattle.t2_write_lengths.specs.Blocks.{PassesFit};
 ghost use Rattle.tcd_places.specs.Places.{BlockIn, blockAt, blockIn};
 use t800::Bio;
 use tcd_places::Place;
+ghost use Rattle.t800.specs.State.{notYetIncluded};
 
 pub fn code_passes(
     codes: &[u16; 328],
@@ -51,7 +52,7 @@ pub fn code_inclusion(
     layer: u32,
     count: u32,
 ) -> Bio
-    requires { ⌜ (FreeBitsClear b) × (BlockIn (length (now words)) p (now row)) × (layer < 999) ⌝ }
+    requires { ⌜ (FreeBitsClear b) × (BlockIn (length (now words)) p (now row)) × (layer < notYetIncluded) ⌝ }
     ensures { λ r. ⌜ leafCoded (now (words .exit)) (now (out .exit)) r ≡ putCoded (output (now (out .entry)) b) (codeInclusion layer (blockIn p (now (row .entry)) 0) count (now (words .entry))) ⌝ }
 {
     let at = p.at;

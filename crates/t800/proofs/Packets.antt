@@ -1,4 +1,4 @@
--- Document 01, "Packets to check by hand": A to L and every refusal named beside them; then each of the 13 numbers, each place where two
+-- SCOPE S16, packets to check by hand: A to L and every refusal named beside them; then each of the 13 numbers, each place where two
 -- of them could be given, and the slips. One table, and one statement that covers its rows.
 use mathlib.Core.Path.{_≡_, refl}
 use Prim.Native.Nat.{ℕ, _+_, _-_, _*_, _^_}

@@ -7,7 +7,7 @@ use Prim.Native.Nat.{ℕ, _+_, _*_, _<_}
 use native.Mathlib.Omega.{arith}
 use lib.ListN.{drop}
 use Rattle.t800.specs.declared.Band.{Band}
-use Rattle.t800.specs.State.{Block, layer, blocksIn, bandNodes, bandLength, blocksAt}
+use Rattle.t800.specs.State.{Block, layer, blocksIn, bandNodes, bandLength, blocksAt, notYetIncluded}
 use Rattle.t800.specs.Ranges.{bandInRange, bandsInRange}
 use Rattle.t800.proofs.Laws.Layout.{band-length}
 use Rattle.t800.proofs.Laws.Lists.{length-from}
@@ -22,7 +22,7 @@ use Rattle.t2_read_bands.specs.Bands.{BandFits, BandsFit}
 
 -- ---- what refusal 5 establishes
 
-pub bands-fit : (ws : List ℕ) (at : ℕ) (bs : List Band) → layer ws < 999 → bandsInRange ws at bs ≡ true → BandsFit ws at bs
+pub bands-fit : (ws : List ℕ) (at : ℕ) (bs : List Band) → layer ws < notYetIncluded → bandsInRange ws at bs ≡ true → BandsFit ws at bs
 unfolding bandsInRange
 bands-fit ws at [] h e = tt
 bands-fit ws at (b ∷ bs) h e = (

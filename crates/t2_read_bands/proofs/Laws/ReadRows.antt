@@ -1,4 +1,4 @@
--- A band row by row: its blocks are t800's, and what is left behind a row.
+-- A band row by row: its blocks are t800's, and what is left after a row.
 use mathlib.Core.Path.{_≡_, sym, ap, _∙_, subst}
 use mathlib.Core.Logic.{_≢_}
 use mathlib.Core.List.{List}

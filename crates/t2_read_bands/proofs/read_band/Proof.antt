@@ -39,7 +39,7 @@ loop-holds c =
     let a = s .args in
     let e = all-left (length (a .words .now)) (a .g .start) (a .band) (s .pre .2) in
     let z : a .block + 0 * a .band .across ≡ a .block = omega arith in (
-      record { bits = s .pre .0; behind = refl },
+      record { bits = s .pre .0; after = refl },
       refl,
       refl,
       refl,
@@ -106,7 +106,7 @@ read-row-requires c κs =
       at-row (length (l .words)) (a .g .start) (a .band) b (l .y) t (RowIn (length (l .words))) _ _ _ ep er ew (row-in (length (l .words)) (a .g .start) (a .band) b (l .y) t),
       s .pre .5,
       subst (λ (k : ℕ). a .block + l .y * k + k ≤ 2 ^ 32) (sym ew) (row-number (length (l .words)) (a .g .start) (a .band) b (l .y) t (a .block) (s .pre .6)),
-      at-row (length (l .words)) (a .g .start) (a .band) b (l .y) t (λ p r n. BlocksFit (l .words) (p .at) n) _ _ _ ep er ew (row-fits (length (l .words)) (a .g .start) (a .band) b (l .y) t (l .words) (a .words .now) (s .pre .7) (l .inv .0 .behind)),
+      at-row (length (l .words)) (a .g .start) (a .band) b (l .y) t (λ p r n. BlocksFit (l .words) (p .at) n) _ _ _ ep er ew (row-fits (length (l .words)) (a .g .start) (a .band) b (l .y) t (l .words) (a .words .now) (s .pre .7) (l .inv .0 .after)),
     )
 
 same-length : tie.Need-same-length Inv-loop μ-loop

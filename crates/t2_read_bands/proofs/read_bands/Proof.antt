@@ -40,7 +40,7 @@ loop-holds : tie.Need-loop-holds Inv-loop μ-loop
 unfolding blocks
 loop-holds c =
     let s = c .before .before .before .before .before in
-    (record { bits = s .pre .0; behind = refl }, refl, refl, refl, omega arith, s .pre .1, omega arith, s .pre .4, s .pre .6, refl)
+    (record { bits = s .pre .0; after = refl }, refl, refl, refl, omega arith, s .pre .1, omega arith, s .pre .4, s .pre .6, refl)
 
 mul-band : tie.Need-mul-band Inv-loop μ-loop
 mul-band c = omega (arith, c .loop-test .taken, c .before .before .before .before .before .before .before .pre .2)
@@ -82,7 +82,7 @@ read-band-requires c κs =
       ap (λ (ts : List (List Level)). getD ts (l .i) []) (c .before .before .before .before .before .before .before .before .band-levels .ensures) ∙ band-levels-at (a .t6) (l .i) (omega arith),
       s .pre .5,
       omega (arith, l .inv .6, s .pre .2),
-      subst (λ (k : Grid). BandFits (l .words) (k .start) b) (sym ge) (band-still-fits (l .start) b (l .words) (a .words .now) (l .inv .0 .behind) (subst (BandsFit (a .words .now) (l .start)) nb (l .inv .8) .0)),
+      subst (λ (k : Grid). BandFits (l .words) (k .start) b) (sym ge) (band-still-fits (l .start) b (l .words) (a .words .now) (l .inv .0 .after) (subst (BandsFit (a .words .now) (l .start)) nb (l .inv .8) .0)),
     )
 
 same-length : tie.Need-same-length Inv-loop μ-loop

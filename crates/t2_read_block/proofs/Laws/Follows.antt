@@ -15,7 +15,7 @@ use Rattle.t800.specs.Bits.{Decoded, getBit, readBits}
 use Rattle.t800.specs.PassCount.{readPasses}
 use Rattle.t800.specs.TagTree.{PathRead, value, low, readNode, readPath}
 use Rattle.t800.specs.Segments.{width, readComma}
-use Rattle.t800.specs.Reports.{BlockReport, SegmentRecord, absent, reportWords, recordWords}
+use Rattle.t800.specs.Reports.{BlockReport, SegmentRecord, absent, reportWords, recordWords, recordWidth}
 use Rattle.t800.specs.State.{Block, notYetPlanes, lengthBits}
 use Rattle.t800.specs.WriteHeader.{isNew, lengthBitsBefore}
 use Rattle.t800.specs.ReadHeader.{HeaderRead, refused, movedTo, withReport, opensSegment, currentLimit, currentPasses, passesTaken, readSegment, readSegments, readZeroPlanesFrom, readZeroPlanes, firstReport, againReport, readIncluded, readNewBlock, readOldBlock, readBlock, readBlocks}
@@ -87,7 +87,7 @@ cond-both false t x y = refl
 -- j reports and the records of r over the lists as they were lent, and so many words
 pub record Held (reports records : List ℕ) (size j : ℕ) (a : Reading) (r : HeaderRead) : Type 0 where
   pub same : a ≡ heldBy reports records r
-  pub records-lent : length (r .records) ≤ length records / 4
+  pub records-lent : length (r .records) ≤ length records / recordWidth
   pub reports-are : length (r .reports) ≡ j
   pub words-are : length (r .words) ≡ size
 
@@ -102,7 +102,7 @@ pub record Apart (size : ℕ) (k : Block) : Type 0 where
 
 module _ (src reports records : List ℕ) (size : ℕ) where
   abbrev room : ℕ
-  room = length records / 4
+  room = length records / recordWidth
 
   abbrev EndsAt : ℕ → Reading → HeaderRead → Type 0
   EndsAt j a r = Ends reports records size j a r
@@ -206,7 +206,7 @@ module _ (src reports records : List ℕ) (size : ℕ) where
   abbrev reportOf : ℕ → ℕ → ℕ → ℕ → BlockReport
   reportOf x y v n = record { inclusion = x; zeroPlanes = y; planes = v; passes = n }
 
-  -- block i's report behind those of the blocks before it
+  -- block i's report after those of the blocks before it
   module _ (i : ℕ) (ws : List ℕ) (b : Bio) (reps : List BlockReport) (recs : List SegmentRecord) (r : BlockReport) (q : length reps ≡ i) (lent : i < length reports / 4) where
     report-over : putRow (overwrite reports (reportWords reps)) i (r .inclusion) (r .zeroPlanes) (r .planes) (r .passes) ≡ overwrite reports (reportWords (reps ++ r ∷ []))
     report-over =
@@ -219,7 +219,7 @@ module _ (src reports records : List ℕ) (size : ℕ) where
     one-more : length (reps ++ r ∷ []) ≡ i + 1
     one-more = length-append reps (r ∷ []) ∙ ap (λ (n : ℕ). n + 1) q
 
-    -- behind its inclusion and zero planes, with p passes so far and the length bits l
+    -- after its inclusion and zero planes, with p passes so far and the length bits l
     passes-end : (k : Block) (z : PathRead) (p l : ℕ) → length recs ≤ room → length (z .words) ≡ size → k .at + 3 < size
         → EndsAt (i + 1) (segmentsAfter src i k (passesRead src (k .at) p l (z .words) (z .bio)) (reported i (r .inclusion) (r .zeroPlanes) (r .planes) (r .passes) (heldBy reports records (readSoFar ws b reps recs))))
         (readSegments src room i k (readPasses src (z .bio) .value) (readPasses src (z .bio) .value)

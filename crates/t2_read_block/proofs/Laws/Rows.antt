@@ -28,7 +28,7 @@ block-fits q at ws vs e h f =
     }
 
 pub keeps-later : (src : List ℕ) (q r : ℕ) (vs : List ℕ) (a : Reading) → q ≤ r → Keeps src q vs a → Keeps src r vs a
-keeps-later src q r vs a h k = record { bits = k .bits; behind = drop-later q r (a .words) vs h (k .behind) }
+keeps-later src q r vs a h k = record { bits = k .bits; after = drop-later q r (a .words) vs h (k .after) }
 
 -- ---- a list of blocks: its first, and the rest from there
 

@@ -33,7 +33,7 @@ loop-holds c =
     let a = s .args in
     let e : a .n - 0 ≡ a .n = omega arith in
     let z : a .block + 0 ≡ a .block = omega arith in (
-      record { bits = s .pre .0; behind = refl },
+      record { bits = s .pre .0; after = refl },
       refl,
       refl,
       refl,
@@ -62,7 +62,7 @@ read-block-requires c κs =
       subst (λ (k : Place). BlockIn (length (l .words)) k (a .row .now)) (sym e) (block-in (length (l .words)) (a .n) (l .i) (a .p) (a .row .now) t r),
       s .pre .3,
       omega (arith, s .pre .4, t),
-      subst (λ (k : Place). BlockFits (l .words) (k .at)) (sym e) (block-fits (a .p .at + 4 * l .i) (a .p .at + 4 * l .i) (l .words) (a .words .now) (l .inv .0 .behind) (omega arith) (s .pre .5 (l .i) t)),
+      subst (λ (k : Place). BlockFits (l .words) (k .at)) (sym e) (block-fits (a .p .at + 4 * l .i) (a .p .at + 4 * l .i) (l .words) (a .words .now) (l .inv .0 .after) (omega arith) (s .pre .5 (l .i) t)),
     )
 
 same-length : tie.Need-same-length Inv-loop μ-loop

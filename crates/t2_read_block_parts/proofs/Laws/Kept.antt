@@ -1,4 +1,4 @@
--- What reading a block leaves alone: the words behind it, that at most eight bits are held, and that the place is at most one behind the
+-- What reading a block leaves alone: the words after it, that at most eight bits are held, and that the place is at most one after the
 -- input's end.
 use mathlib.Core.Path.{_≡_, refl, sym, _∙_, subst}
 use mathlib.Core.List.{List, [], _∷_, reverse}
@@ -51,7 +51,7 @@ pub record Passes (at : ℕ) (ws : List ℕ) (c : ValueAfter) : Type 0 where
   pub few : c .bio .ct ≤ 8
   pub some : 1 ≤ c .value
   pub most : c .value ≤ 164
-  pub behind : drop (at + 2) (c .words) ≡ drop (at + 2) ws
+  pub after : drop (at + 2) (c .words) ≡ drop (at + 2) ws
 
 pub passes-are : (src : List ℕ) (at before bits : ℕ) (ws : List ℕ) (b : Bio) (c : ValueAfter) → c ≡ passesRead src at before bits ws b → b .ct ≤ 8 → Passes at ws c
 unfolding passesRead readCommaLimited
@@ -63,7 +63,7 @@ passes-are src at before bits ws b c e h =
       few = ones-ct src (onesLimit src) 0 (n .bio) (passes-ct src b h);
       some = v .0;
       most = v .1;
-      behind = passes-keep src (at + 2) at before bits ws b (omega arith);
+      after = passes-keep src (at + 2) at before bits ws b (omega arith);
     }
 
 -- ---- the bits
@@ -92,16 +92,16 @@ module _ (src : List ℕ) where
 -- the words from q on are vs
 pub record Keeps (src : List ℕ) (q : ℕ) (vs : List ℕ) (a : Reading) : Type 0 where
   pub bits : BitsIn src (a .bio)
-  pub behind : drop q (a .words) ≡ drop q vs
+  pub after : drop q (a .words) ≡ drop q vs
 
 module _ (src : List ℕ) (q : ℕ) (vs : List ℕ) where
   segment-keeps : (i : ℕ) (k : Block) (n : ℕ) (a : Reading) → k .at + 4 ≤ q → Keeps src q vs a → Keeps src q vs (nextSegment src i k n a)
   unfolding nextSegment
   segment-keeps i k n a h p =
       let w : ℕ = width (lengthBits (a .words) (k .at)) n in
-      either (Keeps src q vs) (ltb 32 w) (stopped 9 a) _ (record { bits = p .bits; behind = p .behind })
-      (either (Keeps src q vs) (leb (length (a .records) / 4) (a .count)) (stopped 13 a) _ (record { bits = p .bits; behind = p .behind })
-      (record { bits = number-in src w (a .bio) (p .bits); behind = drop-set-lt q _ (k .at + 3) _ (omega arith) ∙ drop-set-lt q (a .words) (k .at + 2) _ (omega arith) ∙ p .behind }))
+      either (Keeps src q vs) (ltb 32 w) (stopped 9 a) _ (record { bits = p .bits; after = p .after })
+      (either (Keeps src q vs) (leb (length (a .records) / 4) (a .count)) (stopped 13 a) _ (record { bits = p .bits; after = p .after })
+      (record { bits = number-in src w (a .bio) (p .bits); after = drop-set-lt q _ (k .at + 3) _ (omega arith) ∙ drop-set-lt q (a .words) (k .at + 2) _ (omega arith) ∙ p .after }))
 
   segments-keep : (i : ℕ) (k : Block) (f left : ℕ) (a : Reading) → k .at + 4 ≤ q → Keeps src q vs a → Keeps src q vs (nextSegments src i k f left a)
   unfolding nextSegments
@@ -119,14 +119,14 @@ module _ (src : List ℕ) (q : ℕ) (vs : List ℕ) where
         segments-keep i k _ _ _ (before .own)
         (record {
           bits = passes-in src (k .at) 0 3 (z .words) (z .bio) (raising-in src k (notYetPlanes + 2) 0 (a .words) (a .bio) (p .bits));
-          behind = passes-keep src q (k .at) 0 3 (z .words) (z .bio) (omega (arith, before .own)) ∙ raising-keeps src q k (notYetPlanes + 2) 0 (a .words) (a .bio) (before .zero) ∙ p .behind;
+          after = passes-keep src q (k .at) 0 3 (z .words) (z .bio) (omega (arith, before .own)) ∙ raising-keeps src q k (notYetPlanes + 2) 0 (a .words) (a .bio) (before .zero) ∙ p .after;
         })
 
     again-keeps : (i : ℕ) (a : Reading) → Keeps src q vs a → Keeps src q vs (nextAgain src i k a)
     unfolding nextAgain
     again-keeps i a p =
         segments-keep i k _ _ _ (before .own)
-        (record { bits = passes-in src (k .at) _ _ (a .words) (a .bio) (p .bits); behind = passes-keep src q (k .at) _ _ (a .words) (a .bio) (omega (arith, before .own)) ∙ p .behind })
+        (record { bits = passes-in src (k .at) _ _ (a .words) (a .bio) (p .bits); after = passes-keep src q (k .at) _ _ (a .words) (a .bio) (omega (arith, before .own)) ∙ p .after })
 
     pub block-keeps : (t i : ℕ) (a : Reading) → Keeps src q vs a → Keeps src q vs (nextBlock src t i k a)
     unfolding nextBlock nextNew nextOld
@@ -134,10 +134,10 @@ module _ (src : List ℕ) (q : ℕ) (vs : List ℕ) where
         let w = readPath src (k .inclTree) (t + 1) (reverse (k .path)) 0 (a .words) (a .bio) in
         let b = getBit src (a .bio) in
         let wb = path-in src (k .inclTree) (t + 1) (reverse (k .path)) 0 (a .words) (a .bio) (p .bits) in
-        let wk = path-keeps src q (k .inclTree) (t + 1) (reverse (k .path)) 0 (a .words) (a .bio) (before .incl) ∙ p .behind in
+        let wk = path-keeps src q (k .inclTree) (t + 1) (reverse (k .path)) 0 (a .words) (a .bio) (before .incl) ∙ p .after in
         either (Keeps src q vs) (isNew (a .words) k) _ _
-        (either (Keeps src q vs) (ltb (value (w .words) (k .inclTree + 3 * k .leaf)) (t + 1)) _ _ (first-keeps i _ (record { bits = wb; behind = wk })) (record { bits = wb; behind = wk }))
-        (either (Keeps src q vs) (eqb (b .value) 0) _ _ (record { bits = bit-in src (a .bio) (p .bits); behind = p .behind }) (again-keeps i _ (record { bits = bit-in src (a .bio) (p .bits); behind = p .behind })))
+        (either (Keeps src q vs) (ltb (value (w .words) (k .inclTree + 3 * k .leaf)) (t + 1)) _ _ (first-keeps i _ (record { bits = wb; after = wk })) (record { bits = wb; after = wk }))
+        (either (Keeps src q vs) (eqb (b .value) 0) _ _ (record { bits = bit-in src (a .bio) (p .bits); after = p .after }) (again-keeps i _ (record { bits = bit-in src (a .bio) (p .bits); after = p .after })))
 
   pub blocks-keep : (t i : ℕ) (ks : List Block) (a : Reading) → AllBlocks (BlockBefore q) ks → Keeps src q vs a → Keeps src q vs (nextBlocks src t i ks a)
   unfolding nextBlocks

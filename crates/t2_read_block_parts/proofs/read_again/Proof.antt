@@ -24,7 +24,7 @@ read-segments-requires c κs =
       omega (arith, n .kept .0, s .pre .1),
       s .pre .2,
       ps .most,
-      fits-same (at + 2) at (n .last .0) ws (ps .behind) (omega arith) (s .pre .3 .segment),
+      fits-same (at + 2) at (n .last .0) ws (ps .after) (omega arith) (s .pre .3 .segment),
       ap (λ (r : Run). r .refusal) (c .moved .ensures),
     )
 

@@ -43,7 +43,7 @@ read-segments-requires c κs =
       omega (arith, n .kept .0, z .kept .0, s .pre .1 .inside),
       s .pre .2,
       ps .most,
-      fits-same (p .at + 2) (p .at) (n .last .0) (z .last .0) (ps .behind) (omega arith) (fits-same (p .at) (p .at) (z .last .0) (s .args .words .now) same (omega arith) (s .pre .3)),
+      fits-same (p .at + 2) (p .at) (n .last .0) (z .last .0) (ps .after) (omega arith) (fits-same (p .at) (p .at) (z .last .0) (s .args .words .now) same (omega arith) (s .pre .3)),
       ap (λ (r : Run). r .refusal) (c .moved .ensures),
     )
 

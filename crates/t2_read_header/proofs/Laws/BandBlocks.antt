@@ -1,4 +1,4 @@
--- Where the blocks of bands stand: each behind its trees' paths, and all within the bands' words.
+-- Where the blocks of bands stand: each after its trees' paths, and all within the bands' words.
 use mathlib.Core.List.{List, [], _∷_}
 use Prim.Native.Nat.{ℕ, zero, suc, _+_, _*_, _≤_, _<_}
 use native.Mathlib.Omega.{arith}

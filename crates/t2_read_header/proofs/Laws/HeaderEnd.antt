@@ -12,7 +12,7 @@ use borrow.Author.Tests.{eq-eqb, ne-eqb}
 use Rattle.t800.specs.declared.Bio.{Bio}
 use Rattle.t800.specs.Base.{overwrite}
 use Rattle.t800.specs.Bits.{endsInFF}
-use Rattle.t800.specs.Reports.{reportWords, recordWords}
+use Rattle.t800.specs.Reports.{reportWords, recordWords, reportWidth, recordWidth}
 use Rattle.t800.specs.State.{reader, layer, bands, blocks, stateLength, endOf}
 use Rattle.t800.specs.ReadHeader.{HeaderRead, refused, readBlocks, readHeader}
 use Rattle.t800.proofs.Laws.Layout.{end-after}
@@ -35,10 +35,10 @@ module _ (ws : List ℕ) (n : ℕ) (valid : ValidState reader ws n) where
   pub thirteen-words : 13 ≤ length ws
   thirteen-words = omega (arith, bands-inside, end-after 13 (bands ws))
 
-module _ (src reports records ws : List ℕ) (b : Bio) (valid : ValidState reader ws (length ws)) (lent : length reports ≡ 4 * length (blocks (bands ws))) (start : Run) (at-start : start ≡ record { bio = b; count = 0; refusal = 0 })
+module _ (src reports records ws : List ℕ) (b : Bio) (valid : ValidState reader ws (length ws)) (lent : length reports ≡ reportWidth * length (blocks (bands ws))) (start : Run) (at-start : start ≡ record { bio = b; count = 0; refusal = 0 })
     (c : Reading) (is : c ≡ nextBlocks src (layer ws) 0 (blocks (bands ws)) (reading ws reports records start)) where
   abbrev room : ℕ
-  room = length records / 4
+  room = length records / recordWidth
 
   abbrev read : HeaderRead
   read = readBlocks src room (layer ws) 0 (blocks (bands ws)) (readSoFar ws b [] [])
@@ -59,7 +59,7 @@ module _ (src reports records ws : List ℕ) (b : Bio) (valid : ValidState reade
     bits-in =
         let a : Reading = reading ws reports records start in
         let s : BitsIn src (a .bio) = subst (λ (r : Run). BitsIn src (r .bio)) (sym at-start) h in
-        let k = blocks-keep src (length ws) ws (layer ws) 0 (blocks (bands ws)) a (bands-before (length ws) 13 (bands ws) (bands-inside ws (length ws) valid)) (record { bits = s; behind = refl }) in
+        let k = blocks-keep src (length ws) ws (layer ws) 0 (blocks (bands ws)) a (bands-before (length ws) 13 (bands ws) (bands-inside ws (length ws) valid)) (record { bits = s; after = refl }) in
         subst (λ (x : Reading). BitsIn src (x .bio)) (sym is) (k .bits)
 
     header-by : (t : Bool) → (eqb (read .refusal) 0 && endsInFF src (read .bio)) ≡ t → readHeader src room ws b ≡ cond t (refused 12) read

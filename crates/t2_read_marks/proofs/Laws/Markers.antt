@@ -57,7 +57,7 @@ module _ (used : Bool) (n second : ℕ) (src : List ℕ) (p : ℕ) where
       rest : MarkerRead
       rest = cond (eqb (getD src p 0) 0xff && eqb (getD src (p + 1) 0) second) (found n 0) (found 0 2)
 
--- at most the byte behind the last that was read
+-- at most the byte after the last that was read
 pub taken-up-to : (src : List ℕ) (b : Bio) → bytesTaken src b ≤ b .bp + 1
 unfolding bytesTaken
 taken-up-to src b = either (λ (n : ℕ). n ≤ b .bp + 1) (inFF b) _ _ (omega arith) (omega arith)

@@ -13,6 +13,7 @@ use Rattle.t800.specs.ReadHeader.{readHeader}
 use Rattle.t800.specs.Packet.{ReadResult, refusedAnswer, readRefusal, readAbsent, read}
 use Rattle.t2_read_present.specs.Answers.{presentOrBroken}
 use Rattle.t2_read_settle.specs.Results.{readResult}
+use Rattle.t800.specs.Reports.{recordWidth}
 
 module _ (ws scratch : List ℕ) (m : Markers) (src reports records : List ℕ) where
   pub unchanged-is : (why : ℕ) (answer : ReadAnswer) → why ≡ readRefusal ws scratch reports → why ≢ 0 → answer ≡ refusedAnswer why → readResult ws scratch reports records answer ≡ read ws scratch m src reports records
@@ -34,8 +35,8 @@ module _ (ws scratch : List ℕ) (m : Markers) (src reports records : List ℕ) 
         e ∙ (λ j. readAbsent ws m src reports records (sop-is j) (first-is j .bio))
         ∙ rw (eq-eqb (readRefusal ws scratch reports) 0 none, eq-eqb (getBit src (bioAt (readSop m src .skip)) .value) 0 (sym (ap (λ (d : Decoded). d .value) first-is) ∙ z))
 
-    pub read-present-is : (o : ReadResult) → first .value ≢ 0 → o ≡ presentOrBroken ws scratch m src reports records s (readHeader src (length records / 4) ws (first .bio)) → o ≡ read ws scratch m src reports records
+    pub read-present-is : (o : ReadResult) → first .value ≢ 0 → o ≡ presentOrBroken ws scratch m src reports records s (readHeader src (length records / recordWidth) ws (first .bio)) → o ≡ read ws scratch m src reports records
     unfolding read presentOrBroken
     read-present-is o z e =
-        e ∙ (λ j. presentOrBroken ws scratch m src reports records (sop-is j) (readHeader src (length records / 4) ws (first-is j .bio)))
+        e ∙ (λ j. presentOrBroken ws scratch m src reports records (sop-is j) (readHeader src (length records / recordWidth) ws (first-is j .bio)))
         ∙ rw (eq-eqb (readRefusal ws scratch reports) 0 none, ne-eqb (getBit src (bioAt (readSop m src .skip)) .value) 0 (λ y. z (ap (λ (d : Decoded). d .value) first-is ∙ y)))

@@ -9,7 +9,7 @@ use Rattle.t800.specs.declared.Bio.{Bio}
 use Rattle.t800.specs.declared.Markers.{Markers}
 use Rattle.t800.specs.declared.ReadAnswer.{ReadAnswer}
 use Rattle.t800.specs.Base.{overwrite, wiped}
-use Rattle.t800.specs.Reports.{BlockReport, reportWords}
+use Rattle.t800.specs.Reports.{BlockReport, reportWords, reportWidth, recordWidth}
 use Rattle.t800.specs.State.{layer, bands, blocks}
 use Rattle.t800.specs.MarkerSegments.{MarkerRead}
 use Rattle.t800.specs.ReadHeader.{HeaderRead, readHeader}
@@ -28,7 +28,7 @@ over-all lent rs e = ap (λ (l : List ℕ). reportWords rs ++ l) (drop-of-length
 
 module _ (ws scratch : List ℕ) (m : Markers) (src reports records : List ℕ) (s : MarkerRead) (b : Bio) (vs : List ℕ) (copied : vs ≡ ws) (a : Reading) (reads : ReadsHeader src reports records vs b a) where
   abbrev room : ℕ
-  room = length records / 4
+  room = length records / recordWidth
 
   abbrev header : HeaderRead
   header = readHeader src room ws b
@@ -44,7 +44,7 @@ module _ (ws scratch : List ℕ) (m : Markers) (src reports records : List ℕ) 
       (λ j. readResult ws ((ex ∙ ap (λ (n : ℕ). replicate n 0) kx) j) ((ey ∙ ap (λ (n : ℕ). replicate n 0) ky) j) ((ez ∙ ap (λ (n : ℕ). replicate n 0) kz) j) ((ea ∙ ap refusedAnswer f) j))
       ∙ sym (if-ne (header .refusal) 0 _ _ (λ y. z (f ∙ y)))
 
-  pub present-is : (xs ys : List ℕ) (answer : ReadAnswer) → a .refusal ≡ 0 → length reports ≡ 4 * length (blocks (bands ws)) → xs ≡ set (a .words) 3 (layer ws + 1) → ys ≡ set (a .words) 3 (layer ws + 1)
+  pub present-is : (xs ys : List ℕ) (answer : ReadAnswer) → a .refusal ≡ 0 → length reports ≡ reportWidth * length (blocks (bands ws)) → xs ≡ set (a .words) 3 (layer ws + 1) → ys ≡ set (a .words) 3 (layer ws + 1)
       → answer ≡ doneAnswer m src s (a .bio) 1 (a .count) → readResult xs ys (a .reports) (a .records) answer ≡ presentOrBroken ws scratch m src reports records s header
   unfolding presentOrBroken readPresent doneAnswer
   present-is xs ys answer z lent ex ey ea =

@@ -5,7 +5,7 @@ use mathlib.Core.List.{List}
 use Prim.Native.Nat.{ℕ, _*_, _<_}
 use native.Mathlib.Omega.{arith}
 use lib.ListN.{length}
-use Rattle.t800.specs.State.{reader, layer, bands, blocks}
+use Rattle.t800.specs.State.{reader, layer, bands, blocks, notYetIncluded}
 use Rattle.t800.specs.Ranges.{validState}
 use Rattle.tcd_state.proofs.Laws.ValidStates.{valid-state}
 use Rattle.t2_read_segments.specs.Reading.{reading}
@@ -15,6 +15,7 @@ use Rattle.t2_read_present.proofs.Laws.Results.{broken-is, present-is}
 use borrow.Author.Needs.{needs}
 use Rattle.t2_read_present.proofs.read_present.Statement.{statement}
 use Rattle.t2_read_present.proofs.read_present.Tie as tie
+use Rattle.t800.specs.Reports.{reportWidth}
 
 copy-requires : tie.Need-copy-requires
 copy-requires c κs =
@@ -30,8 +31,8 @@ opj-t2-read-packet-header-requires c κs =
     let v = valid-state reader ws (length (s .args .scratch .now)) (s .pre .0) in
     let e = c .before .before .before .before .before .copy .ensures in (
       subst (λ (us : List ℕ). validState reader us (length us) ≡ true) (sym e) (subst (λ (n : ℕ). validState reader ws n ≡ true) (v .scratch-is) (s .pre .0)),
-      subst (λ (us : List ℕ). layer us < 999) (sym e) (s .pre .1),
-      subst (λ (us : List ℕ). length (s .args .reports .now) ≡ 4 * length (blocks (bands us))) (sym e) (s .pre .2),
+      subst (λ (us : List ℕ). layer us < notYetIncluded) (sym e) (s .pre .1),
+      subst (λ (us : List ℕ). length (s .args .reports .now) ≡ reportWidth * length (blocks (bands us))) (sym e) (s .pre .2),
       s .pre .3,
     )
 

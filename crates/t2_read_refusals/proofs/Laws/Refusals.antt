@@ -13,6 +13,7 @@ use Rattle.t800.specs.Ranges.{validState}
 use Rattle.t800.specs.Packet.{readRefusal}
 use Rattle.t800.proofs.Laws.Tests.{not-refused}
 use Rattle.tcd_state.proofs.Laws.ValidStates.{valid-state}
+use Rattle.t800.specs.Reports.{reportWidth}
 
 module _ (ws scratch reports : List ℕ) where
   pub refusal-5 : validState reader ws (length scratch) ≡ false → 5 ≡ readRefusal ws scratch reports
@@ -20,35 +21,35 @@ module _ (ws scratch reports : List ℕ) where
   refusal-5 e = rw e
 
   module _ (valid : validState reader ws (length scratch) ≡ true) where
-    pub refusal-6 : layer ws ≡ 999 → 6 ≡ readRefusal ws scratch reports
+    pub refusal-6 : layer ws ≡ notYetIncluded → 6 ≡ readRefusal ws scratch reports
     unfolding readRefusal
-    refusal-6 e = rw (valid, eq-eqb (layer ws) 999 e)
+    refusal-6 e = rw (valid, eq-eqb (layer ws) notYetIncluded e)
 
-    module _ (more : layer ws ≢ 999) where
-      pub refusal-3 : length reports ≢ 4 * length (blocks (bands ws)) → 3 ≡ readRefusal ws scratch reports
+    module _ (more : layer ws ≢ notYetIncluded) where
+      pub refusal-3 : length reports ≢ reportWidth * length (blocks (bands ws)) → 3 ≡ readRefusal ws scratch reports
       unfolding readRefusal
-      refusal-3 e = rw (valid, ne-eqb (layer ws) 999 more, ne-eqb (length reports) (4 * length (blocks (bands ws))) e)
+      refusal-3 e = rw (valid, ne-eqb (layer ws) notYetIncluded more, ne-eqb (length reports) (reportWidth * length (blocks (bands ws))) e)
 
-      pub no-refusal : length reports ≡ 4 * length (blocks (bands ws)) → 0 ≡ readRefusal ws scratch reports
+      pub no-refusal : length reports ≡ reportWidth * length (blocks (bands ws)) → 0 ≡ readRefusal ws scratch reports
       unfolding readRefusal
-      no-refusal e = rw (valid, ne-eqb (layer ws) 999 more, eq-eqb (length reports) (4 * length (blocks (bands ws))) e)
+      no-refusal e = rw (valid, ne-eqb (layer ws) notYetIncluded more, eq-eqb (length reports) (reportWidth * length (blocks (bands ws))) e)
 
   -- a read that isn't turned away
   pub record Accepted : Type 0 where
     pub valid : validState reader ws (length scratch) ≡ true
-    pub layers : layer ws < 999
-    pub listed : length reports ≡ 4 * length (blocks (bands ws))
+    pub layers : layer ws < notYetIncluded
+    pub listed : length reports ≡ reportWidth * length (blocks (bands ws))
 
   pub accepted : readRefusal ws scratch reports ≡ 0 → Accepted
   unfolding readRefusal
   accepted e =
-      let m : ℕ = 4 * length (blocks (bands ws)) in
+      let m : ℕ = reportWidth * length (blocks (bands ws)) in
       let c₁ = not-refused (not (validState reader ws (length scratch))) 5 _ (omega arith) e in
       let c₂ = not-refused (eqb (layer ws) notYetIncluded) 6 _ (omega arith) (c₁ .1) in
       let c₃ = not-refused (not (eqb (length reports) m)) 3 0 (omega arith) (c₂ .1) in
       let v = not-false (validState reader ws (length scratch)) (c₁ .0) in
       record {
         valid = v;
-        layers = omega (arith, valid-state reader ws (length scratch) v .layer-up-to, eqb-false (layer ws) 999 (c₂ .0));
+        layers = omega (arith, valid-state reader ws (length scratch) v .layer-up-to, eqb-false (layer ws) notYetIncluded (c₂ .0));
         listed = eqb-true (length reports) m (not-false (eqb (length reports) m) (c₃ .0));
       }

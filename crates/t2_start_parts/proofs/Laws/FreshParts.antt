@@ -11,7 +11,7 @@ use Rattle.t800.specs.State.{notYetIncluded, notYetPlanes, blocksIn, bandNodes,
 use Rattle.t800.specs.Start.{freshNodes, freshBlocks, freshBands, bandWords, freshState}
 use Rattle.t800.proofs.Laws.FreshState.{length-nodes, length-blocks, fresh-length}
 use Rattle.tcd_layout.specs.Geometry.{noBand}
-use Rattle.t2_start_planes.proofs.Laws.Runs.{sets-behind, sets-whole, part-length, part-set}
+use Rattle.t2_start_planes.proofs.Laws.Runs.{sets-after, sets-whole, part-length, part-set}
 
 -- ---- the words of bands in front
 
@@ -30,7 +30,7 @@ put-turn ws bs i at b h e =
     let n : 3 - i ≡ suc (3 - (i + 1)) = omega arith in
     let j : suc i ≡ i + 1 = omega arith in
     let c : Band = getD bs i noBand in
-    sets-behind ws at 3 (b .across ∷ b .down ∷ b .planes ∷ []) rest refl
+    sets-after ws at 3 (b .across ∷ b .down ∷ b .planes ∷ []) rest refl
     ∙ ap (λ (d : Band). sets ws at (d .across ∷ d .down ∷ d .planes ∷ rest)) e
     ∙ ap (λ (k : ℕ). sets ws at (c .across ∷ c .down ∷ c .planes ∷ bandWords (drop k bs) (3 - (i + 1)))) (sym j)
     ∙ ap (λ (xs : List ℕ). sets ws at xs) (sym (ap (λ (k : ℕ). bandWords (drop i bs) k) n ∙ words-turn bs i (3 - (i + 1))))
@@ -66,16 +66,16 @@ length-own n k = length-append (freshNodes notYetIncluded n ++ freshNodes notYet
 pub own-set : (ws : List ℕ) (at n k : ℕ) → sets (sets (sets ws at (freshNodes notYetIncluded n)) (at + 3 * n) (freshNodes notYetPlanes n)) (at + 3 * n + 3 * n) (freshBlocks k) ≡ sets ws at (bandOwn n k)
 own-set ws at n k =
     let e : at + 3 * n + 3 * n ≡ at + 6 * n = omega arith in
-    ap (λ (z : List ℕ). sets z (at + 3 * n + 3 * n) (freshBlocks k)) (sets-behind ws at (3 * n) (freshNodes notYetIncluded n) (freshNodes notYetPlanes n) (length-nodes notYetIncluded n))
+    ap (λ (z : List ℕ). sets z (at + 3 * n + 3 * n) (freshBlocks k)) (sets-after ws at (3 * n) (freshNodes notYetIncluded n) (freshNodes notYetPlanes n) (length-nodes notYetIncluded n))
     ∙ ap (λ (j : ℕ). sets (sets ws at (freshNodes notYetIncluded n ++ freshNodes notYetPlanes n)) j (freshBlocks k)) e
-    ∙ sets-behind ws at (6 * n) (freshNodes notYetIncluded n ++ freshNodes notYetPlanes n) (freshBlocks k) (length-trees n)
+    ∙ sets-after ws at (6 * n) (freshNodes notYetIncluded n ++ freshNodes notYetPlanes n) (freshBlocks k) (length-trees n)
 
 -- one band more
 pub own-turn : (ws : List ℕ) (l : List Band) (b : Band) (bs : List Band) (at n k : ℕ) → l ≡ b ∷ bs → n ≡ bandNodes b → k ≡ blocksIn b
     → sets (sets ws at (bandOwn n k)) (at + (6 * n + 4 * k)) (freshBands bs) ≡ sets ws at (freshBands l)
 unfolding freshBands
 own-turn ws l b bs at n k e p q =
-    sets-behind ws at (6 * n + 4 * k) (bandOwn n k) (freshBands bs) (length-own n k)
+    sets-after ws at (6 * n + 4 * k) (bandOwn n k) (freshBands bs) (length-own n k)
     ∙ ap₂ (λ (x y : ℕ). sets ws at (bandOwn x y ++ freshBands bs)) p q ∙ ap (λ (z : List Band). sets ws at (freshBands z)) (sym e)
 
 -- ---- the whole
@@ -93,7 +93,7 @@ unfolding freshState stateLength
 state-set ws r n s bs e h =
     let four : List ℕ = r ∷ n ∷ s ∷ 0 ∷ [] in
     let l : length (four ++ bandWords bs 3) ≡ 13 = omega (arith, nine bs) in
-    ap (λ (z : List ℕ). sets z 13 (freshBands bs)) (sets-behind ws 0 4 four (bandWords bs 3) refl)
-    ∙ sets-behind ws 0 13 (four ++ bandWords bs 3) (freshBands bs) l
+    ap (λ (z : List ℕ). sets z 13 (freshBands bs)) (sets-after ws 0 4 four (bandWords bs 3) refl)
+    ∙ sets-after ws 0 13 (four ++ bandWords bs 3) (freshBands bs) l
     ∙ ap (λ (k : ℕ). sets ws 0 (r ∷ k ∷ s ∷ 0 ∷ bandWords bs 3 ++ freshBands bs)) (sym e)
     ∙ sets-whole ws (freshState r s bs) (fresh-length r s bs ∙ sym h)

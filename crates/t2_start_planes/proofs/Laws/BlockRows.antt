@@ -65,7 +65,7 @@ module _ (at : ℕ) (b : Band) where
       let n : b .across * b .down - y * b .across ≡ 0 = omega (arith, l, mul-comm (b .across) (b .down)) in
       ap (λ (k : ℕ). blocksFrom at b k (y * b .across)) n
 
-  -- the block in row y, column x, and those behind it in the row
+  -- the block in row y, column x, and those after it in the row
   pub columns-turn : (y x : ℕ) → x < b .across
       → blocksFrom at b (b .across - x) (y * b .across + x) ≡ blockOf at b (y * b .across + x) ∷ blocksFrom at b (b .across - (x + 1)) (y * b .across + (x + 1))
   unfolding blocksFrom

@@ -1,4 +1,4 @@
--- Runs of words stored one behind another.
+-- Runs of words stored one after another.
 use mathlib.Core.Path.{_≡_, sym, ap, _∙_}
 use mathlib.Core.List.{List, [], _∷_, _++_, append-assoc, append-nil}
 use Prim.Native.Nat.{ℕ, suc, _+_, _-_, _≤_}
@@ -13,9 +13,9 @@ module _ {ℓ} {A : Type ℓ} where
       let e : suc i + length xs ≡ i + suc (length xs) = omega arith in
       sets-append (set l i x) (suc i) xs ys ∙ ap (λ (k : ℕ). sets (sets (set l i x) (suc i) xs) k ys) e
 
-  -- n words, and others behind them
-  pub sets-behind : (l : List A) (i n : ℕ) (xs ys : List A) → length xs ≡ n → sets (sets l i xs) (i + n) ys ≡ sets l i (xs ++ ys)
-  sets-behind l i n xs ys e = ap (λ (k : ℕ). sets (sets l i xs) (i + k) ys) (sym e) ∙ sym (sets-append l i xs ys)
+  -- n words, and others after them
+  pub sets-after : (l : List A) (i n : ℕ) (xs ys : List A) → length xs ≡ n → sets (sets l i xs) (i + n) ys ≡ sets l i (xs ++ ys)
+  sets-after l i n xs ys e = ap (λ (k : ℕ). sets (sets l i xs) (i + k) ys) (sym e) ∙ sym (sets-append l i xs ys)
 
   -- over the whole list
   pub sets-whole : (l xs : List A) → length xs ≡ length l → sets l 0 xs ≡ xs

@@ -37,13 +37,13 @@ module _ (f : ℕ → Bool) where
   none-before (suc n) [] e = refl
   none-before (suc n) (x ∷ xs) e = rw (or-left (f x) (any f xs) e) (none-before n xs (or-right (f x) (any f xs) e))
 
-  pub none-behind : (n : ℕ) (l : List ℕ) → any f l ≡ false → any f (drop n l) ≡ false
+  pub none-after : (n : ℕ) (l : List ℕ) → any f l ≡ false → any f (drop n l) ≡ false
   unfolding any
-  none-behind zero l e = e
-  none-behind (suc n) [] e = refl
-  none-behind (suc n) (x ∷ xs) e = none-behind n xs (or-right (f x) (any f xs) e)
+  none-after zero l e = e
+  none-after (suc n) [] e = refl
+  none-after (suc n) (x ∷ xs) e = none-after n xs (or-right (f x) (any f xs) e)
 
--- no block of the next band is too deep, and none behind it
+-- no block of the next band is too deep, and none after it
 pub shallow-turn : (l : List Band) (b : Band) (bs : List Band) (ps : List ℕ) (from to : ℕ) → l ≡ b ∷ bs → to ≡ from + blocksIn b → deepFrom l (drop from ps) ≡ false
     → (any (λ p. ltb (b .planes) p) (take (to - from) (drop from ps)) ≡ false) × (deepFrom bs (drop to ps) ≡ false)
 unfolding deepFrom
@@ -56,7 +56,7 @@ shallow-turn l b bs ps from to e q h =
       ap (λ (k : ℕ). deepFrom bs (drop k ps)) q ∙ ap (deepFrom bs) (sym (drop-drop (blocksIn b) from ps)) ∙ or-right here rest f,
     )
 
--- ---- some blocks, and others behind them
+-- ---- some blocks, and others after them
 
 set-append : (ks js : List Block) (ps ws : List ℕ) → setZeroPlanes (ks ++ js) ps ws ≡ setZeroPlanes js (drop (length ks) ps) (setZeroPlanes ks ps ws)
 unfolding setZeroPlanes

@@ -14,7 +14,7 @@ use Rattle.tgt.proofs.Laws.Path.{small-levels}
 use Rattle.t2_start_planes.specs.Rows.{setRow}
 use Rattle.t2_start_planes.proofs.Laws.Runs.{part-length}
 use Rattle.t2_start_planes.proofs.Laws.BlockRows.{rows-first, rows-end, tree-of-band, row-inside, row-in}
-use Rattle.t2_start_planes.proofs.Laws.ZeroPlanes.{none-before, none-behind, row-turn}
+use Rattle.t2_start_planes.proofs.Laws.ZeroPlanes.{none-before, none-after, row-turn}
 use Rattle.t2_start_planes.proofs.set_rows.Statement.{statement}
 use Rattle.t2_start_planes.proofs.set_rows.Tie as tie
 
@@ -81,7 +81,7 @@ set-row-requires c κs =
     let to : ℕ = l .from + b .across in
     let n : length (take (to - l .from) (drop (l .from) (s .args .planes .now))) ≡ to - l .from = part-length (s .args .planes .now) (l .from) to (omega arith) (omega (arith, e, s .pre .5)) in (
       row-in (s .args .at) b (s .args .tree) (s .args .depth) t (l .y) k (c .before .before .before .opj-tgt-row .last .1 .1 .1 .0) (c .before .before .before .opj-tgt-row .ensures) _ _ _ (ap (λ (m : ℕ). s .args .at + 3 * m) (s .pre .1)) (omega (arith, s .pre .4, l .inv .2)) (omega (arith, n)),
-      none-before (λ p. ltb (b .planes) p) (to - l .from) (drop (l .from) (s .args .planes .now)) (none-behind (λ p. ltb (b .planes) p) (l .from) (s .args .planes .now) (s .pre .6)),
+      none-before (λ p. ltb (b .planes) p) (to - l .from) (drop (l .from) (s .args .planes .now)) (none-after (λ p. ltb (b .planes) p) (l .from) (s .args .planes .now) (s .pre .6)),
     )
 
 add-y : tie.Need-add-y Inv-loop μ-loop

@@ -24,8 +24,8 @@ module _ (from to c : ℕ) (e : to ≡ from + c) where
   pub part-is : (l : List ℕ) → take (to - from) (drop from l) ≡ take c (drop from l)
   part-is l = let k : to - from ≡ c = omega arith in ap (λ (z : ℕ). take z (drop from l)) k
 
-  pub behind-is : (l : List ℕ) → drop c (drop from l) ≡ drop to l
-  behind-is l = drop-drop c from l ∙ ap (λ (z : ℕ). drop z l) (sym e)
+  pub after-is : (l : List ℕ) → drop c (drop from l) ≡ drop to l
+  after-is l = drop-drop c from l ∙ ap (λ (z : ℕ). drop z l) (sym e)
 
 -- ---- segments too long
 
@@ -40,7 +40,7 @@ module _ (cs ls ms : List ℕ) where
       ∙ ap₂ (λ (x y : List ℕ). anyTooLong (segmentsOf x y) || segmentTooLong (drop (i + 1) cs) (drop c (drop from ls)) (drop c (drop from ms)))
       (sym (part-is from to c e ls)) (sym (part-is from to c e ms))
       ∙ ap (λ (x : Bool). x || segmentTooLong (drop (i + 1) cs) (drop c (drop from ls)) (drop c (drop from ms))) (sym a)
-      ∙ ap₂ (λ (x y : List ℕ). t || segmentTooLong (drop (i + 1) cs) x y) (behind-is from to c e ls) (behind-is from to c e ms)
+      ∙ ap₂ (λ (x y : List ℕ). t || segmentTooLong (drop (i + 1) cs) x y) (after-is from to c e ls) (after-is from to c e ms)
 
   pub none-long-here : (i from to : ℕ) → i < length cs → to ≡ from + getD cs i 0 → segmentTooLong (drop i cs) (drop from ls) (drop from ms) ≡ false
       → (anyTooLong (segmentsOf (take (to - from) (drop from ls)) (take (to - from) (drop from ms))) ≡ false) × (segmentTooLong (drop (i + 1) cs) (drop to ls) (drop to ms) ≡ false)
@@ -54,14 +54,14 @@ module _ (cs ls ms : List ℕ) where
   unfolding segmentTooLong
   long-end i from h = rw (drop-of-length-le cs {i = i} h)
 
--- where none is too long, none is behind the first n blocks
-pub none-long-behind : (n : ℕ) (cs ls ms : List ℕ) → segmentTooLong cs ls ms ≡ false → segmentTooLong (drop n cs) (drop (sum (take n cs)) ls) (drop (sum (take n cs)) ms) ≡ false
+-- where none is too long, none is after the first n blocks
+pub none-long-after : (n : ℕ) (cs ls ms : List ℕ) → segmentTooLong cs ls ms ≡ false → segmentTooLong (drop n cs) (drop (sum (take n cs)) ls) (drop (sum (take n cs)) ms) ≡ false
 unfolding segmentTooLong sum
-none-long-behind zero cs ls ms h = h
-none-long-behind (suc n) [] ls ms h = refl
-none-long-behind (suc n) (c ∷ cs) ls ms h =
+none-long-after zero cs ls ms h = h
+none-long-after (suc n) [] ls ms h = refl
+none-long-after (suc n) (c ∷ cs) ls ms h =
     ap₂ (λ (x y : List ℕ). segmentTooLong (drop n cs) x y) (sym (drop-drop (sum (take n cs)) c ls)) (sym (drop-drop (sum (take n cs)) c ms))
-    ∙ none-long-behind n cs (drop c ls) (drop c ms) (or-right (anyTooLong (segmentsOf (take c ls) (take c ms))) (segmentTooLong cs (drop c ls) (drop c ms)) h)
+    ∙ none-long-after n cs (drop c ls) (drop c ms) (or-right (anyTooLong (segmentsOf (take c ls) (take c ms))) (segmentTooLong cs (drop c ls) (drop c ms)) h)
 
 -- ---- fields too wide, block by block
 
@@ -78,7 +78,7 @@ module _ (ws cs ls ms : List ℕ) where
       ∙ ap₂ (λ (x y : List ℕ). blockTooWide (bitsBefore (getD ws at 0) (getD ws (at + 1) 0)) (segmentsOf x y) || wideFrom ws (at + 4) m (drop (i + 1) cs) (drop c (drop from ls)) (drop c (drop from ms)))
       (sym (part-is from to c e ls)) (sym (part-is from to c e ms))
       ∙ ap (λ (x : Bool). x || wideFrom ws (at + 4) m (drop (i + 1) cs) (drop c (drop from ls)) (drop c (drop from ms))) (sym a)
-      ∙ ap₂ (λ (x y : List ℕ). t || wideFrom ws (at + 4) m (drop (i + 1) cs) x y) (behind-is from to c e ls) (behind-is from to c e ms)
+      ∙ ap₂ (λ (x y : List ℕ). t || wideFrom ws (at + 4) m (drop (i + 1) cs) x y) (after-is from to c e ls) (after-is from to c e ms)
 
   pub wide-end : (n i at from : ℕ) → n ≤ i → wideFrom ws at (n - i) (drop i cs) (drop from ls) (drop from ms) ≡ false
   unfolding wideFrom
@@ -108,7 +108,7 @@ unfolding fieldTooWide
 no-counts-left ws [] ls ms = refl
 no-counts-left ws (k ∷ ks) ls ms = refl
 
--- the blocks js and those behind them
+-- the blocks js and those after them
 wide-splits : (ws : List ℕ) (js ks : List Block) (cs ls ms : List ℕ)
     → fieldTooWide ws (js ++ ks) cs ls ms ≡ (fieldTooWide ws js cs ls ms || fieldTooWide ws ks (drop (length js) cs) (drop (sum (take (length js) cs)) ls) (drop (sum (take (length js) cs)) ms))
 unfolding fieldTooWide lengthBitsBefore isNew sum
@@ -141,21 +141,21 @@ module _ (cs ls ms : List ℕ) (b : Band) (first next from p : ℕ) (size : next
       ∙ ap (λ (n : ℕ). fieldTooWide ws js rest (drop from ls) (drop from ms) || fieldTooWide ws ks (drop n rest) (drop (sum (take n rest)) (drop from ls)) (drop (sum (take n rest)) (drop from ms))) (length-from at b (blocksIn b) 0)
       ∙ ap (λ (n : ℕ). fieldTooWide ws js rest (drop from ls) (drop from ms) || fieldTooWide ws ks (drop (blocksIn b) rest) (drop n (drop from ls)) (drop n (drop from ms))) (sym passes)
       ∙ ap₂ (λ (x y : List ℕ). fieldTooWide ws js rest (drop from ls) (drop from ms) || fieldTooWide ws ks (drop (blocksIn b) rest) x y) (drop-drop p from ls) (drop-drop p from ms)
-      ∙ ap₂ (λ (x : Bool) (y : List ℕ). x || fieldTooWide ws ks y (drop (from + p) ls) (drop (from + p) ms)) (sym a) (behind-is first next (blocksIn b) size cs)
+      ∙ ap₂ (λ (x : Bool) (y : List ℕ). x || fieldTooWide ws ks y (drop (from + p) ls) (drop (from + p) ms)) (sym a) (after-is first next (blocksIn b) size cs)
 
-  pub passes-behind-band : from + sum (drop first cs) ≡ sum cs → from + p + sum (drop next cs) ≡ sum cs
-  passes-behind-band h =
-      let k : sum (drop (blocksIn b) (drop first cs)) ≡ sum (drop next cs) = ap sum (behind-is first next (blocksIn b) size cs) in
+  pub passes-after-band : from + sum (drop first cs) ≡ sum cs → from + p + sum (drop next cs) ≡ sum cs
+  passes-after-band h =
+      let k : sum (drop (blocksIn b) (drop first cs)) ≡ sum (drop next cs) = ap sum (after-is first next (blocksIn b) size cs) in
       omega (arith, sum-splits (blocksIn b) (drop first cs), passes)
 
-  pub none-long-behind-band : segmentTooLong (drop first cs) (drop from ls) (drop from ms) ≡ false → segmentTooLong (drop next cs) (drop (from + p) ls) (drop (from + p) ms) ≡ false
-  none-long-behind-band h =
+  pub none-long-after-band : segmentTooLong (drop first cs) (drop from ls) (drop from ms) ≡ false → segmentTooLong (drop next cs) (drop (from + p) ls) (drop (from + p) ms) ≡ false
+  none-long-after-band h =
       let rest : List ℕ = drop first cs in
       let n : ℕ = blocksIn b in
-      sym (ap (λ (z : List ℕ). segmentTooLong z (drop (from + p) ls) (drop (from + p) ms)) (behind-is first next n size cs))
+      sym (ap (λ (z : List ℕ). segmentTooLong z (drop (from + p) ls) (drop (from + p) ms)) (after-is first next n size cs))
       ∙ sym (ap₂ (λ (x y : List ℕ). segmentTooLong (drop n rest) x y) (drop-drop p from ls) (drop-drop p from ms))
       ∙ ap (λ (z : ℕ). segmentTooLong (drop n rest) (drop z (drop from ls)) (drop z (drop from ms))) passes
-      ∙ none-long-behind n rest (drop from ls) (drop from ms) h
+      ∙ none-long-after n rest (drop from ls) (drop from ms) h
 
 pub no-band-left : (ws : List ℕ) (at : ℕ) (cs ls ms : List ℕ) → fieldTooWide ws (blocksAt at []) cs ls ms ≡ false
 unfolding blocksAt fieldTooWide

@@ -20,8 +20,8 @@ part-lists ls ms from to c e h l k =
     (omega arith, omega arith)
 
 -- the passes that are left
-pub passes-left-behind : (cs ls ms : List ℕ) (first from : ℕ) → from + sum (drop first cs) ≡ sum cs → PassesLeft cs ls ms → PassesLeft (drop first cs) (drop from ls) (drop from ms)
-passes-left-behind cs ls ms first from e h =
+pub passes-left-after : (cs ls ms : List ℕ) (first from : ℕ) → from + sum (drop first cs) ≡ sum cs → PassesLeft cs ls ms → PassesLeft (drop first cs) (drop from ls) (drop from ms)
+passes-left-after cs ls ms first from e h =
     let d : length (drop from ls) ≡ length ls - from = length-drop from ls in
     let f : length (drop from ms) ≡ length ms - from = length-drop from ms in
     (omega (arith, h .0), omega (arith, h .1))

@@ -58,8 +58,8 @@ up-to a f = omega arith
 within : (a b : ℕ) → a + 4 ≤ b → (a < b) × (a ≤ b) × (a + 1 < b) × (a + 1 ≤ b)
 within a b h = (omega arith, omega arith, omega arith, omega arith)
 
-behind : (a b : ℕ) → a ≤ a + b
-behind a b = omega arith
+after : (a b : ℕ) → a ≤ a + b
+after a b = omega arith
 
 part-from : (a b c : ℕ) → a + b ≤ c → a ≤ c
 part-from a b c h = omega arith
@@ -154,13 +154,13 @@ sub-block-too-wide : tie.Need-sub-block-too-wide Inv-loop μ-loop
 sub-block-too-wide c =
     let s = c .before .before .before .before .before .before .before .before .before in
     let l = c .before .before .before .before .loop in
-    behind (l .from) (getD (s .args .counts .now) (l .i) 0)
+    after (l .from) (getD (s .args .counts .now) (l .i) 0)
 
 part-block-too-wide-start : tie.Need-part-block-too-wide-start Inv-loop μ-loop
 part-block-too-wide-start c =
     let s = c .before .before .before .before .before .before .before .before .before in
     let l = c .before .before .before .before .loop in
-    behind (l .from) (getD (s .args .counts .now) (l .i) 0)
+    after (l .from) (getD (s .args .counts .now) (l .i) 0)
 
 part-block-too-wide-end : tie.Need-part-block-too-wide-end Inv-loop μ-loop
 part-block-too-wide-end c =
@@ -172,13 +172,13 @@ sub-block-too-wide-2 : tie.Need-sub-block-too-wide-2 Inv-loop μ-loop
 sub-block-too-wide-2 c =
     let s = c .before .before .before .before .before .before .before .before .before .before in
     let l = c .before .before .before .before .before .loop in
-    behind (l .from) (getD (s .args .counts .now) (l .i) 0)
+    after (l .from) (getD (s .args .counts .now) (l .i) 0)
 
 part-block-too-wide-start-2 : tie.Need-part-block-too-wide-start-2 Inv-loop μ-loop
 part-block-too-wide-start-2 c =
     let s = c .before .before .before .before .before .before .before .before .before .before in
     let l = c .before .before .before .before .before .loop in
-    behind (l .from) (getD (s .args .counts .now) (l .i) 0)
+    after (l .from) (getD (s .args .counts .now) (l .i) 0)
 
 part-block-too-wide-end-2 : tie.Need-part-block-too-wide-end-2 Inv-loop μ-loop
 part-block-too-wide-end-2 c =

@@ -18,8 +18,8 @@ use Rattle.tcd_layout.specs.Geometry.{noBand}
 use Rattle.tcd_layout.proofs.Laws.Bands.{next-band, sides-of-first, blocks-turn, end-turn, length-blocks, blocks-up-to-12288}
 use Rattle.t2_widths.specs.Widths.{PassesLeft}
 use Rattle.t2_narrow.proofs.Laws.Sums.{sum-splits}
-use Rattle.t2_widths.proofs.Laws.Lists.{passes-left-behind, of-rests, on-rests, part-length}
-use Rattle.t2_widths.proofs.Laws.BlocksLeft.{band-wide-turn, passes-behind-band, none-long-behind-band, passes-here, no-band-left}
+use Rattle.t2_widths.proofs.Laws.Lists.{passes-left-after, of-rests, on-rests, part-length}
+use Rattle.t2_widths.proofs.Laws.BlocksLeft.{band-wide-turn, passes-after-band, none-long-after-band, passes-here, no-band-left}
 use Rattle.t2_widths.proofs.field_too_wide.Statement.{statement}
 use Rattle.t2_widths.proofs.field_too_wide.Tie as tie
 
@@ -68,8 +68,8 @@ band-index-fits i n h k = omega arith
 third : (i n : ℕ) → i < n → n ≤ 3 → i < 3
 third i n h k = omega arith
 
-behind : (a b : ℕ) → a ≤ a + b
-behind a b = omega arith
+after : (a b : ℕ) → a ≤ a + b
+after a b = omega arith
 
 part-from : (a b c : ℕ) → a + b ≤ c → a ≤ c
 part-from a b c h = omega arith
@@ -77,8 +77,8 @@ part-from a b c h = omega arith
 with-length : (a r m b : ℕ) → r ≡ m → a + m ≤ b → a + r ≤ b
 with-length a r m b e h = omega arith
 
-room-behind : (cs : List ℕ) (first m : ℕ) → first + m ≤ length cs → m ≤ length (drop first cs)
-room-behind cs first m h = omega (arith, length-drop first cs)
+room-after : (cs : List ℕ) (first m : ℕ) → first + m ≤ length cs → m ≤ length (drop first cs)
+room-after cs first m h = omega (arith, length-drop first cs)
 
 up-to-12288 : (m k : ℕ) → m ≡ k → k ≤ 12288 → m ≤ 4294967296
 up-to-12288 m k e h = omega arith
@@ -191,7 +191,7 @@ band-too-wide-requires c κs =
     let l = c .before .before .before .before .before .loop in
     let b : Band = getD (s .args .t2) (l .i) noBand in
     let h = here (c .before .before .before .before) in
-    let r = of-rests (λ (x y z : List ℕ). (blocksIn b ≤ length x) × PassesLeft x y z × (segmentTooLong x y z ≡ false)) (s .args .counts .now) (s .args .lengths .now) (s .args .marks .now) (l .first) (l .from) (room-behind (s .args .counts .now) (l .first) (blocksIn b) (h .0), passes-left-behind (s .args .counts .now) (s .args .lengths .now) (s .args .marks .now) (l .first) (l .from) (l .inv .3) (s .pre .4), l .inv .4) in (
+    let r = of-rests (λ (x y z : List ℕ). (blocksIn b ≤ length x) × PassesLeft x y z × (segmentTooLong x y z ≡ false)) (s .args .counts .now) (s .args .lengths .now) (s .args .marks .now) (l .first) (l .from) (room-after (s .args .counts .now) (l .first) (blocksIn b) (h .0), passes-left-after (s .args .counts .now) (s .args .lengths .now) (s .args .marks .now) (l .first) (l .from) (l .inv .3) (s .pre .4), l .inv .4) in (
       sides-of-first (s .args .t2) (s .args .n) (l .i) (all-three s) (c .before .before .before .before .loop-test .taken) (s .pre .1),
       h .1,
       r .0,
@@ -222,13 +222,13 @@ sub-total : tie.Need-sub-total Inv-loop μ-loop
 sub-total c =
     let s = c .before .before .before .before .before .before .before .before .before .before .before .before .before in
     let l = c .before .before .before .before .before .before .before .before .loop in
-    behind (l .first) (c .band-blocks .result)
+    after (l .first) (c .band-blocks .result)
 
 part-total-start : tie.Need-part-total-start Inv-loop μ-loop
 part-total-start c =
     let s = c .before .before .before .before .before .before .before .before .before .before .before .before .before in
     let l = c .before .before .before .before .before .before .before .before .loop in
-    behind (l .first) (c .band-blocks .result)
+    after (l .first) (c .band-blocks .result)
 
 part-total-end : tie.Need-part-total-end Inv-loop μ-loop
 part-total-end c =
@@ -288,8 +288,8 @@ loop-again c =
       next (l .i) (s .args .n) (c .before .before .before .before .before .before .before .before .before .before .loop-test .taken),
       ap (λ (w : ℕ). endOf (l .at + w) rest) (c .band-length .ensures) ∙ end-turn (s .args .t2) (s .args .n) (l .i) (l .at) (all-three s) (c .before .before .before .before .before .before .before .before .before .before .loop-test .taken) ∙ l .inv .1,
       blocks-left (l .first) _ _ _ _ _ (c .before .before .before .band-blocks .ensures) q (l .inv .2),
-      passes-behind-band (s .args .counts .now) (s .args .lengths .now) (s .args .marks .now) b (l .first) _ (l .from) _ size p (l .inv .3),
-      none-long-behind-band (s .args .counts .now) (s .args .lengths .now) (s .args .marks .now) b (l .first) _ (l .from) _ size p (l .inv .4),
+      passes-after-band (s .args .counts .now) (s .args .lengths .now) (s .args .marks .now) b (l .first) _ (l .from) _ size p (l .inv .3),
+      none-long-after-band (s .args .counts .now) (s .args .lengths .now) (s .args .marks .now) b (l .first) _ (l .from) _ size p (l .inv .4),
       ap (λ (w : ℕ). fieldTooWide (s .args .state .now) (blocksAt (l .at + w) rest) (drop (l .first + c .before .before .before .band-blocks .result) (s .args .counts .now)) ls ms) (c .band-length .ensures) ∙ sym (band-wide-turn (s .args .counts .now) (s .args .lengths .now) (s .args .marks .now) b (l .first) _ (l .from) _ size p (s .args .state .now) (l .at) _ _ false (next-band (s .args .t2) (s .args .n) (l .i) (all-three s) (c .before .before .before .before .before .before .before .before .before .before .loop-test .taken)) (sym (c .before .before .before .before .if1 .left) ∙ c .before .before .before .before .before .band-too-wide .ensures ∙ on-rests (λ (x y z : List ℕ). fieldTooWide (s .args .state .now) (blocksFrom (l .at) b (blocksIn b) 0) x y z) (s .args .counts .now) (s .args .lengths .now) (s .args .marks .now) (l .first) (l .from))) ∙ l .inv .5,
     )
 

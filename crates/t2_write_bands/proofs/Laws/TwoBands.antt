@@ -15,7 +15,7 @@ use Rattle.t800.specs.State.{Block, notYetPlanes}
 use Rattle.t800.specs.TagTree.{Coded, codePath, setValue, lowAfter, nodeBits, knownAfter}
 use Rattle.t800.specs.WriteHeader.{isNew, lengthBitsBefore, codeInclusion, codeZeroPlanes, codePasses, codeBlock}
 use Rattle.t800.proofs.Laws.Tests.{either}
-use Rattle.t2_write_block.specs.Runs.{Running, behindCoded, codeNext, codeAll, setNext, setAll}
+use Rattle.t2_write_block.specs.Runs.{Running, afterCoded, codeNext, codeAll, setNext, setAll}
 use Rattle.t2_write_new_blocks.specs.Bands.{newSet}
 use Rattle.tcd_places.proofs.Laws.Before.{AllBlocks, Before, BlockBefore}
 
@@ -188,7 +188,7 @@ block-then-set q t c i k segments cs js ws h b a =
 next-then-set : (q t i : ℕ) (cs ls ms : List ℕ) (k : Block) (js : List Block) (s : Running) → q ≤ length (s .words) → BlockBefore q k → AllBlocks (BlockAfter q) js
     → codeNext t cs ls ms k (newSet t cs js i s) ≡ newSet t cs js i (codeNext t cs ls ms k s)
 unfolding codeNext
-next-then-set q t i cs ls ms k js s h b a = ap (behindCoded s (getD cs (s .block) 0)) (block-then-set q t _ i k _ cs js (s .words) h b a)
+next-then-set q t i cs ls ms k js s h b a = ap (afterCoded s (getD cs (s .block) 0)) (block-then-set q t _ i k _ cs js (s .words) h b a)
 
 pub next-length : (t : ℕ) (cs ls ms : List ℕ) (k : Block) (s : Running) → length (codeNext t cs ls ms k s .words) ≡ length (s .words)
 unfolding codeNext

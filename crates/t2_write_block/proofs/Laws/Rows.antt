@@ -19,15 +19,15 @@ use Rattle.tcd_places.proofs.Laws.Rows.{row-from, row-turn, before-next}
 
 -- ---- the next block
 
-abbrev behind : Running → ℕ → LeafCoded → Running
-behind s c x = record { words = x .words; output = x .output; block = s .block + 1; pass = s .pass + c }
+abbrev after : Running → ℕ → LeafCoded → Running
+after s c x = record { words = x .words; output = x .output; block = s .block + 1; pass = s .pass + c }
 
 pub next-is : (t d : ℕ) (cs ls ms : List ℕ) (k : Block) (s : Running) (x : LeafCoded) → d ≡ getD cs (s .block) 0
     → x ≡ putCoded (s .output) (codeBlock t k (getD cs (s .block) 0) (segmentsOf (take d (drop (s .pass) ls)) (take d (drop (s .pass) ms))) (s .words))
-    → behind s (getD cs (s .block) 0) x ≡ codeNext t cs ls ms k s
+    → after s (getD cs (s .block) 0) x ≡ codeNext t cs ls ms k s
 unfolding codeNext
 next-is t d cs ls ms k s x h e =
-    ap (behind s (getD cs (s .block) 0)) (e ∙ ap (λ (n : ℕ). putCoded (s .output) (codeBlock t k (getD cs (s .block) 0) (segmentsOf (take n (drop (s .pass) ls)) (take n (drop (s .pass) ms))) (s .words))) h)
+    ap (after s (getD cs (s .block) 0)) (e ∙ ap (λ (n : ℕ). putCoded (s .output) (codeBlock t k (getD cs (s .block) 0) (segmentsOf (take n (drop (s .pass) ls)) (take n (drop (s .pass) ms))) (s .words))) h)
 
 pub next-clear : (t : ℕ) (cs ls ms : List ℕ) (k : Block) (s : Running) → FreeBitsClear (s .output .bio) → FreeBitsClear (codeNext t cs ls ms k s .output .bio)
 unfolding codeNext
@@ -37,7 +37,7 @@ pub next-keeps : (q t : ℕ) (cs ls ms : List ℕ) (k : Block) (s : Running) →
 unfolding codeNext
 next-keeps q t cs ls ms k s h = block-keeps q t _ k _ (s .words) h
 
--- ---- those behind it can still be coded
+-- ---- those after it can still be coded
 
 pub all-still-fit : (q : ℕ) (cs ls ms ws vs : List ℕ) (ks : List Block) (block pass : ℕ) → drop q ws ≡ drop q vs → AllBlocks (From q) ks → AllFit cs ls ms vs ks block pass → AllFit cs ls ms ws ks block pass
 all-still-fit q cs ls ms ws vs [] block pass e a f = tt

@@ -5,7 +5,7 @@ use mathlib.Core.Bool.{false, true}
 use mathlib.Core.Path.{_∙_, ap, refl, sym}
 use native.Mathlib.Omega.{arith}
 use Rattle.t800.specs.Ranges.{badStyle, bandTooDeep}
-use Rattle.t800.specs.State.{layer}
+use Rattle.t800.specs.State.{layer, notYetIncluded}
 use Rattle.tcd_first_words.proofs.Laws.FirstWords.{first-bands, first-words-parts, shape-known, unused-zero}
 use Rattle.tcd_first_words.proofs.first_words_in_range.Statement.{statement}
 use Rattle.tcd_first_words.proofs.first_words_in_range.Tie as tie
@@ -30,7 +30,7 @@ returns-3 c =
     let s = shaped .before .before .args in
     let shape = sym (not-false _ (styled .before .before .if1 .left)) ∙ shaped .shape-in-range .ensures in
     let style′ = sym (layered .before .if2 .left) ∙ styled .is-refused .ensures ∙ ap badStyle (styled .before .word .ensures) in
-    let layer′ = sym (lt-leb (layer (s .state .now)) 999 (omega (arith, layered .word2 .ensures))) in
+    let layer′ = sym (lt-leb (layer (s .state .now)) notYetIncluded (omega (arith, layered .word2 .ensures))) in
     first-words-parts (s .role) (s .state .now) true false false _ _ shape style′ layer′ refl refl
 
 band-too-deep-requires : tie.Need-band-too-deep-requires
@@ -49,7 +49,7 @@ returns-4 c =
     let ws = s .args .state .now in
     let shape = sym (not-false _ (styled .before .before .if1 .left)) ∙ shaped .shape-in-range .ensures in
     let style′ = sym (layered .before .if2 .left) ∙ styled .is-refused .ensures ∙ ap badStyle (styled .before .word .ensures) in
-    let layer′ = sym (le-leb (layer ws) 999 (omega (arith, layered .word2 .ensures))) in
+    let layer′ = sym (le-leb (layer ws) notYetIncluded (omega (arith, layered .word2 .ensures))) in
     let depth = sym (c .if4 .taken) ∙ deep .band-too-deep .ensures ∙ ap bandTooDeep (first-bands ws _ _ (deep .before .word3 .ensures) (s .pre)) in
     first-words-parts (s .args .role) ws true false true true _ shape style′ layer′ depth refl
 
@@ -63,7 +63,7 @@ returns-5 c =
     let ws = s .args .state .now in
     let shape = sym (not-false _ (styled .before .before .if1 .left)) ∙ shaped .shape-in-range .ensures in
     let style′ = sym (layered .before .if2 .left) ∙ styled .is-refused .ensures ∙ ap badStyle (styled .before .word .ensures) in
-    let layer′ = sym (le-leb (layer ws) 999 (omega (arith, layered .word2 .ensures))) in
+    let layer′ = sym (le-leb (layer ws) notYetIncluded (omega (arith, layered .word2 .ensures))) in
     let depth = sym (c .before .if4 .left) ∙ deep .band-too-deep .ensures ∙ ap bandTooDeep (first-bands ws _ _ (deep .before .word3 .ensures) (s .pre)) in
     first-words-parts (s .args .role) ws true false true false _ shape style′ layer′ depth (c .unused-bands-zero .ensures ∙ unused-zero ws _ (deep .before .word3 .ensures))
 
