@@ -399,6 +399,11 @@ slip-rows =
     (loads-writer (words 1 0 0 (node 0 0 1) (node 0 0 1) (block 0 0 0 0)) ∷ puts 23 (1 ∷ []) (5 ∷ []) (0 ∷ []) (0x94 ∷ [])
     ∷ loads-reader (words 2 0 0 (node 0 0 1) (node 0 0 1) (block 0 0 0 0)) ∷ get 23 1 (0x94 ∷ []) (told 1 1 1) (1 ∷ 0 ∷ 5 ∷ 1 ∷ []) (0 ∷ 1 ∷ 1 ∷ 5 ∷ [])
     ∷ [])
+    -- zero planes read with one threshold for all: of a root that isn't known, over a leaf that is, one bit is read and not four
+    ∷ precinct 2 0 (5 ∷ 5 ∷ [])
+    (loads-reader (2 ∷ 1 ∷ 0 ∷ 0 ∷ 2 ∷ 1 ∷ 5 ∷ copies 6 0 ++ node 999 0 0 ++ node 999 0 0 ++ node 999 0 0 ++ node 0 0 0 ++ node 999 0 0 ++ node 999 0 0 ++ copies 8 0)
+    ∷ get 39 2 (0xe2 ∷ 0x80 ∷ []) (told 1 2 1) (1 ∷ 0 ∷ 5 ∷ 1 ∷ 0 ∷ 0 ∷ 0 ∷ 0 ∷ []) (0 ∷ 1 ∷ 1 ∷ 5 ∷ [])
+    ∷ [])
     -- a precinct without blocks
     ∷ record { given = band 0 0 5 ∷ []; planes = []; style = 0; steps = puts 13 [] [] [] (0x80 ∷ []) ∷ get 13 0 (0x80 ∷ []) (told 1 1 0) [] [] ∷ [] }
     ∷ []
