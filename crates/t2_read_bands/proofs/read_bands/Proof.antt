@@ -2,6 +2,8 @@
 use mathlib.Core.Path.{_≡_, refl, sym, ap, _∙_, subst}
 use mathlib.Core.List.{List, []}
 use Prim.Native.Nat.{ℕ, _+_, _-_, _*_, _^_, _<_, _≤_}
+use mir.Syntax.{w64}
+use mir.Val.{Fits}
 use native.Mathlib.Omega.{arith}
 use lib.ListN.{length, getD, take, drop}
 use Rattle.t800.specs.declared.Band.{Band}
@@ -36,6 +38,45 @@ Inv-loop words₀ reports₀ records₀ src n layer bands trees run₀ start₀ 
 abbrev μ-loop : tie.MeasureT-loop
 μ-loop words₀ reports₀ records₀ src n layer bands trees run₀ start₀ block₀ i₀ words reports records run start block i = n - i
 
+-- What a need asks is proved of variables, or once where it first holds: `omega` and `search` at a need read all that its `c` holds, up to half a
+-- second each time.
+
+all-three : (s : tie.Start Inv-loop μ-loop) → s .args .n ≤ length (s .args .t6)
+all-three s = let g : length (s .args .t6) ≡ 3 = search needs in omega (arith, s .pre .2)
+
+room : (s : tie.Start Inv-loop μ-loop) → length (s .args .words .now) * 4 < 2 ^ 64
+room s = search needs
+
+band-there : (i n k : ℕ) → i < n → n ≤ k → i < k
+band-there i n k h m = omega arith
+
+band-ends : (end after all size words : ℕ) → end ≤ after → after ≡ all → all ≤ size → words ≡ size → end ≤ words
+band-ends end after all size words a e h k = omega arith
+
+starts-below : (start end size : ℕ) → start ≤ end → end ≤ size → size * 4 < 2 ^ 64 → start < 2 ^ 63
+starts-below start end size a h k = omega arith
+
+blocks-before : (block i n : ℕ) → block ≤ 4096 * i → i < n → n ≤ 3 → block ≤ 12288
+blocks-before block i n h k m = omega arith
+
+blocks-fit : (block i n r m : ℕ) → r ≡ m → m ≤ 4096 → block ≤ 4096 * i → i < n → n ≤ 3 → Fits w64 (block + r)
+blocks-fit block i n r m e f h k l = omega arith
+
+blocks-then : (block i r m : ℕ) → r ≡ m → m ≤ 4096 → block ≤ 4096 * i → block + r ≤ 4096 * (i + 1)
+blocks-then block i r m e f h = omega arith
+
+ends-then : (a b c : ℕ) → a ≡ b → b ≤ c → a ≤ c
+ends-then a b c e h = omega arith
+
+counted : (i n : ℕ) → i < n → n ≤ 3 → Fits w64 (i + 1)
+counted i n h k = omega arith
+
+next : (i n : ℕ) → i < n → i + 1 ≤ n
+next i n h = omega arith
+
+fewer : (i n : ℕ) → i < n → n - (i + 1) < n - i
+fewer i n h = omega arith
+
 loop-holds : tie.Need-loop-holds Inv-loop μ-loop
 unfolding blocks
 loop-holds c =
@@ -58,9 +99,8 @@ grid-of-requires : tie.Need-grid-of-requires Inv-loop μ-loop
 grid-of-requires c κs =
     let s = c .before .before .before .before .before .before .before .before .before in
     let l = c .before .before .before .loop in
-    let g : length (s .args .t6) ≡ 3 = search needs in
     let t = c .before .before .loop-test .taken in
-    sides-of-first (s .args .t6) (s .args .n) (l .i) (omega (arith, s .pre .2)) t (s .pre .3)
+    sides-of-first (s .args .t6) (s .args .n) (l .i) (all-three s) t (s .pre .3)
 
 read-band-requires : tie.Need-read-band-requires Inv-loop μ-loop
 read-band-requires c κs =
@@ -68,20 +108,19 @@ read-band-requires c κs =
     let a = s .args in
     let l = c .before .before .before .before .before .before .before .loop in
     let t = c .before .before .before .before .before .before .loop-test .taken in
-    let g : length (a .t6) ≡ 3 = search needs in
     let b : Band = getD (a .t6) (l .i) noBand in
     let ge = c .before .before .before .grid-of .ensures in
-    let m = sides-of-first (a .t6) (a .n) (l .i) (omega arith) t (s .pre .3) in
-    let v = end-turn (a .t6) (a .n) (l .i) (l .start) (omega arith) t in
+    let m = sides-of-first (a .t6) (a .n) (l .i) (all-three s) t (s .pre .3) in
+    let v = end-turn (a .t6) (a .n) (l .i) (l .start) (all-three s) t in
     let after = end-after (l .start + bandLength b) (drop (l .i + 1) (take (a .n) (a .t6))) in
-    let nb = next-band (a .t6) (a .n) (l .i) (omega arith) t in (
+    let nb = next-band (a .t6) (a .n) (l .i) (all-three s) t in (
       l .inv .0 .bits,
       l .inv .5,
-      subst (λ (k : Grid). BandIn (length (l .words)) (k .start) b) (sym ge) (record { sides = m; inside = omega (arith, v, after, l .inv .7, l .inv .1) }),
+      subst (λ (k : Grid). BandIn (length (l .words)) (k .start) b) (sym ge) (record { sides = m; inside = band-ends _ _ _ _ _ after v (l .inv .7) (l .inv .1) }),
       subst (λ (k : Grid). k ≡ gridOf (k .start) b) (sym ge) refl,
-      ap (λ (ts : List (List Level)). getD ts (l .i) []) (c .before .before .before .before .before .before .before .before .band-levels .ensures) ∙ band-levels-at (a .t6) (l .i) (omega arith),
+      ap (λ (ts : List (List Level)). getD ts (l .i) []) (c .before .before .before .before .before .before .before .before .band-levels .ensures) ∙ band-levels-at (a .t6) (l .i) (band-there _ _ _ t (all-three s)),
       s .pre .5,
-      omega (arith, l .inv .6, s .pre .2),
+      blocks-before (l .block) (l .i) (a .n) (l .inv .6) t (s .pre .2),
       subst (λ (k : Grid). BandFits (l .words) (k .start) b) (sym ge) (band-still-fits (l .start) b (l .words) (a .words .now) (l .inv .0 .after) (subst (BandsFit (a .words .now) (l .start)) nb (l .inv .8) .0)),
     )
 
@@ -100,10 +139,9 @@ returns c =
     let a = s .args in
     let l = c .before .before .before .before .before .before .before .before .before .before .before .before .before .before .before .before .loop in
     let t = c .before .before .before .before .before .before .before .before .before .before .before .before .before .before .before .loop-test .taken in
-    let g : length (a .t6) ≡ 3 = search needs in
     let b : Band = getD (a .t6) (l .i) noBand in
-    let m = sides-of-first (a .t6) (a .n) (l .i) (omega arith) t (s .pre .3) in
-    let nb = next-band (a .t6) (a .n) (l .i) (omega arith) t in
+    let m = sides-of-first (a .t6) (a .n) (l .i) (all-three s) t (s .pre .3) in
+    let nb = next-band (a .t6) (a .n) (l .i) (all-three s) t in
     let ge = c .before .before .before .before .before .before .before .before .before .before .before .before .grid-of .ensures in
     let u = reading (l .words) (l .reports) (l .records) (l .run) in
     let e = c .before .before .before .before .before .before .before .before .read-band .ensures ∙ ap (λ (k : Grid). nextBlocks (a .src .now) (a .layer) (l .block) (bandBlocks (k .start) b) u) ge in
@@ -116,11 +154,9 @@ grid-end-requires c κs =
     let l = c .before .before .before .before .before .before .before .before .before .before .before .before .before .before .before .before .loop in
     let t = c .before .before .before .before .before .before .before .before .before .before .before .before .before .before .before .loop-test .taken in
     let ge = c .before .before .before .before .before .before .before .before .before .before .before .before .grid-of .ensures in
-    let g : length (a .t6) ≡ 3 = search needs in
-    let w : length (a .words .now) * 4 < 2 ^ 64 = search needs in
     let b : Band = getD (a .t6) (l .i) noBand in
     subst (λ (k : Grid). SidesUpTo64 b × (k ≡ gridOf (k .start) b) × (k .start < 2 ^ 63)) (sym ge)
-    (sides-of-first (a .t6) (a .n) (l .i) (omega (arith, s .pre .2)) t (s .pre .3), refl, omega (arith, l .inv .7, end-after (l .start) (drop (l .i) (take (a .n) (a .t6)))))
+    (sides-of-first (a .t6) (a .n) (l .i) (all-three s) t (s .pre .3), refl, starts-below (l .start) _ _ (end-after (l .start) (drop (l .i) (take (a .n) (a .t6)))) (l .inv .7) (room s))
 
 add-block : tie.Need-add-block Inv-loop μ-loop
 add-block c =
@@ -128,16 +164,21 @@ add-block c =
     let a = s .args in
     let l = c .before .before .before .before .before .before .before .before .before .before .before .before .before .before .before .before .before .before .loop in
     let t = c .before .before .before .before .before .before .before .before .before .before .before .before .before .before .before .before .before .loop-test .taken in
-    let g : length (a .t6) ≡ 3 = search needs in
     let b : Band = getD (a .t6) (l .i) noBand in
-    let m = sides-of-first (a .t6) (a .n) (l .i) (omega arith) t (s .pre .3) in
-    omega (arith, c .band-blocks .ensures, blocks-up-to-4096 b m, l .inv .6, s .pre .2)
+    let m = sides-of-first (a .t6) (a .n) (l .i) (all-three s) t (s .pre .3) in
+    blocks-fit (l .block) (l .i) (a .n) _ _ (c .band-blocks .ensures) (blocks-up-to-4096 b m) (l .inv .6) t (s .pre .2)
 
 add-i : tie.Need-add-i Inv-loop μ-loop
-add-i c = omega (arith, c .before .before .before .before .before .before .before .before .before .before .before .before .before .before .before .before .before .loop-test .taken, c .before .before .before .before .before .before .before .before .before .before .before .before .before .before .before .before .before .before .before .before .before .before .before .before .pre .2)
+add-i c =
+    let s = c .before .before .before .before .before .before .before .before .before .before .before .before .before .before .before .before .before .before .before .before .before .before .before .before in
+    let l = c .before .before .before .before .before .before .before .before .before .before .before .before .before .before .before .before .before .before .loop in
+    counted (l .i) (s .args .n) (c .before .before .before .before .before .before .before .before .before .before .before .before .before .before .before .before .before .loop-test .taken) (s .pre .2)
 
 loop-less : tie.Need-loop-less Inv-loop μ-loop
-loop-less c = let t = c .before .before .before .before .before .before .before .before .before .before .before .before .before .before .before .before .before .loop-test .taken in omega arith
+loop-less c =
+    let s = c .before .before .before .before .before .before .before .before .before .before .before .before .before .before .before .before .before .before .before .before .before .before .before .before in
+    let l = c .before .before .before .before .before .before .before .before .before .before .before .before .before .before .before .before .before .before .loop in
+    fewer (l .i) (s .args .n) (c .before .before .before .before .before .before .before .before .before .before .before .before .before .before .before .before .before .loop-test .taken)
 
 loop-again : tie.Need-loop-again Inv-loop μ-loop
 loop-again c =
@@ -145,12 +186,11 @@ loop-again c =
     let a = s .args in
     let l = c .before .before .before .before .before .before .before .before .before .before .before .before .before .before .before .before .before .before .loop in
     let t = c .before .before .before .before .before .before .before .before .before .before .before .before .before .before .before .before .before .loop-test .taken in
-    let g : length (a .t6) ≡ 3 = search needs in
     let b : Band = getD (a .t6) (l .i) noBand in
-    let m = sides-of-first (a .t6) (a .n) (l .i) (omega arith) t (s .pre .3) in
-    let v = end-turn (a .t6) (a .n) (l .i) (l .start) (omega arith) t in
+    let m = sides-of-first (a .t6) (a .n) (l .i) (all-three s) t (s .pre .3) in
+    let v = end-turn (a .t6) (a .n) (l .i) (l .start) (all-three s) t in
     let after = end-after (l .start + bandLength b) (drop (l .i + 1) (take (a .n) (a .t6))) in
-    let nb = next-band (a .t6) (a .n) (l .i) (omega arith) t in
+    let nb = next-band (a .t6) (a .n) (l .i) (all-three s) t in
     let f = c .before .before .before .before .before .before .before .before .before .before .read-band in
     let ge = c .before .before .before .before .before .before .before .before .before .before .before .before .before .before .grid-of .ensures in
     let el = c .before .grid-end .ensures ∙ ap (λ (k : Grid). k .start + bandLength b) ge in
@@ -162,10 +202,10 @@ loop-again c =
       f .kept .0 ∙ l .inv .1,
       f .kept .1 .0 ∙ l .inv .2,
       f .kept .1 .1 .0 ∙ l .inv .3,
-      omega arith,
+      next (l .i) (a .n) t,
       c .before .before .if1 .left,
-      omega (arith, eb, blocks-up-to-4096 b m, l .inv .6),
-      subst (λ (z : ℕ). endOf z (drop (l .i + 1) (take (a .n) (a .t6))) ≤ length (a .words .now)) (sym el) (omega (arith, v, l .inv .7)),
+      blocks-then (l .block) (l .i) _ _ eb (blocks-up-to-4096 b m) (l .inv .6),
+      subst (λ (z : ℕ). endOf z (drop (l .i + 1) (take (a .n) (a .t6))) ≤ length (a .words .now)) (sym el) (ends-then _ _ _ v (l .inv .7)),
       subst (λ (z : ℕ). BandsFit (a .words .now) z (drop (l .i + 1) (take (a .n) (a .t6)))) (sym el) (subst (BandsFit (a .words .now) (l .start)) nb (l .inv .8) .1),
       (λ j. nextBlocks (a .src .now) (a .layer) (l .block + eb j) (blocksAt (el j) (drop (l .i + 1) (take (a .n) (a .t6)))) u) ∙ bands-then (a .src .now) (a .layer) (l .start) (l .block) _ b (drop (l .i + 1) (take (a .n) (a .t6))) nb before _ e (c .before .before .if1 .left) ∙ l .inv .9,
     )
