@@ -32,7 +32,8 @@ placeAfter p = min (p + 1) lastPlace
 unfoldable pub byteOut : Output → Output
 byteOut o =
     let moved = o .bio .buf * 256 % 65536 in
-    output (set (o .bytes) (o .bio .bp) (o .bio .buf % 256)) (record { bp = placeAfter (o .bio .bp); buf = moved; ct = cond (eqb moved 0xff00) 7 8 })
+    output (set (o .bytes) (o .bio .bp) (o .bio .buf % 256))
+    (record { bp = placeAfter (o .bio .bp); buf = moved; ct = cond (eqb moved 0xff00) 7 8 })
 
 -- a byte goes out if no bit of the held one is free
 unfoldable pub makeRoom : Output → Output

@@ -24,7 +24,8 @@ pub extern "C" fn tonkelvi_state_length(
     down2: u32,
     planes2: u32,
 ) -> usize
-    ensures { λ r. ⌜ r ≡ stateLengthOf count (threeBands (band across0 down0 planes0) (band across1 down1 planes1) (band across2 down2 planes2)) ⌝ }
+    ensures { λ r. ⌜ r ≡ stateLengthOf count
+        (threeBands (band across0 down0 planes0) (band across1 down1 planes1) (band across2 down2 planes2)) ⌝ }
 {
     let bands = capi_parts::three_bands(
         across0,
@@ -57,7 +58,9 @@ pub extern "C" fn tonkelvi_start_writer(
     planes: &[u32],
     state: &mut [u32],
 ) -> u32
-    ensures { λ r. ⌜ record { answer = r; state = now (state .exit) } ≡ start writer count (threeBands (band across0 down0 planes0) (band across1 down1 planes1) (band across2 down2 planes2)) style (now (planes .entry)) (now (state .entry)) ⌝ }
+    ensures { λ r. ⌜ record { answer = r; state = now (state .exit) }
+        ≡ start writer count (threeBands (band across0 down0 planes0) (band across1 down1 planes1) (band across2 down2 planes2))
+        style (now (planes .entry)) (now (state .entry)) ⌝ }
 {
     let bands = capi_parts::three_bands(
         across0,
@@ -90,7 +93,9 @@ pub extern "C" fn tonkelvi_start_reader(
     planes: &[u32],
     state: &mut [u32],
 ) -> u32
-    ensures { λ r. ⌜ record { answer = r; state = now (state .exit) } ≡ start reader count (threeBands (band across0 down0 planes0) (band across1 down1 planes1) (band across2 down2 planes2)) style (now (planes .entry)) (now (state .entry)) ⌝ }
+    ensures { λ r. ⌜ record { answer = r; state = now (state .exit) }
+        ≡ start reader count (threeBands (band across0 down0 planes0) (band across1 down1 planes1) (band across2 down2 planes2))
+        style (now (planes .entry)) (now (state .entry)) ⌝ }
 {
     let bands = capi_parts::three_bands(
         across0,
@@ -120,7 +125,10 @@ pub extern "C" fn tonkelvi_measure(
     eph: bool,
     answer: &mut [u64],
 ) -> u32
-    ensures { λ r. ⌜ record { refusal = r; scratch = now (scratch .exit); answer = now (answer .exit) } ≡ measureCall (now (state .entry)) (now (scratch .entry)) (contribution (now (counts .entry)) (now (lengths .entry)) (now (marks .entry))) (record { sop = sop; eph = eph }) (now (answer .entry)) ⌝ }
+    ensures { λ r. ⌜ record { refusal = r; scratch = now (scratch .exit); answer = now (answer .exit) }
+        ≡ measureCall (now (state .entry)) (now (scratch .entry))
+        (contribution (now (counts .entry)) (now (lengths .entry)) (now (marks .entry))) (record { sop = sop; eph = eph })
+        (now (answer .entry)) ⌝ }
 {
     if answer.len() != 2 {
         return 3;
@@ -145,7 +153,17 @@ pub extern "C" fn tonkelvi_write(
     output: &mut [u8],
     answer: &mut [u64],
 ) -> u32
-    ensures { λ r. ⌜ record { refusal = r; state = now (state .exit); scratch = now (scratch .exit); output = now (output .exit); answer = now (answer .exit) } ≡ writeCall (now (state .entry)) (now (scratch .entry)) (contribution (now (counts .entry)) (now (lengths .entry)) (now (marks .entry))) (now (body .entry)) (record { sop = sop; eph = eph }) number (now (output .entry)) (now (answer .entry)) ⌝ }
+    ensures { λ r.
+        ⌜ record {
+          refusal = r;
+          state = now (state .exit);
+          scratch = now (scratch .exit);
+          output = now (output .exit);
+          answer = now (answer .exit);
+        }
+        ≡ writeCall (now (state .entry)) (now (scratch .entry))
+        (contribution (now (counts .entry)) (now (lengths .entry)) (now (marks .entry))) (now (body .entry))
+        (record { sop = sop; eph = eph }) number (now (output .entry)) (now (answer .entry)) ⌝ }
 {
     if answer.len() != 1 {
         return 3;
@@ -178,7 +196,18 @@ pub extern "C" fn tonkelvi_read(
     records: &mut [Segment],
     answer: &mut [u64],
 ) -> u32
-    ensures { λ r. ⌜ record { refusal = r; state = now (state .exit); scratch = now (scratch .exit); reports = now (reports .exit); numbers = now (numbers .exit); records = wordsOf (now (records .exit)); answer = now (answer .exit) } ≡ readCall (now (state .entry)) (now (scratch .entry)) (record { sop = sop; eph = eph }) (now (src .entry)) (now (reports .entry)) (now (numbers .entry)) (now (records .entry)) (now (answer .entry)) ⌝ }
+    ensures { λ r.
+        ⌜ record {
+          refusal = r;
+          state = now (state .exit);
+          scratch = now (scratch .exit);
+          reports = now (reports .exit);
+          numbers = now (numbers .exit);
+          records = wordsOf (now (records .exit));
+          answer = now (answer .exit);
+        }
+        ≡ readCall (now (state .entry)) (now (scratch .entry)) (record { sop = sop; eph = eph }) (now (src .entry))
+        (now (reports .entry)) (now (numbers .entry)) (now (records .entry)) (now (answer .entry)) ⌝ }
 {
     let room = records.len();
     let a = capi_parts::read_words(

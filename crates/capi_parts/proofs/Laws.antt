@@ -51,7 +51,8 @@ five-long l a b c d h =
 
 -- ---- the calls
 
-pub started-with : (r n : ℕ) (bs cs : List Band) (style : ℕ) (planes lent : List ℕ) (x : StartResult) → x ≡ start r n bs style planes lent → bs ≡ cs
+pub started-with : (r n : ℕ) (bs cs : List Band) (style : ℕ) (planes lent : List ℕ) (x : StartResult) → x
+    ≡ start r n bs style planes lent → bs ≡ cs
     → x ≡ start r n cs style planes lent
 started-with r n bs cs style planes lent x e f = e ∙ ap (λ (ds : List Band). start r n ds style planes lent) f
 
@@ -68,27 +69,34 @@ module _ (ws scratch : List ℕ) (p : Contribution) (m : Markers) (answer : List
   unfolding measureCall
   measure-unlisted h = rw (ne-eqb (length answer) 2 h)
 
-  pub measure-listed : (r : MeasureAnswer) (s l : List ℕ) → length answer ≡ 2 → record { answer = r; scratch = s } ≡ measure ws scratch p m → l ≡ r .header ∷ r .body ∷ []
+  pub measure-listed : (r : MeasureAnswer) (s l : List ℕ) → length answer ≡ 2 → record { answer = r; scratch = s }
+      ≡ measure ws scratch p m → l ≡ r .header ∷ r .body ∷ []
       → record { refusal = r .refusal; scratch = s; answer = l } ≡ measureCall ws scratch p m answer
   unfolding measureCall
   measure-listed r s l h e g = rw (eq-eqb (length answer) 2 h, g) (ap measured e)
 
 module _ (ws scratch : List ℕ) (p : Contribution) (body : List ℕ) (m : Markers) (number : ℕ) (output answer : List ℕ) where
-  pub write-unlisted : length answer ≢ 1 → record { refusal = 3; state = ws; scratch = scratch; output = output; answer = answer } ≡ writeCall ws scratch p body m number output answer
+  pub write-unlisted : length answer ≢ 1 → record { refusal = 3; state = ws; scratch = scratch; output = output; answer = answer }
+      ≡ writeCall ws scratch p body m number output answer
   unfolding writeCall
   write-unlisted h = rw (ne-eqb (length answer) 1 h)
 
-  pub write-listed : (r : WriteAnswer) (vs s o l : List ℕ) → length answer ≡ 1 → record { answer = r; state = vs; scratch = s; output = o } ≡ write ws scratch p body m number output → l ≡ r .bytes ∷ []
-      → record { refusal = r .refusal; state = vs; scratch = s; output = o; answer = l } ≡ writeCall ws scratch p body m number output answer
+  pub write-listed : (r : WriteAnswer) (vs s o l : List ℕ) → length answer ≡ 1
+      → record { answer = r; state = vs; scratch = s; output = o } ≡ write ws scratch p body m number output → l ≡ r .bytes ∷ []
+      → record { refusal = r .refusal; state = vs; scratch = s; output = o; answer = l }
+      ≡ writeCall ws scratch p body m number output answer
   unfolding writeCall
   write-listed r vs s o l h e g = rw (eq-eqb (length answer) 1 h, g) (ap written e)
 
 module _ (ws scratch : List ℕ) (m : Markers) (src reports numbers : List ℕ) (room : ℕ) (answer : List ℕ) where
-  pub read-unlisted : length answer ≢ 5 → record { result = readResult ws scratch reports numbers (refusedAnswer 3); answer = answer } ≡ numbersCall ws scratch m src reports numbers room answer
+  pub read-unlisted : length answer ≢ 5
+      → record { result = readResult ws scratch reports numbers (refusedAnswer 3); answer = answer }
+      ≡ numbersCall ws scratch m src reports numbers room answer
   unfolding numbersCall
   read-unlisted h = rw (ne-eqb (length answer) 5 h)
 
-  pub read-listed : (r : ReadAnswer) (vs s p q l : List ℕ) → length answer ≡ 5 → readResult vs s p q r ≡ readNumbers ws scratch m src reports numbers room → l ≡ readAnswer r
+  pub read-listed : (r : ReadAnswer) (vs s p q l : List ℕ) → length answer ≡ 5 → readResult vs s p q r
+      ≡ readNumbers ws scratch m src reports numbers room → l ≡ readAnswer r
       → record { result = readResult vs s p q r; answer = l } ≡ numbersCall ws scratch m src reports numbers room answer
   unfolding numbersCall
   read-listed r vs s p q l h e g = rw (eq-eqb (length answer) 5 h, g) (ap numbersOf e)
@@ -107,24 +115,34 @@ module _ (ws scratch : List ℕ) (m : Markers) (src reports numbers : List ℕ) 
     answer = z .answer;
   }
 
-  by-list : (t : Bool) → eqb (length answer) 5 ≡ t → (z : NumbersCall) → z ≡ numbersCall ws scratch m src reports numbers (length records) answer → length (z .result .records) ≡ length numbers
+  by-list : (t : Bool) → eqb (length answer) 5 ≡ t → (z : NumbersCall) → z
+      ≡ numbersCall ws scratch m src reports numbers (length records) answer → length (z .result .records) ≡ length numbers
       → restored z ≡ readCall ws scratch m src reports numbers records answer
   unfolding numbersCall readCall toFill
   by-list true t z e l =
       let k = e ∙ if-true (eqb (length answer) 5) _ _ t in
       let w = ap (λ (y : NumbersCall). y .result) k in
       let r = z .result in
-      ap (λ (y : List ℕ). restored (record { result = r; answer = y })) (ap (λ (y : NumbersCall). y .answer) k ∙ ap (λ (y : ReadResult). readAnswer (y .answer)) (sym w))
-      ∙ ap readOf (filled-is-read ws scratch m src reports numbers records (r .state) (r .scratch) (r .reports) (r .records) (r .answer) _ _ w l refl refl)
+      ap (λ (y : List ℕ). restored (record { result = r; answer = y }))
+      (ap (λ (y : NumbersCall). y .answer) k ∙ ap (λ (y : ReadResult). readAnswer (y .answer)) (sym w))
+      ∙ ap readOf (filled-is-read ws scratch m src reports numbers records (r .state) (r .scratch) (r .reports) (r .records)
+      (r .answer) _ _ w l refl refl)
       ∙ sym (if-true (eqb (length answer) 5) _ _ t)
   by-list false t z e l =
       ap restored (e ∙ if-false (eqb (length answer) 5) _ _ t)
-      ∙ ap (λ (y : List ℕ). record { refusal = 3; state = ws; scratch = scratch; reports = reports; numbers = numbers; records = y; answer = answer }) (none-stored records numbers)
+      ∙ ap (λ (y : List ℕ).
+      record { refusal = 3; state = ws; scratch = scratch; reports = reports; numbers = numbers; records = y; answer = answer })
+      (none-stored records numbers)
       ∙ sym (if-false (eqb (length answer) 5) _ _ t)
 
   pub filled-is-call : (z₀ z₁ z₃ z₄ z₆ : List ℕ) (a : ReadAnswer) (us : List Segment) (k : ℕ)
-      → record { result = readResult z₀ z₁ z₃ z₄ a; answer = z₆ } ≡ numbersCall ws scratch m src reports numbers (length records) answer → length z₄ ≡ length numbers → k ≡ toFill a (length records) → us ≡ filled z₄ k records
-      → record { refusal = a .refusal; state = z₀; scratch = z₁; reports = z₃; numbers = z₄; records = wordsOf us; answer = z₆ } ≡ readCall ws scratch m src reports numbers records answer
+      → record { result = readResult z₀ z₁ z₃ z₄ a; answer = z₆ }
+      ≡ numbersCall ws scratch m src reports numbers (length records) answer → length z₄ ≡ length numbers → k
+      ≡ toFill a (length records) → us ≡ filled z₄ k records
+      → record { refusal = a .refusal; state = z₀; scratch = z₁; reports = z₃; numbers = z₄; records = wordsOf us; answer = z₆ }
+      ≡ readCall ws scratch m src reports numbers records answer
   filled-is-call z₀ z₁ z₃ z₄ z₆ a us k e l f g =
-      ap (λ (y : List Segment). record { refusal = a .refusal; state = z₀; scratch = z₁; reports = z₃; numbers = z₄; records = wordsOf y; answer = z₆ }) (g ∙ ap (λ (j : ℕ). filled z₄ j records) f)
+      ap (λ (y : List Segment).
+      record { refusal = a .refusal; state = z₀; scratch = z₁; reports = z₃; numbers = z₄; records = wordsOf y; answer = z₆ })
+      (g ∙ ap (λ (j : ℕ). filled z₄ j records) f)
       ∙ by-list (eqb (length answer) 5) refl (record { result = readResult z₀ z₁ z₃ z₄ a; answer = z₆ }) e l

@@ -1,4 +1,5 @@
--- What the exported calls answer: t800's calls and t2_read_records's read, with the bands as nine numbers and the answer in a lent list of words.
+-- What the exported calls answer: t800's calls and t2_read_records's read, with the bands as nine numbers and the answer in a lent
+-- list of words.
 use Prim.Native.Nat.{ℕ}
 use mathlib.Core.Bool.{cond}
 use mathlib.Core.List.{List, [], _∷_}
@@ -38,7 +39,8 @@ measured r = record { refusal = r .answer .refusal; scratch = r .scratch; answer
 
 -- state, scratch, contribution, marker settings, the lent list of two words
 unfoldable pub measureCall : List ℕ → List ℕ → Contribution → Markers → List ℕ → MeasureCall
-measureCall ws scratch p m answer = cond (eqb (length answer) 2) (measured (measure ws scratch p m)) (record { refusal = 3; scratch = scratch; answer = answer })
+measureCall ws scratch p m answer =
+    cond (eqb (length answer) 2) (measured (measure ws scratch p m)) (record { refusal = 3; scratch = scratch; answer = answer })
 
 -- ---- writing
 
@@ -50,7 +52,13 @@ pub record WriteCall : Type 0 where
   pub answer : List ℕ
 
 abbrev pub written : WriteResult → WriteCall
-written r = record { refusal = r .answer .refusal; state = r .state; scratch = r .scratch; output = r .output; answer = r .answer .bytes ∷ [] }
+written r = record {
+  refusal = r .answer .refusal;
+  state = r .state;
+  scratch = r .scratch;
+  output = r .output;
+  answer = r .answer .bytes ∷ [];
+}
 
 -- state, scratch, contribution, body, marker settings, packet number, output, the lent list of one word
 unfoldable pub writeCall : List ℕ → List ℕ → Contribution → List ℕ → Markers → ℕ → List ℕ → List ℕ → WriteCall
@@ -88,4 +96,12 @@ readOf r = record {
 unfoldable pub readCall : List ℕ → List ℕ → Markers → List ℕ → List ℕ → List ℕ → List Segment → List ℕ → ReadCall
 readCall ws scratch m src reports numbers records answer =
     cond (eqb (length answer) 5) (readOf (readStructs ws scratch m src reports numbers records))
-    (record { refusal = 3; state = ws; scratch = scratch; reports = reports; numbers = numbers; records = wordsOf records; answer = answer })
+    (record {
+      refusal = 3;
+      state = ws;
+      scratch = scratch;
+      reports = reports;
+      numbers = numbers;
+      records = wordsOf records;
+      answer = answer;
+    })

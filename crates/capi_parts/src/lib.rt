@@ -87,7 +87,13 @@ pub fn read_words(
     room: usize,
     answer: &mut [u64],
 ) -> ReadAnswer
-    ensures { λ r. ⌜ record { result = readResult (now (state .exit)) (now (scratch .exit)) (now (reports .exit)) (now (numbers .exit)) r; answer = now (answer .exit) } ≡ numbersCall (now (state .entry)) (now (scratch .entry)) (record { sop = sop; eph = eph }) (now (src .entry)) (now (reports .entry)) (now (numbers .entry)) room (now (answer .entry)) ⌝ }
+    ensures { λ r.
+        ⌜ record {
+          result = readResult (now (state .exit)) (now (scratch .exit)) (now (reports .exit)) (now (numbers .exit)) r;
+          answer = now (answer .exit);
+        }
+        ≡ numbersCall (now (state .entry)) (now (scratch .entry)) (record { sop = sop; eph = eph }) (now (src .entry))
+        (now (reports .entry)) (now (numbers .entry)) room (now (answer .entry)) ⌝ }
 {
     if answer.len() != 5 {
         return ReadAnswer {

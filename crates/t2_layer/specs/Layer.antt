@@ -28,7 +28,8 @@ pub record FirstLayer : Type 0 where
   pub number : ℕ
 
 abbrev pub firstLayer : ℕ → List Band → ℕ → List ℕ → Contribution → List ℕ → Markers → ℕ → FirstLayer
-firstLayer n bs s ps p body m number = record { count = n; bands = bs; style = s; planes = ps; contribution = p; body = body; markers = m; number = number }
+firstLayer n bs s ps p body m number =
+    record { count = n; bands = bs; style = s; planes = ps; contribution = p; body = body; markers = m; number = number }
 
 -- the book's entry for it
 abbrev pub entryOf : FirstLayer → Entry
@@ -44,7 +45,8 @@ pub record Lent : Type 0 where
   pub records : List ℕ
 
 abbrev pub lent : List ℕ → List ℕ → List ℕ → List ℕ → List ℕ → List ℕ → Lent
-lent w r scratch output reports records = record { writer = w; reader = r; scratch = scratch; output = output; reports = reports; records = records }
+lent w r scratch output reports records =
+    record { writer = w; reader = r; scratch = scratch; output = output; reports = reports; records = records }
 
 -- the writer's state before it
 abbrev pub startOf : FirstLayer → Lent → List ℕ
@@ -64,14 +66,18 @@ pub record LayerResult : Type 0 where
   pub records : List ℕ
 
 abbrev pub layerResult : ReadAnswer → List ℕ → List ℕ → List ℕ → List ℕ → List ℕ → List ℕ → LayerResult
-layerResult answer w r scratch output reports records = record { answer = answer; writer = w; reader = r; scratch = scratch; output = output; reports = reports; records = records }
+layerResult answer w r scratch output reports records =
+    record { answer = answer; writer = w; reader = r; scratch = scratch; output = output; reports = reports; records = records }
 
 -- by the results of both starts, the write and the read: the first that is refused ends it, with its number
 unfoldable pub layerBy : Lent → StartResult → StartResult → WriteResult → ReadResult → LayerResult
 layerBy b s t p q =
-    cond (not (eqb (s .answer) 0)) (layerResult (refusedAnswer (s .answer)) (s .state) (b .reader) (b .scratch) (b .output) (b .reports) (b .records))
-    (cond (not (eqb (t .answer) 0)) (layerResult (refusedAnswer (t .answer)) (s .state) (t .state) (b .scratch) (b .output) (b .reports) (b .records))
-    (cond (not (eqb (p .answer .refusal) 0)) (layerResult (refusedAnswer (p .answer .refusal)) (p .state) (t .state) (p .scratch) (p .output) (b .reports) (b .records))
+    cond (not (eqb (s .answer) 0))
+    (layerResult (refusedAnswer (s .answer)) (s .state) (b .reader) (b .scratch) (b .output) (b .reports) (b .records))
+    (cond (not (eqb (t .answer) 0))
+    (layerResult (refusedAnswer (t .answer)) (s .state) (t .state) (b .scratch) (b .output) (b .reports) (b .records))
+    (cond (not (eqb (p .answer .refusal) 0))
+    (layerResult (refusedAnswer (p .answer .refusal)) (p .state) (t .state) (p .scratch) (p .output) (b .reports) (b .records))
     (layerResult (q .answer) (p .state) (q .state) (q .scratch) (p .output) (q .reports) (q .records))))
 
 unfoldable pub writeAndRead : FirstLayer → Lent → LayerResult
@@ -86,7 +92,8 @@ pub record Premises (l : FirstLayer) (b : Lent) : Type 0 where
   pub writer-starts : start writer (l .count) (l .bands) (l .style) (l .planes) (b .writer) .answer ≡ 0
   pub reader-starts : start reader (l .count) (l .bands) (l .style) [] (b .reader) .answer ≡ 0
   pub accepted : writeOfLayer l b .answer .refusal ≡ 0
-  pub terminated : T (terminatedAsStyle (l .style) (newBook (take (l .count) (l .bands)) (l .planes)) (l .contribution .counts) (l .contribution .marks))
+  pub terminated : T (terminatedAsStyle (l .style) (newBook (take (l .count) (l .bands)) (l .planes)) (l .contribution .counts)
+      (l .contribution .marks))
   pub scratch-length : length (b .scratch) ≡ length (b .reader)
   pub reports-length : length (b .reports) ≡ reportWidth * length (entryOf l .reports)
   pub records-enough : recordWidth * length (entryOf l .records) ≤ length (b .records)

@@ -39,7 +39,17 @@ pub fn write_and_read(
     reports: &mut [u32],
     records: &mut [u32],
 ) -> ReadAnswer
-    ensures { λ r. ⌜ (layerResult r (now (writer .exit)) (now (reader .exit)) (now (scratch .exit)) (now (output .exit)) (now (reports .exit)) (now (records .exit)) ≡ writeAndRead (firstLayer count bands style (now (planes .entry)) (contribution (now (counts .entry)) (now (lengths .entry)) (now (marks .entry))) (now (body .entry)) markers number) (lent (now (writer .entry)) (now (reader .entry)) (now (scratch .entry)) (now (output .entry)) (now (reports .entry)) (now (records .entry)))) × GivesEntry (firstLayer count bands style (now (planes .entry)) (contribution (now (counts .entry)) (now (lengths .entry)) (now (marks .entry))) (now (body .entry)) markers number) (lent (now (writer .entry)) (now (reader .entry)) (now (scratch .entry)) (now (output .entry)) (now (reports .entry)) (now (records .entry))) r (now (reports .exit)) (now (records .exit)) ⌝ }
+    ensures { λ r.
+        ⌜ (layerResult r (now (writer .exit)) (now (reader .exit)) (now (scratch .exit)) (now (output .exit)) (now (reports .exit))
+        (now (records .exit))
+        ≡ writeAndRead (firstLayer count bands style (now (planes .entry))
+        (contribution (now (counts .entry)) (now (lengths .entry)) (now (marks .entry))) (now (body .entry)) markers number)
+        (lent (now (writer .entry)) (now (reader .entry)) (now (scratch .entry)) (now (output .entry)) (now (reports .entry))
+        (now (records .entry))))
+        × GivesEntry (firstLayer count bands style (now (planes .entry))
+        (contribution (now (counts .entry)) (now (lengths .entry)) (now (marks .entry))) (now (body .entry)) markers number)
+        (lent (now (writer .entry)) (now (reader .entry)) (now (scratch .entry)) (now (output .entry)) (now (reports .entry))
+        (now (records .entry))) r (now (reports .exit)) (now (records .exit)) ⌝ }
 {
     let first = t2::start_writer(count, bands, style, planes, writer);
     if first != 0 {

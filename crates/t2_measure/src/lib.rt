@@ -14,7 +14,9 @@ pub fn measure(
     marks: &[u8],
     markers: Markers,
 ) -> MeasureAnswer
-    ensures { λ r. ⌜ record { answer = r; scratch = now (scratch .exit) } ≡ measure (now (state .entry)) (now (scratch .entry)) (contribution (now (counts .entry)) (now (lengths .entry)) (now (marks .entry))) markers ⌝ }
+    ensures { λ r. ⌜ record { answer = r; scratch = now (scratch .exit) }
+        ≡ measure (now (state .entry)) (now (scratch .entry))
+        (contribution (now (counts .entry)) (now (lengths .entry)) (now (marks .entry))) markers ⌝ }
 {
     let refusal = t2_refusals::measure_refusal(state, scratch.len(), counts, lengths, marks);
     if refusal != 0 {

@@ -61,7 +61,8 @@ fn bands_up_to_25_bits(state: &[u32], bands: [Band; 3], n: usize) -> bool
 
 // Lengths below 2^24 take at most 24 bits, and 25 length bits leave room for the logarithm of 164 passes.
 pub fn surely_narrow(state: &[u32], bands: [Band; 3], n: usize, lengths: &[u32]) -> bool
-    requires { ⌜ (n ≤ 3) × AllUpTo64 (take n bands) × (length (now state) ≡ stateLength (take n bands)) × (length (now lengths) ≤ 4294967296) ⌝ }
+    requires { ⌜ (n ≤ 3) × AllUpTo64 (take n bands) × (length (now state) ≡ stateLength (take n bands))
+        × (length (now lengths) ≤ 4294967296) ⌝ }
     ensures { λ r. ⌜ r ≡ (ltb (sum (now (lengths .entry))) (2 ^ 24) && bitsUpTo25 (now (state .entry)) 13 (take n bands)) ⌝ }
 {
     if 0x100_0000 <= total(lengths) {

@@ -26,8 +26,12 @@ fn read_band(
     layer: u32,
     block: usize,
 ) -> Run
-    requires { ⌜ (BitsIn (now src) (r .bio)) × (r .refusal ≡ 0) × (BandIn (length (now words)) (g .start) band) × (g ≡ gridOf (g .start) band) × (tree ≡ padded (levels (band .across) (band .down))) × (layer < notYetIncluded) × (block ≤ 12288) × (BandFits (now words) (g .start) band) ⌝ }
-    ensures { λ o. ⌜ reading (now (words .exit)) (now (reports .exit)) (now (records .exit)) o ≡ nextBlocks (now (src .entry)) layer block (bandBlocks (g .start) band) (reading (now (words .entry)) (now (reports .entry)) (now (records .entry)) r) ⌝ }
+    requires { ⌜ (BitsIn (now src) (r .bio)) × (r .refusal ≡ 0) × (BandIn (length (now words)) (g .start) band)
+        × (g ≡ gridOf (g .start) band) × (tree ≡ padded (levels (band .across) (band .down))) × (layer < notYetIncluded)
+        × (block ≤ 12288) × (BandFits (now words) (g .start) band) ⌝ }
+    ensures { λ o. ⌜ reading (now (words .exit)) (now (reports .exit)) (now (records .exit)) o
+        ≡ nextBlocks (now (src .entry)) layer block (bandBlocks (g .start) band)
+        (reading (now (words .entry)) (now (reports .entry)) (now (records .entry)) r) ⌝ }
 {
     let mut run = r;
     let mut y: usize = 0;
@@ -69,8 +73,11 @@ pub fn read_bands(
     n: usize,
     layer: u32,
 ) -> Run
-    requires { ⌜ (BitsIn (now src) (r .bio)) × (r .refusal ≡ 0) × (n ≤ 3) × (AllUpTo64 (take n bands)) × (endOf 13 (take n bands) ≤ length (now words)) × (layer < notYetIncluded) × (BandsFit (now words) 13 (take n bands)) ⌝ }
-    ensures { λ o. ⌜ reading (now (words .exit)) (now (reports .exit)) (now (records .exit)) o ≡ nextBlocks (now (src .entry)) layer 0 (blocks (take n bands)) (reading (now (words .entry)) (now (reports .entry)) (now (records .entry)) r) ⌝ }
+    requires { ⌜ (BitsIn (now src) (r .bio)) × (r .refusal ≡ 0) × (n ≤ 3) × (AllUpTo64 (take n bands))
+        × (endOf 13 (take n bands) ≤ length (now words)) × (layer < notYetIncluded) × (BandsFit (now words) 13 (take n bands)) ⌝ }
+    ensures { λ o. ⌜ reading (now (words .exit)) (now (reports .exit)) (now (records .exit)) o
+        ≡ nextBlocks (now (src .entry)) layer 0 (blocks (take n bands))
+        (reading (now (words .entry)) (now (reports .entry)) (now (records .entry)) r) ⌝ }
 {
     let trees = tcd_layout::band_levels(bands);
     let mut run = r;

@@ -2,7 +2,8 @@
 ghost use mathlib.Core.Path.{_≡_};
 ghost use Prim.Native.Nat.{_+_, _^_, _<_, _≤_};
 ghost use lib.ListN.{length};
-ghost use Rattle.t2_read_segments.specs.Reading.{reading, nextNew, nextOld, nextBlock, nextBlocks, SegmentFits, BlockFits, BlocksFit, BitsIn};
+ghost use Rattle.t2_read_segments.specs.Reading.{reading, nextNew, nextOld, nextBlock, nextBlocks, SegmentFits, BlockFits};
+ghost use Rattle.t2_read_segments.specs.Reading.{BlocksFit, BitsIn};
 ghost use Rattle.tcd_places.specs.Places.{BlockIn, RowIn, blockAt, blockIn, rowBlocks};
 use t2_read_segments::Run;
 use tcd_places::Place;
@@ -23,8 +24,11 @@ fn read_new(
     planes: u32,
     block: usize,
 ) -> Run
-    requires { ⌜ (r .bio .ct ≤ 8) × (BlockIn (length (now words)) p (now row)) × (layer < notYetIncluded) × (block < 2 ^ 32) × (SegmentFits (now words) (p .at)) ⌝ }
-    ensures { λ o. ⌜ reading (now (words .exit)) (now (reports .exit)) (now (records .exit)) o ≡ nextNew (now (src .entry)) layer block (blockIn p (now (row .entry)) planes) (reading (now (words .entry)) (now (reports .entry)) (now (records .entry)) r) ⌝ }
+    requires { ⌜ (r .bio .ct ≤ 8) × (BlockIn (length (now words)) p (now row)) × (layer < notYetIncluded) × (block < 2 ^ 32)
+        × (SegmentFits (now words) (p .at)) ⌝ }
+    ensures { λ o. ⌜ reading (now (words .exit)) (now (reports .exit)) (now (records .exit)) o
+        ≡ nextNew (now (src .entry)) layer block (blockIn p (now (row .entry)) planes)
+        (reading (now (words .entry)) (now (reports .entry)) (now (records .entry)) r) ⌝ }
 {
     let w = tgt_read::opj_tgt_decode(words, src, r.bio, p.incl, row, p.depth, p.x, layer + 1);
     let run = t2_read_block_parts::moved(r, w.bio);
@@ -56,7 +60,9 @@ fn read_old(
     block: usize,
 ) -> Run
     requires { ⌜ (r .bio .ct ≤ 8) × (at + 3 < length (now words)) × (block < 2 ^ 32) × (BlockFits (now words) at) ⌝ }
-    ensures { λ o. ⌜ reading (now (words .exit)) (now (reports .exit)) (now (records .exit)) o ≡ nextOld (now (src .entry)) block (blockAt at) (reading (now (words .entry)) (now (reports .entry)) (now (records .entry)) r) ⌝ }
+    ensures { λ o. ⌜ reading (now (words .exit)) (now (reports .exit)) (now (records .exit)) o
+        ≡ nextOld (now (src .entry)) block (blockAt at)
+        (reading (now (words .entry)) (now (reports .entry)) (now (records .entry)) r) ⌝ }
 {
     let bit = bio_lent::bit_in(src, r.bio);
     let run = t2_read_block_parts::moved(r, bit.bio);
@@ -79,8 +85,11 @@ fn read_block(
     planes: u32,
     block: usize,
 ) -> Run
-    requires { ⌜ (r .bio .ct ≤ 8) × (BlockIn (length (now words)) p (now row)) × (layer < notYetIncluded) × (block < 2 ^ 32) × (BlockFits (now words) (p .at)) ⌝ }
-    ensures { λ o. ⌜ reading (now (words .exit)) (now (reports .exit)) (now (records .exit)) o ≡ nextBlock (now (src .entry)) layer block (blockIn p (now (row .entry)) planes) (reading (now (words .entry)) (now (reports .entry)) (now (records .entry)) r) ⌝ }
+    requires { ⌜ (r .bio .ct ≤ 8) × (BlockIn (length (now words)) p (now row)) × (layer < notYetIncluded) × (block < 2 ^ 32)
+        × (BlockFits (now words) (p .at)) ⌝ }
+    ensures { λ o. ⌜ reading (now (words .exit)) (now (reports .exit)) (now (records .exit)) o
+        ≡ nextBlock (now (src .entry)) layer block (blockIn p (now (row .entry)) planes)
+        (reading (now (words .entry)) (now (reports .entry)) (now (records .entry)) r) ⌝ }
 {
     let at = p.at;
     if words[at] == 0 {
@@ -116,8 +125,11 @@ pub fn read_row(
     planes: u32,
     block: usize,
 ) -> Run
-    requires { ⌜ (BitsIn (now src) (r .bio)) × (r .refusal ≡ 0) × (RowIn (length (now words)) p (now row) n) × (layer < notYetIncluded) × (block + n ≤ 2 ^ 32) × (BlocksFit (now words) (p .at) n) ⌝ }
-    ensures { λ o. ⌜ reading (now (words .exit)) (now (reports .exit)) (now (records .exit)) o ≡ nextBlocks (now (src .entry)) layer block (rowBlocks p (now (row .entry)) planes n 0) (reading (now (words .entry)) (now (reports .entry)) (now (records .entry)) r) ⌝ }
+    requires { ⌜ (BitsIn (now src) (r .bio)) × (r .refusal ≡ 0) × (RowIn (length (now words)) p (now row) n) × (layer < notYetIncluded)
+        × (block + n ≤ 2 ^ 32) × (BlocksFit (now words) (p .at) n) ⌝ }
+    ensures { λ o. ⌜ reading (now (words .exit)) (now (reports .exit)) (now (records .exit)) o
+        ≡ nextBlocks (now (src .entry)) layer block (rowBlocks p (now (row .entry)) planes n 0)
+        (reading (now (words .entry)) (now (reports .entry)) (now (records .entry)) r) ⌝ }
 {
     let mut run = r;
     let mut i: usize = 0;

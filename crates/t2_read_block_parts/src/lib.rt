@@ -49,7 +49,9 @@ pub fn read_first(
     block: usize,
 ) -> Run
     requires { ⌜ (r .bio .ct ≤ 8) × (BlockIn (length (now words)) p (now row)) × (block < 2 ^ 32) × (SegmentFits (now words) (p .at)) ⌝ }
-    ensures { λ o. ⌜ reading (now (words .exit)) (now (reports .exit)) (now (records .exit)) o ≡ nextFirst (now (src .entry)) block (blockIn p (now (row .entry)) planes) (reading (now (words .entry)) (now (reports .entry)) (now (records .entry)) r) ⌝ }
+    ensures { λ o. ⌜ reading (now (words .exit)) (now (reports .exit)) (now (records .exit)) o
+        ≡ nextFirst (now (src .entry)) block (blockIn p (now (row .entry)) planes)
+        (reading (now (words .entry)) (now (reports .entry)) (now (records .entry)) r) ⌝ }
 {
     let z = tgt_read::opj_tgt_decode_value(words, src, r.bio, p.zero, row, p.depth, p.x);
     let n = read_passes(words, src, z.bio, p.at, 0, 3);
@@ -68,7 +70,9 @@ pub fn read_again(
     block: usize,
 ) -> Run
     requires { ⌜ (r .bio .ct ≤ 8) × (at + 3 < length (now words)) × (block < 2 ^ 32) × (BlockFits (now words) at) ⌝ }
-    ensures { λ o. ⌜ reading (now (words .exit)) (now (reports .exit)) (now (records .exit)) o ≡ nextAgain (now (src .entry)) block (blockAt at) (reading (now (words .entry)) (now (reports .entry)) (now (records .entry)) r) ⌝ }
+    ensures { λ o. ⌜ reading (now (words .exit)) (now (reports .exit)) (now (records .exit)) o
+        ≡ nextAgain (now (src .entry)) block (blockAt at)
+        (reading (now (words .entry)) (now (reports .entry)) (now (records .entry)) r) ⌝ }
 {
     let before = words[at];
     let bits = words[at + 1];

@@ -14,4 +14,5 @@ use Rattle.t800.specs.Reports.{recordWidth}
 pub record ReadsHeader (src reports records ws : List ℕ) (b : Bio) (a : Reading) : Type 0 where
   pub follows : Follows reports records a (readHeader src (length records / recordWidth) ws b)
   pub bits : BitsIn src (a .bio)
-  pub reported : readHeader src (length records / recordWidth) ws b .refusal ≡ 0 → length (readHeader src (length records / recordWidth) ws b .reports) ≡ length (blocks (bands ws))
+  pub reported : readHeader src (length records / recordWidth) ws b .refusal ≡ 0
+      → length (readHeader src (length records / recordWidth) ws b .reports) ≡ length (blocks (bands ws))

@@ -22,8 +22,10 @@ pub fn opj_t2_read_packet_header(
     src: &[u8],
     b: Bio,
 ) -> Run
-    requires { ⌜ (validState reader (now words) (length (now words)) ≡ true) × (layer (now words) < notYetIncluded) × (length (now reports) ≡ reportWidth * length (blocks (bands (now words)))) × (BitsIn (now src) b) ⌝ }
-    ensures { λ o. ⌜ ReadsHeader (now (src .entry)) (now (reports .entry)) (now (records .entry)) (now (words .entry)) b (reading (now (words .exit)) (now (reports .exit)) (now (records .exit)) o) ⌝ }
+    requires { ⌜ (validState reader (now words) (length (now words)) ≡ true) × (layer (now words) < notYetIncluded)
+        × (length (now reports) ≡ reportWidth * length (blocks (bands (now words)))) × (BitsIn (now src) b) ⌝ }
+    ensures { λ o. ⌜ ReadsHeader (now (src .entry)) (now (reports .entry)) (now (records .entry)) (now (words .entry)) b
+        (reading (now (words .exit)) (now (reports .exit)) (now (records .exit)) o) ⌝ }
 {
     let bands = tcd_first_words::bands_of(words);
     let n = words[1] as usize;

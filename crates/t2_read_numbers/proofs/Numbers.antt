@@ -46,11 +46,13 @@ module _ (ws scratch : List ℕ) where
 -- ---- the read
 
 module _ (ws scratch : List ℕ) (m : Markers) (src reports numbers : List ℕ) (room : ℕ) where
-  pub numbers-refused : eqb (length numbers) (recordWidth * room) ≡ false → readNumbers ws scratch m src reports numbers room ≡ wrongList ws scratch reports numbers
+  pub numbers-refused : eqb (length numbers) (recordWidth * room) ≡ false → readNumbers ws scratch m src reports numbers room
+      ≡ wrongList ws scratch reports numbers
   unfolding readNumbers
   numbers-refused e = rw e
 
-  pub numbers-read : eqb (length numbers) (recordWidth * room) ≡ true → readNumbers ws scratch m src reports numbers room ≡ read ws scratch m src reports numbers
+  pub numbers-read : eqb (length numbers) (recordWidth * room) ≡ true → readNumbers ws scratch m src reports numbers room
+      ≡ read ws scratch m src reports numbers
   unfolding readNumbers
   numbers-read e = rw e
 

@@ -41,7 +41,9 @@ pub fn read_numbers(
     numbers: &mut [u32],
     room: usize,
 ) -> ReadAnswer
-    ensures { λ r. ⌜ readResult (now (state .exit)) (now (scratch .exit)) (now (reports .exit)) (now (numbers .exit)) r ≡ readNumbers (now (state .entry)) (now (scratch .entry)) markers (now (src .entry)) (now (reports .entry)) (now (numbers .entry)) room ⌝ }
+    ensures { λ r. ⌜ readResult (now (state .exit)) (now (scratch .exit)) (now (reports .exit)) (now (numbers .exit)) r
+        ≡ readNumbers (now (state .entry)) (now (scratch .entry)) markers (now (src .entry)) (now (reports .entry))
+        (now (numbers .entry)) room ⌝ }
 {
     if !four_each(numbers.len(), room) {
         return ReadAnswer {

@@ -15,7 +15,8 @@ pub fn read(
     reports: &mut [u32],
     records: &mut [u32],
 ) -> ReadAnswer
-    ensures { λ r. ⌜ readResult (now (state .exit)) (now (scratch .exit)) (now (reports .exit)) (now (records .exit)) r ≡ read (now (state .entry)) (now (scratch .entry)) m (now (src .entry)) (now (reports .entry)) (now (records .entry)) ⌝ }
+    ensures { λ r. ⌜ readResult (now (state .exit)) (now (scratch .exit)) (now (reports .exit)) (now (records .exit)) r
+        ≡ read (now (state .entry)) (now (scratch .entry)) m (now (src .entry)) (now (reports .entry)) (now (records .entry)) ⌝ }
 {
     let why = t2_read_refusals::read_refusal(state, scratch, reports);
     if why != 0 {

@@ -13,5 +13,12 @@ use Rattle.t800.specs.Packet.{ReadResult, refusedAnswer, readPresent}
 unfoldable pub presentOrBroken : List ℕ → List ℕ → Markers → List ℕ → List ℕ → List ℕ → MarkerRead → HeaderRead → ReadResult
 presentOrBroken ws scratch m src reports records s r =
     let present = readPresent ws m src records s r in
-    let broken : ReadResult = record { answer = refusedAnswer (r .refusal); state = ws; scratch = wiped scratch; reports = wiped reports; records = wiped records } in
+    let broken : ReadResult =
+    record {
+      answer = refusedAnswer (r .refusal);
+      state = ws;
+      scratch = wiped scratch;
+      reports = wiped reports;
+      records = wiped records;
+    } in
     cond (eqb (r .refusal) 0) present broken

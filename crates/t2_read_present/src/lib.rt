@@ -27,8 +27,12 @@ pub fn read_present(
     s: MarkerFound,
     b: Bio,
 ) -> ReadAnswer
-    requires { ⌜ (validState reader (now state) (length (now scratch)) ≡ true) × (layer (now state) < notYetIncluded) × (length (now reports) ≡ reportWidth * length (blocks (bands (now state)))) × (BitsIn (now src) b) ⌝ }
-    ensures { λ r. ⌜ readResult (now (state .exit)) (now (scratch .exit)) (now (reports .exit)) (now (records .exit)) r ≡ presentOrBroken (now (state .entry)) (now (scratch .entry)) m (now (src .entry)) (now (reports .entry)) (now (records .entry)) (markerRead s) (readHeader (now (src .entry)) (length (now (records .entry)) / recordWidth) (now (state .entry)) b) ⌝ }
+    requires { ⌜ (validState reader (now state) (length (now scratch)) ≡ true) × (layer (now state) < notYetIncluded)
+        × (length (now reports) ≡ reportWidth * length (blocks (bands (now state)))) × (BitsIn (now src) b) ⌝ }
+    ensures { λ r. ⌜ readResult (now (state .exit)) (now (scratch .exit)) (now (reports .exit)) (now (records .exit)) r
+        ≡ presentOrBroken (now (state .entry)) (now (scratch .entry)) m (now (src .entry)) (now (reports .entry))
+        (now (records .entry)) (markerRead s)
+        (readHeader (now (src .entry)) (length (now (records .entry)) / recordWidth) (now (state .entry)) b) ⌝ }
 {
     lists::copy(state, scratch);
     let run = t2_read_header::opj_t2_read_packet_header(scratch, reports, records, src, b);

@@ -71,7 +71,8 @@ module _ (rs : List Segment) where
 -- ---- the numbers of a read
 
 -- 5, 6 and 3 store nothing
-early-stores-none : (ws scratch reports : List ℕ) (room : ℕ) → readRefusal ws scratch reports ≢ 0 → toFill (refusedAnswer (readRefusal ws scratch reports)) room ≡ 0
+early-stores-none : (ws scratch reports : List ℕ) (room : ℕ) → readRefusal ws scratch reports ≢ 0
+    → toFill (refusedAnswer (readRefusal ws scratch reports)) room ≡ 0
 unfolding readRefusal toFill
 early-stores-none ws scratch reports room =
     either None (not (validState reader ws (length scratch))) 5 _ (λ n. refl)
@@ -115,7 +116,8 @@ module _ (ws scratch : List ℕ) (m : Markers) (src reports : List ℕ) where
   read-is-at records = refl
 
   -- a header that is refused gives 9, 12 or 13, and all records are stored
-  module _ (records : List ℕ) (room : ℕ) (in-time : why ≡ 0) (present : eqb (first .value) 0 ≡ false) (fails : eqb (header (length records / recordWidth) .refusal) 0 ≡ false) where
+  module _ (records : List ℕ) (room : ℕ) (in-time : why ≡ 0) (present : eqb (first .value) 0 ≡ false)
+      (fails : eqb (header (length records / recordWidth) .refusal) 0 ≡ false) where
     abbrev number : ℕ
     number = header (length records / recordWidth) .refusal
 
@@ -129,9 +131,11 @@ module _ (ws scratch : List ℕ) (m : Markers) (src reports : List ℕ) where
     unfolding readAt
     its-number =
         ap (λ (z : ReadResult). z .answer .refusal)
-        (read-is-at records ∙ if-false (not (eqb why 0)) _ _ (ap not (eq-eqb why 0 in-time)) ∙ if-false (eqb (first .value) 0) _ _ present ∙ if-false (eqb number 0) _ _ fails)
+        (read-is-at records ∙ if-false (not (eqb why 0)) _ _ (ap not (eq-eqb why 0 in-time))
+        ∙ if-false (eqb (first .value) 0) _ _ present ∙ if-false (eqb number 0) _ _ fails)
 
-    no-list : (validState reader ws (length scratch) ≡ true) × (eqb (layer ws) notYetIncluded ≡ false) × (eqb (length reports) (reportWidth * length (blocks (bands ws))) ≡ true)
+    no-list : (validState reader ws (length scratch) ≡ true) × (eqb (layer ws) notYetIncluded ≡ false)
+        × (eqb (length reports) (reportWidth * length (blocks (bands ws))) ≡ true)
     unfolding readRefusal
     no-list =
         let a = not-refused (not (validState reader ws (length scratch))) 5 _ (omega arith) in-time in
@@ -143,14 +147,16 @@ module _ (ws scratch : List ℕ) (m : Markers) (src reports : List ℕ) where
         unnot true e = refl
         unnot false e = sym e
 
-    one-of : (t u v : Bool) → eqb number 9 ≡ t → eqb number 13 ≡ u → eqb number 12 ≡ v → (eqb number 9 || eqb number 12 || eqb number 13) ≡ true
+    one-of : (t u v : Bool) → eqb number 9 ≡ t → eqb number 13 ≡ u → eqb number 12 ≡ v
+        → (eqb number 9 || eqb number 12 || eqb number 13) ≡ true
     unfolding NumbersOfCalls
     one-of true u v p q r = rw p
     one-of false true true p q r = rw (p, q, r)
     one-of false true false p q r = rw (p, q, r)
     one-of false false true p q r = rw (p, q, r)
     one-of false false false p q r =
-        let holds : NoneHolds (readChecks ws call) = (ap not (no-list .0), (no-list .1, (ap not (no-list .2), (none 9 p, (none 13 q, (none 12 r, tt)))))) in
+        let holds : NoneHolds (readChecks ws call) =
+        (ap not (no-list .0), (no-list .1, (ap not (no-list .2), (none 9 p, (none 13 q, (none 12 r, tt)))))) in
         absurd (eqb-false number 0 fails (sym its-number ∙ numbers-of-calls .3 made .0 .accepts .1 holds))
       where
         none : (n : ℕ) → eqb number n ≡ false → (not (eqb (first .value) 0) && eqb number n) ≡ false
@@ -158,13 +164,16 @@ module _ (ws scratch : List ℕ) (m : Markers) (src reports : List ℕ) where
 
     header-stores-all : toFill (refusedAnswer number) room ≡ room
     unfolding toFill
-    header-stores-all = if-false (eqb number 0) _ _ fails ∙ if-true (eqb number 9 || eqb number 12 || eqb number 13) _ _ (one-of (eqb number 9) (eqb number 13) (eqb number 12) refl refl refl)
+    header-stores-all = if-false (eqb number 0) _ _ fails
+        ∙ if-true (eqb number 9 || eqb number 12 || eqb number 13) _ _
+        (one-of (eqb number 9) (eqb number 13) (eqb number 12) refl refl refl)
 
   -- ---- the read
 
   -- the result with the records that are stored from its numbers
   abbrev restored : List Segment → ReadResult → ReadResult
-  restored rs z = readResult (z .state) (z .scratch) (z .reports) (wordsOf (filled (z .records) (toFill (z .answer) (length rs)) rs)) (z .answer)
+  restored rs z = readResult (z .state) (z .scratch) (z .reports)
+      (wordsOf (filled (z .records) (toFill (z .answer) (length rs)) rs)) (z .answer)
 
   module _ (xs : List ℕ) (rs : List Segment) (as-long : length xs ≡ 4 * length rs) where
     abbrev n : ℕ
@@ -180,7 +189,9 @@ module _ (ws scratch : List ℕ) (m : Markers) (src reports : List ℕ) where
     Same z = length (z xs .records) ≡ length xs → restored rs (z xs) ≡ z (wordsOf rs)
 
     same-unchanged : why ≢ 0 → Same unchanged
-    same-unchanged h l = ap (λ (z : List ℕ). readResult ws scratch reports z (refusedAnswer why)) (ap (λ (k : ℕ). wordsOf (filled xs k rs)) (early-stores-none ws scratch reports (length rs) h) ∙ none-stored rs xs)
+    same-unchanged h l =
+        ap (λ (z : List ℕ). readResult ws scratch reports z (refusedAnswer why))
+        (ap (λ (k : ℕ). wordsOf (filled xs k rs)) (early-stores-none ws scratch reports (length rs) h) ∙ none-stored rs xs)
 
     same-absent : Same absent
     unfolding readAbsent toFill
@@ -188,7 +199,8 @@ module _ (ws scratch : List ℕ) (m : Markers) (src reports : List ℕ) where
 
     same-present : Same present
     unfolding readPresent toFill
-    same-present l = ap (λ (z : List ℕ). readResult (present xs .state) (present xs .scratch) (present xs .reports) z (present xs .answer)) (found-stored rs xs (header n .records) l as-long)
+    same-present l = ap (λ (z : List ℕ). readResult (present xs .state) (present xs .scratch) (present xs .reports) z
+        (present xs .answer)) (found-stored rs xs (header n .records) l as-long)
 
     same-broken : why ≡ 0 → eqb (first .value) 0 ≡ false → eqb (header n .refusal) 0 ≡ false → Same (broken n)
     same-broken a b c l =
@@ -206,29 +218,37 @@ module _ (ws scratch : List ℕ) (m : Markers) (src reports : List ℕ) where
     unfolding readAt
     same-at = same-by (eqb why 0) (eqb (first .value) 0) (eqb (header n .refusal) 0) refl refl refl
 
-    pub stored-is-read : length (read ws scratch m src reports xs .records) ≡ length xs → restored rs (read ws scratch m src reports xs) ≡ read ws scratch m src reports (wordsOf rs)
+    pub stored-is-read : length (read ws scratch m src reports xs .records) ≡ length xs
+        → restored rs (read ws scratch m src reports xs) ≡ read ws scratch m src reports (wordsOf rs)
     stored-is-read l =
         let e = read-is-at xs in
         let k : length xs ≡ length (wordsOf rs) = as-long ∙ sym (words-length rs) in
-        ap (restored rs) e ∙ same-at (ap (λ (z : ReadResult). length (z .records)) (sym e) ∙ l) ∙ ap (λ (j : ℕ). readAt (j / 4) (wordsOf rs)) k ∙ sym (read-is-at (wordsOf rs))
+        ap (restored rs) e ∙ same-at (ap (λ (z : ReadResult). length (z .records)) (sym e) ∙ l)
+        ∙ ap (λ (j : ℕ). readAt (j / 4) (wordsOf rs)) k ∙ sym (read-is-at (wordsOf rs))
 
 -- what the three calls of `read` give together
 module _ (st sc : List ℕ) (m : Markers) (src rp xs : List ℕ) (rs : List Segment) where
-  by-length : (t : Bool) → eqb (length xs) (4 * length rs) ≡ t → (z : ReadResult) → z ≡ readNumbers st sc m src rp xs (length rs) → length (z .records) ≡ length xs
+  by-length : (t : Bool) → eqb (length xs) (4 * length rs) ≡ t → (z : ReadResult) → z ≡ readNumbers st sc m src rp xs (length rs)
+      → length (z .records) ≡ length xs
       → _≡_ {A = StructsRead} (record { result = restored st sc m src rp rs z; numbers = z .records }) (readStructs st sc m src rp xs rs)
   unfolding readStructs
   by-length true t z e l =
       let k = e ∙ numbers-read st sc m src rp xs (length rs) t in
       ap (λ (y : ReadResult). record { result = restored st sc m src rp rs y; numbers = y .records }) k
-      ∙ ap (λ (y : ReadResult). record { result = y; numbers = read st sc m src rp xs .records }) (stored-is-read st sc m src rp xs rs (eqb-true (length xs) (4 * length rs) t) (ap (λ (y : ReadResult). length (y .records)) (sym k) ∙ l))
+      ∙ ap (λ (y : ReadResult). record { result = y; numbers = read st sc m src rp xs .records })
+      (stored-is-read st sc m src rp xs rs (eqb-true (length xs) (4 * length rs) t)
+      (ap (λ (y : ReadResult). length (y .records)) (sym k) ∙ l))
       ∙ sym (if-true (eqb (length xs) (4 * length rs)) _ _ t)
   by-length false t z e l =
-      ap (λ (y : ReadResult). record { result = restored st sc m src rp rs y; numbers = y .records }) (e ∙ numbers-refused st sc m src rp xs (length rs) t)
-      ∙ ap (λ (y : List ℕ). record { result = wrongList st sc rp y; numbers = xs }) (ap (λ (k : ℕ). wordsOf (filled xs k rs)) (wrong-stores-none st sc (length rs)) ∙ none-stored rs xs)
+      ap (λ (y : ReadResult). record { result = restored st sc m src rp rs y; numbers = y .records })
+      (e ∙ numbers-refused st sc m src rp xs (length rs) t)
+      ∙ ap (λ (y : List ℕ). record { result = wrongList st sc rp y; numbers = xs })
+      (ap (λ (k : ℕ). wordsOf (filled xs k rs)) (wrong-stores-none st sc (length rs)) ∙ none-stored rs xs)
       ∙ sym (if-false (eqb (length xs) (4 * length rs)) _ _ t)
 
   pub filled-is-read : (z₀ z₁ z₃ z₄ : List ℕ) (a : ReadAnswer) (us : List Segment) (k : ℕ)
-      → readResult z₀ z₁ z₃ z₄ a ≡ readNumbers st sc m src rp xs (length rs) → length z₄ ≡ length xs → k ≡ toFill a (length rs) → us ≡ filled z₄ k rs
+      → readResult z₀ z₁ z₃ z₄ a ≡ readNumbers st sc m src rp xs (length rs) → length z₄ ≡ length xs → k ≡ toFill a (length rs) → us
+      ≡ filled z₄ k rs
       → structsRead z₀ z₁ z₃ z₄ us a ≡ readStructs st sc m src rp xs rs
   filled-is-read z₀ z₁ z₃ z₄ a us k e l f g =
       ap (λ (y : List Segment). structsRead z₀ z₁ z₃ z₄ y a) (g ∙ ap (λ (j : ℕ). filled z₄ j rs) f)

@@ -41,7 +41,8 @@ pub record ReadMade : Type 0 where
   pub numbers : List ℕ
   pub records : List Segment
   pub left : Left
-  pub met : structsRead (left .state) (left .scratch) (left .reports) (left .numbers) (left .records) (left .answer) ≡ readStructs state scratch markers input reports numbers records
+  pub met : structsRead (left .state) (left .scratch) (left .reports) (left .numbers) (left .records) (left .answer)
+      ≡ readStructs state scratch markers input reports numbers records
 
 -- the same call with the structs' words for records
 abbrev pub callOf : ReadMade → ReadCall
@@ -56,7 +57,14 @@ unfoldable pub StructsAreNumbers : Type 0
 StructsAreNumbers =
     ((r : ReadMade) → length (r .numbers) ≡ recordWidth * length (r .records) → resultOf r ≡ readOf (r .state) (callOf r))
     × ((r : ReadMade) → length (r .numbers) ≢ recordWidth * length (r .records)
-    → r .left ≡ record { answer = refusedAnswer (wrongListNumber (r .state) (r .scratch)); state = r .state; scratch = r .scratch; reports = r .reports; numbers = r .numbers; records = r .records })
+    → r .left ≡ record {
+      answer = refusedAnswer (wrongListNumber (r .state) (r .scratch));
+      state = r .state;
+      scratch = r .scratch;
+      reports = r .reports;
+      numbers = r .numbers;
+      records = r .records;
+    })
     × ((rs ss : List Segment) → wordsOf rs ≡ wordsOf ss → rs ≡ ss)
 
 -- ---- the book's entry
@@ -84,7 +92,8 @@ ReadAsOwed ws (o ∷ os) (packetMade r ∷ rs) =
     → length (r .numbers) ≡ recordWidth * length (r .records)
     → ReadsPacket ws o (callOf r)
     → (GivesStructs o r)
-    × ((more : List ℕ) (m : ReadMade) → m .state ≡ ws → length (m .numbers) ≡ recordWidth * length (m .records) → callOf m ≡ withMore (callOf r) more → GivesStructs o m)
+    × ((more : List ℕ) (m : ReadMade) → m .state ≡ ws → length (m .numbers) ≡ recordWidth * length (m .records) → callOf m
+    ≡ withMore (callOf r) more → GivesStructs o m)
     × ReadAsOwed (r .left .state) os rs
 
 -- DEMAND 3 with reads into structs: a writer and a reader started with the same bands and style, and no planes for the reader

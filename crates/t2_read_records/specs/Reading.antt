@@ -20,12 +20,14 @@ pub record StructsRead : Type 0 where
   pub numbers : List ℕ
 
 abbrev pub structsRead : List ℕ → List ℕ → List ℕ → List ℕ → List Segment → ReadAnswer → StructsRead
-structsRead state scratch reports numbers records answer = record { result = readResult state scratch reports (wordsOf records) answer; numbers = numbers }
+structsRead state scratch reports numbers records answer =
+    record { result = readResult state scratch reports (wordsOf records) answer; numbers = numbers }
 
 -- state, scratch, marker settings, input, block reports, work list, segment records
 unfoldable pub readStructs : List ℕ → List ℕ → Markers → List ℕ → List ℕ → List ℕ → List Segment → StructsRead
 readStructs ws scratch m src reports numbers records =
     let words = wordsOf records in
-    let done : StructsRead = record { result = read ws scratch m src reports words; numbers = read ws scratch m src reports numbers .records } in
+    let done : StructsRead =
+    record { result = read ws scratch m src reports words; numbers = read ws scratch m src reports numbers .records } in
     let wrong : StructsRead = record { result = wrongList ws scratch reports words; numbers = numbers } in
     cond (eqb (length numbers) (recordWidth * length records)) done wrong

@@ -15,7 +15,10 @@ pub fn read(
     numbers: &mut [u32],
     records: &mut [Segment],
 ) -> ReadAnswer
-    ensures { λ r. ⌜ structsRead (now (state .exit)) (now (scratch .exit)) (now (reports .exit)) (now (numbers .exit)) (now (records .exit)) r ≡ readStructs (now (state .entry)) (now (scratch .entry)) markers (now (src .entry)) (now (reports .entry)) (now (numbers .entry)) (now (records .entry)) ⌝ }
+    ensures { λ r. ⌜ structsRead (now (state .exit)) (now (scratch .exit)) (now (reports .exit)) (now (numbers .exit))
+        (now (records .exit)) r
+        ≡ readStructs (now (state .entry)) (now (scratch .entry)) markers (now (src .entry)) (now (reports .entry))
+        (now (numbers .entry)) (now (records .entry)) ⌝ }
 {
     let room = records.len();
     let a = t2_read_numbers::read_numbers(state, scratch, src, markers, reports, numbers, room);

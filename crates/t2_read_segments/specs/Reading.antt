@@ -31,7 +31,8 @@ pub record Reading : Type 0 where
   pub refusal : ℕ
 
 abbrev pub reading : List ℕ → List ℕ → List ℕ → Run → Reading
-reading ws reports records r = record { words = ws; reports = reports; records = records; bio = r .bio; count = r .count; refusal = r .refusal }
+reading ws reports records r =
+    record { words = ws; reports = reports; records = records; bio = r .bio; count = r .count; refusal = r .refusal }
 
 -- segments leave the reports as they are, whatever these hold
 abbrev pub WithAnyReports : (List ℕ → Reading) → (List ℕ → Reading) → Type 0
@@ -48,11 +49,25 @@ movedOn ws b a = record { words = ws; reports = a .reports; records = a .records
 
 abbrev pub reported : ℕ → ℕ → ℕ → ℕ → ℕ → Reading → Reading
 reported i inclusion zeroPlanes planes passes a =
-    record { words = a .words; reports = putReport (a .reports) i inclusion zeroPlanes planes passes; records = a .records; bio = a .bio; count = a .count; refusal = a .refusal }
+    record {
+      words = a .words;
+      reports = putReport (a .reports) i inclusion zeroPlanes planes passes;
+      records = a .records;
+      bio = a .bio;
+      count = a .count;
+      refusal = a .refusal;
+    }
 
 abbrev pub recorded : ℕ → ℕ → ℕ → ℕ → Reading → Reading
 recorded i opens passes bytes a =
-    record { words = a .words; reports = a .reports; records = putRecord (a .records) (a .count) i opens passes bytes; bio = a .bio; count = a .count + 1; refusal = a .refusal }
+    record {
+      words = a .words;
+      reports = a .reports;
+      records = putRecord (a .records) (a .count) i opens passes bytes;
+      bio = a .bio;
+      count = a .count + 1;
+      refusal = a .refusal;
+    }
 
 -- one segment of block number i, with n passes
 unfoldable pub nextSegment : List ℕ → ℕ → Block → ℕ → Reading → Reading
@@ -156,7 +171,14 @@ BlocksFit ws at n = (i : ℕ) → i < n → BlockFits ws (at + 4 * i)
 -- the reports and records of r over the lists as they were lent
 abbrev pub heldBy : List ℕ → List ℕ → HeaderRead → Reading
 heldBy reports records r =
-    record { words = r .words; reports = overwrite reports (reportWords (r .reports)); records = overwrite records (recordWords (r .records)); bio = r .bio; count = length (r .records); refusal = r .refusal }
+    record {
+      words = r .words;
+      reports = overwrite reports (reportWords (r .reports));
+      records = overwrite records (recordWords (r .records));
+      bio = r .bio;
+      count = length (r .records);
+      refusal = r .refusal;
+    }
 
 -- a ended as r did: the refusal is the same, and where there is none everything that was read is held
 pub record Follows (reports records : List ℕ) (a : Reading) (r : HeaderRead) : Type 0 where

@@ -83,8 +83,11 @@ fn read_segment(
     s: Segment,
     n: u32,
 ) -> Run
-    requires { ⌜ (r .bio .ct ≤ 8) × (at + 3 < length (now words)) × (block < 2 ^ 32) × (s ≡ currentSegment (now words) (blockAt at)) × (s .used + n ≤ 164) ⌝ }
-    ensures { λ o. ⌜ WithAnyReports (λ reports. reading (now (words .exit)) reports (now (records .exit)) o) (λ reports. nextSegment (now (src .entry)) block (blockAt at) n (reading (now (words .entry)) reports (now (records .entry)) r)) ⌝ }
+    requires { ⌜ (r .bio .ct ≤ 8) × (at + 3 < length (now words)) × (block < 2 ^ 32) × (s ≡ currentSegment (now words) (blockAt at))
+        × (s .used + n ≤ 164) ⌝ }
+    ensures { λ o. ⌜ WithAnyReports (λ reports. reading (now (words .exit)) reports (now (records .exit)) o)
+        (λ reports. nextSegment (now (src .entry)) block (blockAt at) n
+        (reading (now (words .entry)) reports (now (records .entry)) r)) ⌝ }
 {
     let width = t2_segments::field_width(words[at + 1] as u64, n);
     let count = r.count;
@@ -118,8 +121,11 @@ pub fn read_segments(
     block: usize,
     passes: u32,
 ) -> Run
-    requires { ⌜ (r .bio .ct ≤ 8) × (at + 3 < length (now words)) × (block < 2 ^ 32) × (passes ≤ 164) × (SegmentFits (now words) at) × (r .refusal ≡ 0) ⌝ }
-    ensures { λ o. ⌜ WithAnyReports (λ reports. reading (now (words .exit)) reports (now (records .exit)) o) (λ reports. nextSegments (now (src .entry)) block (blockAt at) passes passes (reading (now (words .entry)) reports (now (records .entry)) r)) ⌝ }
+    requires { ⌜ (r .bio .ct ≤ 8) × (at + 3 < length (now words)) × (block < 2 ^ 32) × (passes ≤ 164) × (SegmentFits (now words) at)
+        × (r .refusal ≡ 0) ⌝ }
+    ensures { λ o. ⌜ WithAnyReports (λ reports. reading (now (words .exit)) reports (now (records .exit)) o)
+        (λ reports. nextSegments (now (src .entry)) block (blockAt at) passes passes
+        (reading (now (words .entry)) reports (now (records .entry)) r)) ⌝ }
 {
     let mut run = r;
     let mut left = passes;

@@ -6,7 +6,8 @@ use Rattle.t800.specs.declared.ReadAnswer.{ReadAnswer}
 use Rattle.t800.specs.Packet.{ReadResult}
 
 abbrev pub readResult : List ℕ → List ℕ → List ℕ → List ℕ → ReadAnswer → ReadResult
-readResult state scratch reports records answer = record { answer = answer; state = state; scratch = scratch; reports = reports; records = records }
+readResult state scratch reports records answer =
+    record { answer = answer; state = state; scratch = scratch; reports = reports; records = records }
 
 -- the segment records stay as they are, whatever they hold
 abbrev pub WithAnyRecords : (List ℕ → ReadResult) → (List ℕ → ReadResult) → Type 0

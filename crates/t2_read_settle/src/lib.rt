@@ -24,8 +24,10 @@ pub fn read_absent(
     s: MarkerFound,
     b: Bio,
 ) -> ReadAnswer
-    requires { ⌜ (validState reader (now state) (length (now scratch)) ≡ true) × (layer (now state) < notYetIncluded) × (b .bp ≤ length (now src) + 1) ⌝ }
-    ensures { λ r. ⌜ WithAnyRecords (λ records. readResult (now (state .exit)) (now (scratch .exit)) (now (reports .exit)) records r) (λ records. readAbsent (now (state .entry)) m (now (src .entry)) (now (reports .entry)) records (markerRead s) b) ⌝ }
+    requires { ⌜ (validState reader (now state) (length (now scratch)) ≡ true) × (layer (now state) < notYetIncluded)
+        × (b .bp ≤ length (now src) + 1) ⌝ }
+    ensures { λ r. ⌜ WithAnyRecords (λ records. readResult (now (state .exit)) (now (scratch .exit)) (now (reports .exit)) records r)
+        (λ records. readAbsent (now (state .entry)) m (now (src .entry)) (now (reports .entry)) records (markerRead s) b) ⌝ }
 {
     let next = state[3] + 1;
     state[3] = next;
@@ -35,7 +37,8 @@ pub fn read_absent(
 }
 
 pub fn wipe_all(scratch: &mut [u32], reports: &mut [u32], records: &mut [u32])
-    ensures { λ _. ⌜ (now (scratch .exit) ≡ wiped (now (scratch .entry))) × (now (reports .exit) ≡ wiped (now (reports .entry))) × (now (records .exit) ≡ wiped (now (records .entry))) ⌝ }
+    ensures { λ _. ⌜ (now (scratch .exit) ≡ wiped (now (scratch .entry))) × (now (reports .exit) ≡ wiped (now (reports .entry)))
+        × (now (records .exit) ≡ wiped (now (records .entry))) ⌝ }
 {
     lists::wipe(scratch);
     lists::wipe(reports);
@@ -45,7 +48,8 @@ pub fn wipe_all(scratch: &mut [u32], reports: &mut [u32], records: &mut [u32])
 // What was read becomes the state, with the next layer.
 pub fn settle(state: &mut [u32], scratch: &mut [u32])
     requires { ⌜ (length (now scratch) ≡ length (now state)) × (3 < length (now state)) × (layer (now state) < notYetIncluded) ⌝ }
-    ensures { λ _. ⌜ (now (state .exit) ≡ set (now (scratch .entry)) 3 (layer (now (state .entry)) + 1)) × (now (scratch .exit) ≡ set (now (scratch .entry)) 3 (layer (now (state .entry)) + 1)) ⌝ }
+    ensures { λ _. ⌜ (now (state .exit) ≡ set (now (scratch .entry)) 3 (layer (now (state .entry)) + 1))
+        × (now (scratch .exit) ≡ set (now (scratch .entry)) 3 (layer (now (state .entry)) + 1)) ⌝ }
 {
     let next = state[3] + 1;
     scratch[3] = next;

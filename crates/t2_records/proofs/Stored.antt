@@ -55,7 +55,8 @@ next-segment a b c d ws i = λ j. record { block = word 0 j; opens = word 1 j; p
     word : (k : ℕ) → getD (a ∷ b ∷ c ∷ d ∷ ws) (suc i * 4 + k) 0 ≡ getD ws (i * 4 + k) 0
     word k = let e : suc i * 4 + k ≡ suc (suc (suc (suc (i * 4 + k)))) = omega arith in ap (λ (j : ℕ). getD (a ∷ b ∷ c ∷ d ∷ ws) j 0) e
 
-stored-words : (f : ℕ → Segment) (n : ℕ) (rs : List Segment) (ws : List ℕ) → ((i : ℕ) → f i ≡ segmentAt ws i) → n ≤ length rs → 4 * n ≤ length ws
+stored-words : (f : ℕ → Segment) (n : ℕ) (rs : List Segment) (ws : List ℕ) → ((i : ℕ) → f i ≡ segmentAt ws i) → n ≤ length rs
+    → 4 * n ≤ length ws
     → wordsOf (stored f n rs) ≡ take (4 * n) ws ++ drop (4 * n) (wordsOf rs)
 unfolding wordsOf segmentAt
 stored-words f zero rs ws h p q = ap wordsOf (stored-none f rs)
@@ -67,12 +68,16 @@ stored-words f (suc n) (r ∷ rs) (a ∷ b ∷ c ∷ []) h p q = absurd (omega a
 stored-words f (suc n) (r ∷ rs) (a ∷ b ∷ c ∷ d ∷ ws) h p q =
     let rest = stored-words (λ i. f (suc i)) n rs ws (λ i. h (suc i) ∙ next-segment a b c d ws i) (omega arith) (omega arith) in
     let four : 4 * suc n ≡ suc (suc (suc (suc (4 * n)))) = omega arith in
-    ap wordsOf (stored-cons f n r rs) ∙ one (f 0) (stored (λ i. f (suc i)) n rs) (h 0) rest ∙ ap (λ (k : ℕ). take k (a ∷ b ∷ c ∷ d ∷ ws) ++ drop k (wordsOf (r ∷ rs))) (sym four)
+    ap wordsOf (stored-cons f n r rs) ∙ one (f 0) (stored (λ i. f (suc i)) n rs) (h 0) rest
+    ∙ ap (λ (k : ℕ). take k (a ∷ b ∷ c ∷ d ∷ ws) ++ drop k (wordsOf (r ∷ rs))) (sym four)
   where
-    one : (s : Segment) (ss : List Segment) → s ≡ segmentAt (a ∷ b ∷ c ∷ d ∷ ws) 0 → wordsOf ss ≡ take (4 * n) ws ++ drop (4 * n) (wordsOf rs)
-        → wordsOf (s ∷ ss) ≡ take (suc (suc (suc (suc (4 * n))))) (a ∷ b ∷ c ∷ d ∷ ws) ++ drop (suc (suc (suc (suc (4 * n))))) (wordsOf (r ∷ rs))
+    one : (s : Segment) (ss : List Segment) → s ≡ segmentAt (a ∷ b ∷ c ∷ d ∷ ws) 0 → wordsOf ss
+        ≡ take (4 * n) ws ++ drop (4 * n) (wordsOf rs)
+        → wordsOf (s ∷ ss) ≡ take (suc (suc (suc (suc (4 * n))))) (a ∷ b ∷ c ∷ d ∷ ws) ++ drop (suc (suc (suc (suc (4 * n)))))
+        (wordsOf (r ∷ rs))
     one s ss e g = λ i. e i .block ∷ e i .opens ∷ e i .passes ∷ e i .bytes ∷ g i
 
 -- the first n records are the numbers', the others stay
-pub filled-words : (ws : List ℕ) (n : ℕ) (rs : List Segment) → n ≤ length rs → 4 * n ≤ length ws → wordsOf (filled ws n rs) ≡ take (4 * n) ws ++ drop (4 * n) (wordsOf rs)
+pub filled-words : (ws : List ℕ) (n : ℕ) (rs : List Segment) → n ≤ length rs → 4 * n ≤ length ws → wordsOf (filled ws n rs)
+    ≡ take (4 * n) ws ++ drop (4 * n) (wordsOf rs)
 filled-words ws n rs = stored-words (segmentAt ws) n rs ws (λ i. refl)

@@ -11,7 +11,8 @@ wordsOf (s ∷ ss) = s .block ∷ s .opens ∷ s .passes ∷ s .bytes ∷ wordsO
 
 -- record i of the numbers; past the end they are 0
 unfoldable pub segmentAt : List ℕ → ℕ → Segment
-segmentAt ws i = record { block = getD ws (i * 4 + 0) 0; opens = getD ws (i * 4 + 1) 0; passes = getD ws (i * 4 + 2) 0; bytes = getD ws (i * 4 + 3) 0 }
+segmentAt ws i = record
+    { block = getD ws (i * 4 + 0) 0; opens = getD ws (i * 4 + 1) 0; passes = getD ws (i * 4 + 2) 0; bytes = getD ws (i * 4 + 3) 0 }
 
 -- records f 0, f 1, .. stored at the first n places, in order
 unfoldable pub stored : (ℕ → Segment) → ℕ → List Segment → List Segment

@@ -29,7 +29,8 @@ fn wrong_lists(blocks: usize, counts: &[u32], lengths: &[u32], marks: &[u8]) -> 
 // 3, 7, 8 and 9, of a state that 5 lets pass.
 fn contribution_refusal(state: &[u32], counts: &[u32], lengths: &[u32], marks: &[u8]) -> u32
     requires { ⌜ validState writer (now state) (length (now state)) ≡ true ⌝ }
-    ensures { λ r. ⌜ r ≡ contributionRefusal (now (state .entry)) (contribution (now (counts .entry)) (now (lengths .entry)) (now (marks .entry))) ⌝ }
+    ensures { λ r. ⌜ r ≡ contributionRefusal (now (state .entry))
+        (contribution (now (counts .entry)) (now (lengths .entry)) (now (marks .entry))) ⌝ }
 {
     let bands = tcd_first_words::bands_of(state);
     let n = state[1] as usize;
@@ -51,7 +52,8 @@ pub fn measure_refusal(
     lengths: &[u32],
     marks: &[u8],
 ) -> u32
-    ensures { λ r. ⌜ r ≡ measureRefusalFor (now (state .entry)) «scratch_len» (contribution (now (counts .entry)) (now (lengths .entry)) (now (marks .entry))) ⌝ }
+    ensures { λ r. ⌜ r ≡ measureRefusalFor (now (state .entry)) «scratch_len»
+        (contribution (now (counts .entry)) (now (lengths .entry)) (now (marks .entry))) ⌝ }
 {
     if !tcd_state::valid_state(tcd_style::WRITER, state, scratch_len) {
         return 5;

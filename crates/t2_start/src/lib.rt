@@ -18,7 +18,8 @@ fn begin(
     planes: &[u32],
     state: &mut [u32],
 ) -> u32
-    ensures { λ r. ⌜ record { answer = r; state = now (state .exit) } ≡ begun role count bands style (now (planes .entry)) (now (state .entry)) ⌝ }
+    ensures { λ r. ⌜ record { answer = r; state = now (state .exit) }
+        ≡ begun role count bands style (now (planes .entry)) (now (state .entry)) ⌝ }
 {
     let refused = t2_start_parts::refusal(role, count, bands, style, planes, state);
     if refused != 0 {
@@ -36,7 +37,8 @@ pub fn start_writer(
     planes: &[u32],
     state: &mut [u32],
 ) -> u32
-    ensures { λ r. ⌜ record { answer = r; state = now (state .exit) } ≡ start writer count bands style (now (planes .entry)) (now (state .entry)) ⌝ }
+    ensures { λ r. ⌜ record { answer = r; state = now (state .exit) }
+        ≡ start writer count bands style (now (planes .entry)) (now (state .entry)) ⌝ }
 {
     let answer = begin(WRITER, count, bands, style, planes, state);
     if answer != 0 {
@@ -54,7 +56,8 @@ pub fn start_reader(
     planes: &[u32],
     state: &mut [u32],
 ) -> u32
-    ensures { λ r. ⌜ record { answer = r; state = now (state .exit) } ≡ start reader count bands style (now (planes .entry)) (now (state .entry)) ⌝ }
+    ensures { λ r. ⌜ record { answer = r; state = now (state .exit) }
+        ≡ start reader count bands style (now (planes .entry)) (now (state .entry)) ⌝ }
 {
     begin(READER, count, bands, style, planes, state)
 }

@@ -31,7 +31,9 @@ fn planes_wanted(role: u32, bands: [Band; 3], n: usize) -> usize
 // Refusal 3.
 fn wrong_list(role: u32, bands: [Band; 3], n: usize, planes: &[u32], state: &[u32]) -> bool
     requires { ⌜ (n ≤ 3) × AllUpTo64 (take n bands) ⌝ }
-    ensures { λ r. ⌜ r ≡ (not (eqb (length (now (state .entry))) (stateLength (take n bands))) || not (eqb (length (now (planes .entry))) (planesWanted role (take n bands)))) ⌝ }
+    ensures { λ r.
+        ⌜ r ≡ (not (eqb (length (now (state .entry))) (stateLength (take n bands))) || not
+        (eqb (length (now (planes .entry))) (planesWanted role (take n bands)))) ⌝ }
 {
     if state.len() != tcd_layout::state_length(bands, n) {
         return true;
@@ -139,7 +141,8 @@ fn zero_blocks(state: &mut [u32], from: usize, blocks: usize)
 // The trees and blocks of one band.
 fn fresh_band(state: &mut [u32], at: usize, nodes: usize, blocks: usize)
     requires { ⌜ at + (6 * nodes + 4 * blocks) ≤ length (now state) ⌝ }
-    ensures { λ _. ⌜ now (state .exit) ≡ sets (now (state .entry)) at (freshNodes notYetIncluded nodes ++ freshNodes notYetPlanes nodes ++ freshBlocks blocks) ⌝ }
+    ensures { λ _. ⌜ now (state .exit)
+        ≡ sets (now (state .entry)) at (freshNodes notYetIncluded nodes ++ freshNodes notYetPlanes nodes ++ freshBlocks blocks) ⌝ }
 {
     let tree = 3 * nodes;
     tgt::opj_tgt_reset(state, at, nodes, NOT_YET_INCLUDED);

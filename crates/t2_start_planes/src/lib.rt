@@ -23,7 +23,8 @@ fn set_row(
     most: u32,
     planes: &[u32],
 )
-    requires { ⌜ (ColumnsIn (length (now state)) base (now row) depth (length (now planes))) × (any (λ p. ltb most p) (now planes) ≡ false) ⌝ }
+    requires { ⌜ (ColumnsIn (length (now state)) base (now row) depth (length (now planes)))
+        × (any (λ p. ltb most p) (now planes) ≡ false) ⌝ }
     ensures { λ _. ⌜ now (state .exit) ≡ setRow base (now (row .entry)) depth most 0 (now (planes .entry)) (now (state .entry)) ⌝ }
 {
     let mut x: usize = 0;
@@ -44,7 +45,9 @@ fn set_rows(
     depth: usize,
     planes: &[u32],
 )
-    requires { ⌜ SidesUpTo64 band × (nodes ≡ bandNodes band) × (tree ≡ padded (levels (band .across) (band .down))) × (depth ≡ length (levels (band .across) (band .down))) × (at + bandLength band ≤ length (now state)) × (length (now planes) ≡ blocksIn band) × (any (λ p. ltb (band .planes) p) (now planes) ≡ false) ⌝ }
+    requires { ⌜ SidesUpTo64 band × (nodes ≡ bandNodes band) × (tree ≡ padded (levels (band .across) (band .down)))
+        × (depth ≡ length (levels (band .across) (band .down))) × (at + bandLength band ≤ length (now state))
+        × (length (now planes) ≡ blocksIn band) × (any (λ p. ltb (band .planes) p) (now planes) ≡ false) ⌝ }
     ensures { λ _. ⌜ now (state .exit) ≡ setZeroPlanes (blocksFrom at band (blocksIn band) 0) (now (planes .entry)) (now (state .entry)) ⌝ }
 {
     let base = at + 3 * nodes;
@@ -63,7 +66,8 @@ fn set_rows(
 }
 
 fn set_band(state: &mut [u32], at: usize, band: Band, planes: &[u32])
-    requires { ⌜ SidesUpTo64 band × (at + bandLength band ≤ length (now state)) × (length (now planes) ≡ blocksIn band) × (any (λ p. ltb (band .planes) p) (now planes) ≡ false) ⌝ }
+    requires { ⌜ SidesUpTo64 band × (at + bandLength band ≤ length (now state)) × (length (now planes) ≡ blocksIn band)
+        × (any (λ p. ltb (band .planes) p) (now planes) ≡ false) ⌝ }
     ensures { λ _. ⌜ now (state .exit) ≡ setZeroPlanes (blocksFrom at band (blocksIn band) 0) (now (planes .entry)) (now (state .entry)) ⌝ }
 {
     let nodes = tcd_layout::band_nodes(band);
@@ -73,7 +77,8 @@ fn set_band(state: &mut [u32], at: usize, band: Band, planes: &[u32])
 }
 
 pub fn set_zero_planes(bands: [Band; 3], n: usize, planes: &[u32], state: &mut [u32])
-    requires { ⌜ (n ≤ 3) × AllUpTo64 (take n bands) × (length (now state) ≡ stateLength (take n bands)) × (length (now planes) ≡ length (blocks (take n bands))) × (blockTooDeep (blocks (take n bands)) (now planes) ≡ false) ⌝ }
+    requires { ⌜ (n ≤ 3) × AllUpTo64 (take n bands) × (length (now state) ≡ stateLength (take n bands))
+        × (length (now planes) ≡ length (blocks (take n bands))) × (blockTooDeep (blocks (take n bands)) (now planes) ≡ false) ⌝ }
     ensures { λ _. ⌜ now (state .exit) ≡ setZeroPlanes (blocks (take n bands)) (now (planes .entry)) (now (state .entry)) ⌝ }
 {
     let mut at: usize = 13;

@@ -17,13 +17,16 @@ use Rattle.t800.specs.TagTree.{PathRead, value, readPath}
 use Rattle.t800.specs.Reports.{absent, reportWidth, recordWidth}
 use Rattle.t800.specs.Start.{StartResult, startRefusal, start}
 use Rattle.t800.specs.MarkerSegments.{readSop}
-use Rattle.t800.specs.ReadHeader.{HeaderRead, refused, movedTo, withReport, readSegment, readSegments, readIncluded, readNewBlock, readOldBlock, readBlock, readBlocks, readHeader, passesTaken}
+use Rattle.t800.specs.ReadHeader.{HeaderRead, refused, movedTo, withReport, readSegment, readSegments, readIncluded, readNewBlock}
+use Rattle.t800.specs.ReadHeader.{readOldBlock, readBlock, readBlocks, readHeader, passesTaken}
 use Rattle.t800.specs.WriteHeader.{isNew}
-use Rattle.t800.specs.Packet.{MeasureResult, measureRefusal, measure, WriteResult, writeRefusal, write, ReadResult, readRefusal, readAbsent, readPresent, read}
+use Rattle.t800.specs.Packet.{MeasureResult, measureRefusal, measure, WriteResult, writeRefusal, write, ReadResult, readRefusal}
+use Rattle.t800.specs.Packet.{readAbsent, readPresent, read}
 use Rattle.t800.specs.RoundTrip.{WriteCall, ReadCall}
 use Rattle.t800.proofs.Laws.Tests.{if-true, if-false, if-eq, if-ne, either, on-eq}
 use Rattle.t2_theorems.specs.Calls.{Started, Measured, Written, WasRead}
-use Rattle.t2_theorems.specs.Numbers.{Check, check, startChecks, measureChecks, bodyChecks, writeChecks, readChecks, NoneHolds, NumberIs, NumbersOfCalls}
+use Rattle.t2_theorems.specs.Numbers.{Check, check, startChecks, measureChecks, bodyChecks, writeChecks, readChecks}
+use Rattle.t2_theorems.specs.Numbers.{NoneHolds, NumberIs, NumbersOfCalls}
 
 -- ---- the first check that holds
 
@@ -75,10 +78,12 @@ among-later : (n : ℕ) (earlier later : List Check) (c : Check) → NotAmong n 
 among-later n [] later c a = a .0
 among-later n (e ∷ es) later c a = among-later n es later c (a .1)
 
-given-then : (earlier later : List Check) (c : Check) → Distinct (earlier ++ c ∷ later) → firstOf (earlier ++ c ∷ later) ≡ c .number → NoneHolds earlier × (c .holds ≡ true)
+given-then : (earlier later : List Check) (c : Check) → Distinct (earlier ++ c ∷ later) → firstOf (earlier ++ c ∷ later) ≡ c .number
+    → NoneHolds earlier × (c .holds ≡ true)
 unfolding firstOf
 given-then [] later c d e =
-    on-bool (c .holds) (λ t. (tt, t)) (λ f. absurd (not-first (c .number) later (d .0) (sym (if-false (c .holds) (c .number) (firstOf later) f) ∙ e)))
+    on-bool (c .holds) (λ t. (tt, t))
+    (λ f. absurd (not-first (c .number) later (d .0) (sym (if-false (c .holds) (c .number) (firstOf later) f) ∙ e)))
 given-then (b ∷ es) later c d e =
     let rest : List Check = es ++ c ∷ later in
     on-bool (b .holds)
@@ -122,7 +127,8 @@ measure-number m =
     let why : ℕ = measureRefusal (m .state) (m .call .scratch) (m .call .contribution) in
     ap (λ (z : MeasureResult). z .answer .refusal) (m .met) ∙ number why _ _ refl refl
   where
-    number : (why : ℕ) (done other : MeasureResult) → done .answer .refusal ≡ 0 → other .answer .refusal ≡ why → cond (eqb why 0) done other .answer .refusal ≡ why
+    number : (why : ℕ) (done other : MeasureResult) → done .answer .refusal ≡ 0 → other .answer .refusal ≡ why
+        → cond (eqb why 0) done other .answer .refusal ≡ why
     number why done other d o = on-eq why 0
         (λ e. ap (λ (z : MeasureResult). z .answer .refusal) (if-eq why 0 done other e) ∙ d ∙ sym e)
         (λ e. ap (λ (z : MeasureResult). z .answer .refusal) (if-ne why 0 done other e) ∙ o)
@@ -133,7 +139,9 @@ unfolding firstOf
 first-append [] ds d = refl
 first-append (c ∷ cs) ds d =
     on-bool (c .holds)
-    (λ t. rw t (sym (if-true (not (eqb (c .number) 0)) (c .number) (firstOf ds) (ap not (ne-eqb (c .number) 0 (not-zero (c .number) cs (d .0)))))))
+    (λ t. rw t
+    (sym (if-true (not (eqb (c .number) 0)) (c .number) (firstOf ds)
+    (ap not (ne-eqb (c .number) 0 (not-zero (c .number) cs (d .0)))))))
     (λ f. rw f (first-append cs ds (d .2)))
 
 measure-distinct : (ws : List ℕ) (c : WriteCall) → Distinct (measureChecks ws c)
@@ -141,21 +149,26 @@ measure-distinct ws c = omega arith
 
 module _ (w : Written) where
   abbrev writeWhy : ℕ
-  writeWhy = writeRefusal (w .state) (w .call .scratch) (w .call .contribution) (w .call .body) (w .call .markers) (w .call .number) (w .call .output)
+  writeWhy = writeRefusal (w .state) (w .call .scratch) (w .call .contribution) (w .call .body) (w .call .markers) (w .call .number)
+      (w .call .output)
 
   write-why : w .result .answer .refusal ≡ writeWhy
   unfolding write
   write-why = ap (λ (z : WriteResult). z .answer .refusal) (w .met) ∙ number writeWhy _ _ _ refl refl refl
     where
-      number : (why : ℕ) (done noSpace unchanged : WriteResult) → done .answer .refusal ≡ 0 → noSpace .answer .refusal ≡ why → unchanged .answer .refusal ≡ why
+      number : (why : ℕ) (done noSpace unchanged : WriteResult) → done .answer .refusal ≡ 0 → noSpace .answer .refusal ≡ why
+          → unchanged .answer .refusal ≡ why
           → cond (eqb why 0) done (cond (eqb why 11) noSpace unchanged) .answer .refusal ≡ why
       number why done noSpace unchanged d n u = on-eq why 0
           (λ e. ap (λ (z : WriteResult). z .answer .refusal) (if-eq why 0 done _ e) ∙ d ∙ sym e)
-          (λ e. ap (λ (z : WriteResult). z .answer .refusal) (if-ne why 0 done _ e) ∙ either (λ (z : WriteResult). z .answer .refusal ≡ why) (eqb why 11) noSpace unchanged n u)
+          (λ e. ap (λ (z : WriteResult). z .answer .refusal) (if-ne why 0 done _ e)
+          ∙ either (λ (z : WriteResult). z .answer .refusal ≡ why) (eqb why 11) noSpace unchanged n u)
 
   write-number : w .result .answer .refusal ≡ firstOf (writeChecks (w .state) (w .call))
   unfolding firstOf measureRefusal writeRefusal
-  write-number = write-why ∙ sym (first-append (measureChecks (w .state) (w .call)) (bodyChecks (w .state) (w .call)) (measure-distinct (w .state) (w .call)))
+  write-number = write-why
+      ∙ sym (first-append (measureChecks (w .state) (w .call)) (bodyChecks (w .state) (w .call))
+      (measure-distinct (w .state) (w .call)))
 
   write-stays : w .result .answer .refusal ≢ 0 → w .result .state ≡ w .state
   unfolding write
@@ -184,7 +197,9 @@ given-12 = record { one-of = refl }
 module _ (src : List ℕ) (room : ℕ) where
   segment-number : (i : ℕ) (k : Block) (n : ℕ) (r : HeaderRead) → HeaderNumber r → HeaderNumber (readSegment src room i k n r)
   unfolding readSegment
-  segment-number i k n r h = either HeaderNumber (ltb 32 (width (lengthBits (r .words) (k .at)) n)) _ _ given-9 (either HeaderNumber (leb room (length (r .records))) _ _ given-13 (same-number r _ refl h))
+  segment-number i k n r h =
+      either HeaderNumber (ltb 32 (width (lengthBits (r .words) (k .at)) n)) _ _ given-9
+      (either HeaderNumber (leb room (length (r .records))) _ _ given-13 (same-number r _ refl h))
 
   segments-number : (i : ℕ) (k : Block) (f left : ℕ) (r : HeaderRead) → HeaderNumber r → HeaderNumber (readSegments src room i k f left r)
   unfolding readSegments
@@ -192,7 +207,8 @@ module _ (src : List ℕ) (room : ℕ) where
   segments-number i k (suc f) left r h =
       let n : ℕ = passesTaken (r .words) k left in
       let a = segment-number i k n r h in
-      either HeaderNumber (eqb (readSegment src room i k n r .refusal) 0 && ltb 0 (left - n)) _ _ (segments-number i k f (left - n) (readSegment src room i k n r) a) a
+      either HeaderNumber (eqb (readSegment src room i k n r .refusal) 0 && ltb 0 (left - n)) _ _
+      (segments-number i k f (left - n) (readSegment src room i k n r) a) a
 
   included-number : (i : ℕ) (k : Block) (r : HeaderRead) → HeaderNumber r → HeaderNumber (readIncluded src room i k r)
   unfolding readIncluded
@@ -203,18 +219,23 @@ module _ (src : List ℕ) (room : ℕ) where
   new-number t i k r h =
       let w : PathRead = readPath src (k .inclTree) (t + 1) (reverse (k .path)) 0 (r .words) (r .bio) in
       let moved : HeaderNumber (movedTo (w .words) (w .bio) r) = same-number r _ refl h in
-      either HeaderNumber (ltb (value (w .words) (k .inclTree + 3 * k .leaf)) (t + 1)) (readIncluded src room i k (movedTo (w .words) (w .bio) r)) (withReport absent (movedTo (w .words) (w .bio) r)) (included-number i k _ moved) (same-number r _ refl h)
+      either HeaderNumber (ltb (value (w .words) (k .inclTree + 3 * k .leaf)) (t + 1))
+      (readIncluded src room i k (movedTo (w .words) (w .bio) r)) (withReport absent (movedTo (w .words) (w .bio) r))
+      (included-number i k _ moved) (same-number r _ refl h)
 
   old-number : (i : ℕ) (k : Block) (r : HeaderRead) → HeaderNumber r → HeaderNumber (readOldBlock src room i k r)
   unfolding readOldBlock
   old-number i k r h =
       let b : Decoded = getBit src (r .bio) in
       let moved : HeaderNumber (movedTo (r .words) (b .bio) r) = same-number r _ refl h in
-      either HeaderNumber (eqb (b .value) 0) (withReport absent (movedTo (r .words) (b .bio) r)) (readIncluded src room i k (movedTo (r .words) (b .bio) r)) (same-number r _ refl h) (included-number i k _ moved)
+      either HeaderNumber (eqb (b .value) 0) (withReport absent (movedTo (r .words) (b .bio) r))
+      (readIncluded src room i k (movedTo (r .words) (b .bio) r)) (same-number r _ refl h) (included-number i k _ moved)
 
   block-number : (t i : ℕ) (k : Block) (r : HeaderRead) → HeaderNumber r → HeaderNumber (readBlock src room t i k r)
   unfolding readBlock
-  block-number t i k r h = either HeaderNumber (isNew (r .words) k) (readNewBlock src room t i k r) (readOldBlock src room i k r) (new-number t i k r h) (old-number i k r h)
+  block-number t i k r h =
+      either HeaderNumber (isNew (r .words) k) (readNewBlock src room t i k r) (readOldBlock src room i k r) (new-number t i k r h)
+      (old-number i k r h)
 
   blocks-number : (t i : ℕ) (ks : List Block) (r : HeaderRead) → HeaderNumber r → HeaderNumber (readBlocks src room t i ks r)
   unfolding readBlocks
@@ -227,7 +248,9 @@ module _ (src : List ℕ) (room : ℕ) where
   unfolding readHeader
   header-number ws b =
       let r : HeaderRead = record { refusal = 0; words = ws; bio = b; reports = []; records = [] } in
-      either HeaderNumber (eqb (readBlocks src room (layer ws) 0 (blocks (bands ws)) r .refusal) 0 && endsInFF src (readBlocks src room (layer ws) 0 (blocks (bands ws)) r .bio)) _ _ given-12 (blocks-number (layer ws) 0 (blocks (bands ws)) r (record { one-of = refl }))
+      either HeaderNumber (eqb (readBlocks src room (layer ws) 0 (blocks (bands ws)) r .refusal) 0 && endsInFF src
+      (readBlocks src room (layer ws) 0 (blocks (bands ws)) r .bio)) _ _ given-12
+      (blocks-number (layer ws) 0 (blocks (bands ws)) r (record { one-of = refl }))
 
 -- its number is that of the check that holds
 of-header : (h : ℕ) (present : Bool) → (eqb h 0 || eqb h 9 || eqb h 13 || eqb h 12) ≡ true
@@ -258,16 +281,19 @@ module _ (r : WasRead) where
   firstBit = getBit (call .input) (bioAt (readSop (call .markers) (call .input) .skip)) .value
 
   abbrev header : HeaderRead
-  header = readHeader (call .input) (length (call .records) / recordWidth) (r .state) (getBit (call .input) (bioAt (readSop (call .markers) (call .input) .skip)) .bio)
+  header = readHeader (call .input) (length (call .records) / recordWidth) (r .state)
+      (getBit (call .input) (bioAt (readSop (call .markers) (call .input) .skip)) .bio)
 
   abbrev readWhy : ℕ
   readWhy = cond (not (eqb early 0)) early (cond (not (eqb firstBit 0)) (header .refusal) 0)
 
   read-why : r .result .answer .refusal ≡ readWhy
   unfolding read readAbsent readPresent
-  read-why = ap (λ (z : ReadResult). z .answer .refusal) (r .met) ∙ number (not (eqb early 0)) (eqb firstBit 0) (eqb (header .refusal) 0) refl _ _ _ _ refl refl refl refl
+  read-why = ap (λ (z : ReadResult). z .answer .refusal) (r .met)
+      ∙ number (not (eqb early 0)) (eqb firstBit 0) (eqb (header .refusal) 0) refl _ _ _ _ refl refl refl refl
     where
-      number : (refused absent done : Bool) → eqb (header .refusal) 0 ≡ done → (a b c d : ReadResult) → a .answer .refusal ≡ early → b .answer .refusal ≡ 0 → c .answer .refusal ≡ 0 → d .answer .refusal ≡ header .refusal
+      number : (refused absent done : Bool) → eqb (header .refusal) 0 ≡ done → (a b c d : ReadResult) → a .answer .refusal ≡ early
+          → b .answer .refusal ≡ 0 → c .answer .refusal ≡ 0 → d .answer .refusal ≡ header .refusal
           → cond refused a (cond absent b (cond done c d)) .answer .refusal ≡ cond refused early (cond (not absent) (header .refusal) 0)
       number true absent done e a b c d p q s t = p
       number false true done e a b c d p q s t = q
@@ -277,19 +303,29 @@ module _ (r : WasRead) where
   read-number : r .result .answer .refusal ≡ firstOf (readChecks (r .state) call)
   unfolding firstOf readRefusal
   read-number =
-      let early-checks : List Check = check 5 (not (validState reader (r .state) (length (call .scratch)))) ∷ check 6 (eqb (layer (r .state)) notYetIncluded) ∷ check 3 (not (eqb (length (call .reports)) (reportWidth * length (blocks (bands (r .state)))))) ∷ [] in
+      let early-checks : List Check =
+      check 5 (not (validState reader (r .state) (length (call .scratch)))) ∷ check 6 (eqb (layer (r .state)) notYetIncluded) ∷
+      check 3 (not (eqb (length (call .reports)) (reportWidth * length (blocks (bands (r .state)))))) ∷ [] in
       let present : Bool = not (eqb firstBit 0) in
-      let late : List Check = check 9 (present && eqb (header .refusal) 9) ∷ check 13 (present && eqb (header .refusal) 13) ∷ check 12 (present && eqb (header .refusal) 12) ∷ [] in
+      let late : List Check =
+      check 9 (present && eqb (header .refusal) 9) ∷ check 13 (present && eqb (header .refusal) 13) ∷ check 12
+      (present && eqb (header .refusal) 12) ∷ [] in
       let d : Distinct early-checks = omega arith in
       read-why
-      ∙ ap (λ (z : ℕ). cond (not (eqb early 0)) early z) (sym (of-header (header .refusal) present (header-number (call .input) (length (call .records) / recordWidth) (r .state) _ .one-of)))
+      ∙ ap (λ (z : ℕ). cond (not (eqb early 0)) early z)
+      (sym (of-header (header .refusal) present
+      (header-number (call .input) (length (call .records) / recordWidth) (r .state) _ .one-of)))
       ∙ sym (first-append early-checks late d)
 
   read-stays : r .result .answer .refusal ≢ 0 → r .result .state ≡ r .state
   unfolding read readAbsent readPresent
-  read-stays h = ap (λ (z : ReadResult). z .state) (r .met) ∙ kept (not (eqb early 0)) (eqb firstBit 0) (eqb (header .refusal) 0) _ _ _ _ (λ e. h (ap (λ (z : ReadResult). z .answer .refusal) (r .met) ∙ e)) refl refl refl refl
+  read-stays h = ap (λ (z : ReadResult). z .state) (r .met)
+      ∙ kept (not (eqb early 0)) (eqb firstBit 0) (eqb (header .refusal) 0) _ _ _ _
+      (λ e. h (ap (λ (z : ReadResult). z .answer .refusal) (r .met) ∙ e)) refl refl refl refl
     where
-      kept : (refused absent done : Bool) (a b c d : ReadResult) → cond refused a (cond absent b (cond done c d)) .answer .refusal ≢ 0 → a .state ≡ r .state → b .answer .refusal ≡ 0 → c .answer .refusal ≡ 0 → d .state ≡ r .state
+      kept : (refused absent done : Bool) (a b c d : ReadResult)
+          → cond refused a (cond absent b (cond done c d)) .answer .refusal ≢ 0 → a .state ≡ r .state → b .answer .refusal ≡ 0
+          → c .answer .refusal ≡ 0 → d .state ≡ r .state
           → cond refused a (cond absent b (cond done c d)) .state ≡ r .state
       kept true absent done a b c d n p q s t = p
       kept false true done a b c d n p q s t = absurd (n q)
@@ -302,7 +338,12 @@ pub numbers-of-calls : NumbersOfCalls
 unfolding NumbersOfCalls
 numbers-of-calls = (
   (λ r s. (number-is (startChecks r s) (s .result .answer) (omega arith) (start-number r s), start-stays r s)),
-  (λ m. number-is (measureChecks (m .state) (m .call)) (m .result .answer .refusal) (measure-distinct (m .state) (m .call)) (measure-number m)),
-  (λ w. (number-is (writeChecks (w .state) (w .call)) (w .result .answer .refusal) (omega arith, omega arith, (omega arith, omega arith, omega arith)) (write-number w), write-stays w)),
+  (λ m. number-is (measureChecks (m .state) (m .call)) (m .result .answer .refusal) (measure-distinct (m .state) (m .call))
+      (measure-number m)),
+  (λ w. (
+    number-is (writeChecks (w .state) (w .call)) (w .result .answer .refusal)
+        (omega arith, omega arith, (omega arith, omega arith, omega arith)) (write-number w),
+    write-stays w,
+  )),
   (λ r. (number-is (readChecks (r .state) (r .call)) (r .result .answer .refusal) (omega arith) (read-number r), read-stays r)),
 )

@@ -11,9 +11,11 @@ use Rattle.t800.specs.Start.{StartResult, start}
 use Rattle.t800.specs.Packet.{WriteResult, ReadResult}
 use Rattle.t800.specs.Book.{BlockEntry, newBook, entry, addCounts, terminatedAsStyle}
 use Rattle.t800.specs.RoundTrip as defs
-use Rattle.t800.specs.RoundTrip.{WriterCall, measuring, writing, writeOf, ReaderCall, refusedRead, packetRead, readOf, Owed, GivesEntry, owed, allTerminatedAsStyle, ReadsAsOwed, RoundTrip}
+use Rattle.t800.specs.RoundTrip.{WriterCall, measuring, writing, writeOf, ReaderCall, refusedRead, packetRead, readOf, Owed}
+use Rattle.t800.specs.RoundTrip.{GivesEntry, owed, allTerminatedAsStyle, ReadsAsOwed, RoundTrip}
 use Rattle.round_trip.proofs.Trip.RoundTrip.{round-trip}
-use Rattle.t2_theorems.specs.Calls.{Written, WasRead, WriterMade, measured, written, Follows, owedFor, owedOf, allTerminated, ReaderMade, refusedMade, packetMade, ReadAsOwed, RoundTripOfCalls}
+use Rattle.t2_theorems.specs.Calls.{Written, WasRead, WriterMade, measured, written, Follows, owedFor, owedOf, allTerminated}
+use Rattle.t2_theorems.specs.Calls.{ReaderMade, refusedMade, packetMade, ReadAsOwed, RoundTripOfCalls}
 
 -- ---- the writer's calls
 
@@ -25,7 +27,8 @@ callsOf (written w ∷ cs) = writing (w .call) ∷ callsOf cs
 left-by : (ws : List ℕ) (w : Written) → w .state ≡ ws → w .result ≡ writeOf ws (w .call)
 left-by ws w e = w .met ∙ ap (λ (vs : List ℕ). writeOf vs (w .call)) e
 
-owed-is : (style : ℕ) (ws : List ℕ) (book : List BlockEntry) (cs : List WriterMade) → Follows ws cs → owedOf style book cs ≡ owed style ws book (callsOf cs)
+owed-is : (style : ℕ) (ws : List ℕ) (book : List BlockEntry) (cs : List WriterMade) → Follows ws cs → owedOf style book cs
+    ≡ owed style ws book (callsOf cs)
 unfolding callsOf Follows owedOf owed defs.owedFor
 owed-is style ws book [] f = refl
 owed-is style ws book (measured m ∷ cs) f = owed-is style ws book cs (f .1)
@@ -37,18 +40,24 @@ owed-is style ws book (written w ∷ cs) f =
       markers = w .call .markers;
       entry = entry style book (w .call .contribution .counts) (w .call .contribution .lengths);
     } in
-    let rest : (b : List BlockEntry) → owedOf style b cs ≡ owed style (writeOf ws (w .call) .state) b (callsOf cs) = λ b. owed-is style (writeOf ws (w .call) .state) b cs (subst (λ (z : WriteResult). Follows (z .state) cs) k (f .1)) in
+    let rest : (b : List BlockEntry) → owedOf style b cs
+    ≡ owed style (writeOf ws (w .call) .state) b (callsOf cs) =
+    λ b. owed-is style (writeOf ws (w .call) .state) b cs (subst (λ (z : WriteResult). Follows (z .state) cs) k (f .1)) in
     λ i. cond (eqb (k i .answer .refusal) 0) (front (k i) ∷ rest after i) (rest book i)
 
-terminated-is : (style : ℕ) (ws : List ℕ) (book : List BlockEntry) (cs : List WriterMade) → Follows ws cs → allTerminated style book cs ≡ allTerminatedAsStyle style ws book (callsOf cs)
+terminated-is : (style : ℕ) (ws : List ℕ) (book : List BlockEntry) (cs : List WriterMade) → Follows ws cs
+    → allTerminated style book cs ≡ allTerminatedAsStyle style ws book (callsOf cs)
 unfolding callsOf Follows allTerminated allTerminatedAsStyle
 terminated-is style ws book [] f = refl
 terminated-is style ws book (measured m ∷ cs) f = terminated-is style ws book cs (f .1)
 terminated-is style ws book (written w ∷ cs) f =
     let k = left-by ws w (f .0) in
     let after : List BlockEntry = addCounts book (w .call .contribution .counts) in
-    let rest : (b : List BlockEntry) → allTerminated style b cs ≡ allTerminatedAsStyle style (writeOf ws (w .call) .state) b (callsOf cs) = λ b. terminated-is style (writeOf ws (w .call) .state) b cs (subst (λ (z : WriteResult). Follows (z .state) cs) k (f .1)) in
-    λ i. cond (eqb (k i .answer .refusal) 0) (terminatedAsStyle style book (w .call .contribution .counts) (w .call .contribution .marks) && rest after i) (rest book i)
+    let rest : (b : List BlockEntry) → allTerminated style b cs
+    ≡ allTerminatedAsStyle style (writeOf ws (w .call) .state) b (callsOf cs) =
+    λ b. terminated-is style (writeOf ws (w .call) .state) b cs (subst (λ (z : WriteResult). Follows (z .state) cs) k (f .1)) in
+    λ i. cond (eqb (k i .answer .refusal) 0)
+    (terminatedAsStyle style book (w .call .contribution .counts) (w .call .contribution .marks) && rest after i) (rest book i)
 
 -- ---- the reader's
 
@@ -64,7 +73,9 @@ reads-are : (ws : List ℕ) (os : List Owed) (rs : List ReaderMade) → ReadsAsO
 unfolding readsOf ReadsAsOwed ReadAsOwed
 reads-are ws os [] h = h
 reads-are ws os (refusedMade r ∷ rs) h =
-    λ e n. let k = read-by ws r e in subst (λ (z : ReadResult). ReadAsOwed (z .state) os rs) (sym k) (reads-are (readOf ws (r .call) .state) os rs (h (subst (λ (z : ReadResult). 0 < z .answer .refusal) k n)))
+    λ e n. let k = read-by ws r e in
+    subst (λ (z : ReadResult). ReadAsOwed (z .state) os rs) (sym k)
+    (reads-are (readOf ws (r .call) .state) os rs (h (subst (λ (z : ReadResult). 0 < z .answer .refusal) k n)))
 reads-are ws [] (packetMade r ∷ rs) h = tt
 reads-are ws (o ∷ os) (packetMade r ∷ rs) h =
     λ e p. let k = read-by ws r e in let g = h p in (
@@ -82,10 +93,14 @@ round-trip-of-calls w r c b s p a z ws f t rs =
     let book : List BlockEntry = newBook (take n (w .bands)) (w .planes) in
     let first : List ℕ = start writer n (w .bands) (w .style) (w .planes) (w .lent) .state in
     let g : Follows first ws = subst (λ (x : StartResult). Follows (x .state) ws) (w .met) f in
-    let k : r .result ≡ start reader n (w .bands) (w .style) [] (r .lent) = r .met ∙ (λ i. start reader (c i) (b i) (s i) (p i) (r .lent)) in
-    let trip : ReadsAsOwed (start reader n (w .bands) (w .style) [] (r .lent) .state) (owed (w .style) first book (callsOf ws)) (readsOf rs) =
-    round-trip n (w .bands) (w .style) (w .planes) (w .lent) (r .lent) (sym (ap (λ (x : StartResult). x .answer) (w .met)) ∙ a) (sym (ap (λ (x : StartResult). x .answer) k) ∙ z) (callsOf ws)
+    let k : r .result ≡ start reader n (w .bands) (w .style) [] (r .lent) = r .met
+    ∙ (λ i. start reader (c i) (b i) (s i) (p i) (r .lent)) in
+    let trip : ReadsAsOwed (start reader n (w .bands) (w .style) [] (r .lent) .state) (owed (w .style) first book (callsOf ws))
+    (readsOf rs) =
+    round-trip n (w .bands) (w .style) (w .planes) (w .lent) (r .lent) (sym (ap (λ (x : StartResult). x .answer) (w .met)) ∙ a)
+    (sym (ap (λ (x : StartResult). x .answer) k) ∙ z) (callsOf ws)
     (subst T (terminated-is (w .style) first book ws g) t) (readsOf rs) in
     subst (λ (x : StartResult). ReadAsOwed (x .state) (owedOf (w .style) book ws) rs) (sym k)
     (reads-are (start reader n (w .bands) (w .style) [] (r .lent) .state) (owedOf (w .style) book ws) rs
-    (subst (λ (os : List Owed). ReadsAsOwed (start reader n (w .bands) (w .style) [] (r .lent) .state) os (readsOf rs)) (sym (owed-is (w .style) first book ws g)) trip))
+    (subst (λ (os : List Owed). ReadsAsOwed (start reader n (w .bands) (w .style) [] (r .lent) .state) os (readsOf rs))
+    (sym (owed-is (w .style) first book ws g)) trip))

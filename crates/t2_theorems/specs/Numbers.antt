@@ -90,5 +90,7 @@ unfoldable pub NumbersOfCalls : Type 0
 NumbersOfCalls =
     ((r : ℕ) (s : Started r) → NumberIs (startChecks r s) (s .result .answer) × (s .result .answer ≢ 0 → s .result .state ≡ s .lent))
     × ((m : Measured) → NumberIs (measureChecks (m .state) (m .call)) (m .result .answer .refusal))
-    × ((w : Written) → NumberIs (writeChecks (w .state) (w .call)) (w .result .answer .refusal) × (w .result .answer .refusal ≢ 0 → w .result .state ≡ w .state))
-    × ((r : WasRead) → NumberIs (readChecks (r .state) (r .call)) (r .result .answer .refusal) × (r .result .answer .refusal ≢ 0 → r .result .state ≡ r .state))
+    × ((w : Written) → NumberIs (writeChecks (w .state) (w .call)) (w .result .answer .refusal)
+    × (w .result .answer .refusal ≢ 0 → w .result .state ≡ w .state))
+    × ((r : WasRead) → NumberIs (readChecks (r .state) (r .call)) (r .result .answer .refusal)
+    × (r .result .answer .refusal ≢ 0 → r .result .state ≡ r .state))

@@ -42,7 +42,8 @@ fn blocks_too_wide(
     lengths: &[u32],
     marks: &[u8],
 ) -> bool
-    requires { ⌜ (at + 4 * n ≤ length (now state)) × (n ≤ length (now counts)) × PassesLeft (now counts) (now lengths) (now marks) × (segmentTooLong (now counts) (now lengths) (now marks) ≡ false) ⌝ }
+    requires { ⌜ (at + 4 * n ≤ length (now state)) × (n ≤ length (now counts)) × PassesLeft (now counts) (now lengths) (now marks)
+        × (segmentTooLong (now counts) (now lengths) (now marks) ≡ false) ⌝ }
     ensures { λ r. ⌜ r ≡ wideFrom (now (state .entry)) at n (now (counts .entry)) (now (lengths .entry)) (now (marks .entry)) ⌝ }
 {
     let mut block = at;
@@ -76,8 +77,10 @@ fn band_too_wide(
     lengths: &[u32],
     marks: &[u8],
 ) -> bool
-    requires { ⌜ SidesUpTo64 band × (at + bandLength band ≤ length (now state)) × (blocksIn band ≤ length (now counts)) × PassesLeft (now counts) (now lengths) (now marks) × (segmentTooLong (now counts) (now lengths) (now marks) ≡ false) ⌝ }
-    ensures { λ r. ⌜ r ≡ fieldTooWide (now (state .entry)) (blocksFrom at band (blocksIn band) 0) (now (counts .entry)) (now (lengths .entry)) (now (marks .entry)) ⌝ }
+    requires { ⌜ SidesUpTo64 band × (at + bandLength band ≤ length (now state)) × (blocksIn band ≤ length (now counts))
+        × PassesLeft (now counts) (now lengths) (now marks) × (segmentTooLong (now counts) (now lengths) (now marks) ≡ false) ⌝ }
+    ensures { λ r. ⌜ r ≡ fieldTooWide (now (state .entry)) (blocksFrom at band (blocksIn band) 0) (now (counts .entry))
+        (now (lengths .entry)) (now (marks .entry)) ⌝ }
 {
     let nodes = tcd_layout::band_nodes(band);
     let size = tcd_layout::band_blocks(band);
@@ -93,8 +96,11 @@ fn field_too_wide(
     lengths: &[u32],
     marks: &[u8],
 ) -> bool
-    requires { ⌜ (n ≤ 3) × AllUpTo64 (take n bands) × (length (now state) ≡ stateLength (take n bands)) × (length (now counts) ≡ length (blocks (take n bands))) × PassesLeft (now counts) (now lengths) (now marks) × (segmentTooLong (now counts) (now lengths) (now marks) ≡ false) ⌝ }
-    ensures { λ r. ⌜ r ≡ fieldTooWide (now (state .entry)) (blocks (take n bands)) (now (counts .entry)) (now (lengths .entry)) (now (marks .entry)) ⌝ }
+    requires { ⌜ (n ≤ 3) × AllUpTo64 (take n bands) × (length (now state) ≡ stateLength (take n bands))
+        × (length (now counts) ≡ length (blocks (take n bands))) × PassesLeft (now counts) (now lengths) (now marks)
+        × (segmentTooLong (now counts) (now lengths) (now marks) ≡ false) ⌝ }
+    ensures { λ r. ⌜ r ≡ fieldTooWide (now (state .entry)) (blocks (take n bands)) (now (counts .entry)) (now (lengths .entry))
+        (now (marks .entry)) ⌝ }
 {
     let mut at: usize = 13;
     let mut first: usize = 0;
@@ -135,8 +141,11 @@ pub fn segments_refusal(
     lengths: &[u32],
     marks: &[u8],
 ) -> u32
-    requires { ⌜ (n ≤ 3) × AllUpTo64 (take n bands) × (length (now state) ≡ stateLength (take n bands)) × (length (now counts) ≡ length (blocks (take n bands))) × PassesLeft (now counts) (now lengths) (now marks) × (length (now lengths) ≤ 4294967296) × (any (λ c. ltb 164 c) (now counts) ≡ false) ⌝ }
-    ensures { λ r. ⌜ r ≡ segmentsRefusal (now (state .entry)) (blocks (take n bands)) (now (counts .entry)) (now (lengths .entry)) (now (marks .entry)) ⌝ }
+    requires { ⌜ (n ≤ 3) × AllUpTo64 (take n bands) × (length (now state) ≡ stateLength (take n bands))
+        × (length (now counts) ≡ length (blocks (take n bands))) × PassesLeft (now counts) (now lengths) (now marks)
+        × (length (now lengths) ≤ 4294967296) × (any (λ c. ltb 164 c) (now counts) ≡ false) ⌝ }
+    ensures { λ r. ⌜ r ≡ segmentsRefusal (now (state .entry)) (blocks (take n bands)) (now (counts .entry)) (now (lengths .entry))
+        (now (marks .entry)) ⌝ }
 {
     if t2_narrow::surely_narrow(state, bands, n, lengths) {
         return 0;

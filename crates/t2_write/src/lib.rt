@@ -16,7 +16,10 @@ pub fn write(
     number: u32,
     output: &mut [u8],
 ) -> WriteAnswer
-    ensures { λ r. ⌜ record { answer = r; state = now (state .exit); scratch = now (scratch .exit); output = now (output .exit) } ≡ write (now (state .entry)) (now (scratch .entry)) (contribution (now (counts .entry)) (now (lengths .entry)) (now (marks .entry))) (now (body .entry)) markers number (now (output .entry)) ⌝ }
+    ensures { λ r. ⌜ record { answer = r; state = now (state .exit); scratch = now (scratch .exit); output = now (output .exit) }
+        ≡ write (now (state .entry)) (now (scratch .entry))
+        (contribution (now (counts .entry)) (now (lengths .entry)) (now (marks .entry))) (now (body .entry)) markers number
+        (now (output .entry)) ⌝ }
 {
     let why = t2_refusals::measure_refusal(state, scratch.len(), counts, lengths, marks);
     if why != 0 {

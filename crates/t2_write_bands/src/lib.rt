@@ -1,4 +1,5 @@
-// The coding of a packet's blocks band by band (opj_t2_encode_packet of t2.rs): a band's new blocks are set, then all are coded, row by row.
+// The coding of a packet's blocks band by band (opj_t2_encode_packet of t2.rs): a band's new blocks are set, then all are coded,
+// row by row.
 ghost use mathlib.Core.Path.{_≡_};
 ghost use Prim.Native.Nat.{_+_, _<_, _≤_};
 ghost use lib.Dec.{T};
@@ -32,8 +33,12 @@ fn code_blocks(
     lengths: &[u32],
     marks: &[u8],
 ) -> Run
-    requires { ⌜ (T (isPassTable (now codes))) × (FreeBitsClear (r .bio)) × (BandIn (length (now words)) (g .start) band) × (g ≡ gridOf (g .start) band) × (tree ≡ padded (levels (band .across) (band .down))) × (layer < notYetIncluded) × (AllFit (now counts) (now lengths) (now marks) (now words) (bandBlocks (g .start) band) (r .block) (r .pass)) ⌝ }
-    ensures { λ s. ⌜ running (now (words .exit)) (now (out .exit)) s ≡ codeAll layer (now (counts .entry)) (now (lengths .entry)) (now (marks .entry)) (bandBlocks (g .start) band) (running (now (words .entry)) (now (out .entry)) r) ⌝ }
+    requires { ⌜ (T (isPassTable (now codes))) × (FreeBitsClear (r .bio)) × (BandIn (length (now words)) (g .start) band)
+        × (g ≡ gridOf (g .start) band) × (tree ≡ padded (levels (band .across) (band .down))) × (layer < notYetIncluded)
+        × (AllFit (now counts) (now lengths) (now marks) (now words) (bandBlocks (g .start) band) (r .block) (r .pass)) ⌝ }
+    ensures { λ s. ⌜ running (now (words .exit)) (now (out .exit)) s
+        ≡ codeAll layer (now (counts .entry)) (now (lengths .entry)) (now (marks .entry)) (bandBlocks (g .start) band)
+        (running (now (words .entry)) (now (out .entry)) r) ⌝ }
 {
     let mut run = r;
     let mut y: usize = 0;
@@ -73,8 +78,13 @@ fn code_band(
     lengths: &[u32],
     marks: &[u8],
 ) -> Run
-    requires { ⌜ (T (isPassTable (now codes))) × (FreeBitsClear (r .bio)) × (BandIn (length (now words)) (g .start) band) × (g ≡ gridOf (g .start) band) × (tree ≡ padded (levels (band .across) (band .down))) × (layer < notYetIncluded) × (r .block + blocksIn band ≤ length (now counts)) × (AllFit (now counts) (now lengths) (now marks) (now words) (bandBlocks (g .start) band) (r .block) (r .pass)) ⌝ }
-    ensures { λ s. ⌜ running (now (words .exit)) (now (out .exit)) s ≡ codeBand layer (now (counts .entry)) (now (lengths .entry)) (now (marks .entry)) (g .start) band (running (now (words .entry)) (now (out .entry)) r) ⌝ }
+    requires { ⌜ (T (isPassTable (now codes))) × (FreeBitsClear (r .bio)) × (BandIn (length (now words)) (g .start) band)
+        × (g ≡ gridOf (g .start) band) × (tree ≡ padded (levels (band .across) (band .down))) × (layer < notYetIncluded)
+        × (r .block + blocksIn band ≤ length (now counts))
+        × (AllFit (now counts) (now lengths) (now marks) (now words) (bandBlocks (g .start) band) (r .block) (r .pass)) ⌝ }
+    ensures { λ s. ⌜ running (now (words .exit)) (now (out .exit)) s
+        ≡ codeBand layer (now (counts .entry)) (now (lengths .entry)) (now (marks .entry)) (g .start) band
+        (running (now (words .entry)) (now (out .entry)) r) ⌝ }
 {
     t2_write_new_blocks::set_new_blocks(words, band, tree, g, layer, counts, r.block);
     code_blocks(
@@ -105,8 +115,14 @@ pub fn code_bands(
     lengths: &[u32],
     marks: &[u8],
 ) -> Bio
-    requires { ⌜ (T (isPassTable (now codes))) × (FreeBitsClear b) × (n ≤ 3) × (AllUpTo64 (take n bands)) × (length (now words) ≡ stateLength (take n bands)) × (layer < notYetIncluded) × (length (now counts) ≡ length (blocks (take n bands))) × (AllFit (now counts) (now lengths) (now marks) (now words) (blocks (take n bands)) 0 0) ⌝ }
-    ensures { λ r. ⌜ leafCoded (now (words .exit)) (now (out .exit)) r ≡ putCoded (output (now (out .entry)) b) (codeBlocks layer (blocks (take n bands)) (now (counts .entry)) (now (lengths .entry)) (now (marks .entry)) (setNewBlocks layer (blocks (take n bands)) (now (counts .entry)) (now (words .entry)))) ⌝ }
+    requires { ⌜ (T (isPassTable (now codes))) × (FreeBitsClear b) × (n ≤ 3) × (AllUpTo64 (take n bands))
+        × (length (now words) ≡ stateLength (take n bands)) × (layer < notYetIncluded)
+        × (length (now counts) ≡ length (blocks (take n bands)))
+        × (AllFit (now counts) (now lengths) (now marks) (now words) (blocks (take n bands)) 0 0) ⌝ }
+    ensures { λ r. ⌜ leafCoded (now (words .exit)) (now (out .exit)) r
+        ≡ putCoded (output (now (out .entry)) b)
+        (codeBlocks layer (blocks (take n bands)) (now (counts .entry)) (now (lengths .entry)) (now (marks .entry))
+        (setNewBlocks layer (blocks (take n bands)) (now (counts .entry)) (now (words .entry)))) ⌝ }
 {
     let trees = tcd_layout::band_levels(bands);
     let mut run = Run {

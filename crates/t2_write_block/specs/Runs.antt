@@ -46,11 +46,13 @@ pub record NextFits (cs ls ms ws : List ℕ) (at block pass : ℕ) : Type 0 wher
   pub counted : block < length cs
   pub many : pass + getD cs block 0 ≤ length ls
   pub marked : length ms ≡ length ls
-  pub passes : PassesFit (getD ws at 0) (getD ws (at + 1) 0) (getD cs block 0) (take (getD cs block 0) (drop pass ls)) (take (getD cs block 0) (drop pass ms))
+  pub passes : PassesFit (getD ws at 0) (getD ws (at + 1) 0) (getD cs block 0) (take (getD cs block 0) (drop pass ls))
+      (take (getD cs block 0) (drop pass ms))
 
 abbrev pub AllFit : List ℕ → List ℕ → List ℕ → List ℕ → List Block → ℕ → ℕ → Type 0
 AllFit cs ls ms ws [] block pass = Unit {0}
-AllFit cs ls ms ws (k ∷ ks) block pass = NextFits cs ls ms ws (k .at) block pass × AllFit cs ls ms ws ks (block + 1) (pass + getD cs block 0)
+AllFit cs ls ms ws (k ∷ ks) block pass = NextFits cs ls ms ws (k .at) block pass
+    × AllFit cs ls ms ws ks (block + 1) (pass + getD cs block 0)
 
 -- ---- setting
 

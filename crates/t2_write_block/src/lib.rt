@@ -36,8 +36,13 @@ fn code_block(
     lengths: &[u32],
     marks: &[u8],
 ) -> Bio
-    requires { ⌜ (T (isPassTable (now codes))) × (FreeBitsClear b) × (BlockIn (length (now words)) p (now row)) × (layer < notYetIncluded) × (PassesFit (getD (now words) (p .at) 0) (getD (now words) (p .at + 1) 0) count (now lengths) (now marks)) ⌝ }
-    ensures { λ r. ⌜ leafCoded (now (words .exit)) (now (out .exit)) r ≡ putCoded (output (now (out .entry)) b) (codeBlock layer (blockIn p (now (row .entry)) 0) count (segmentsOf (now (lengths .entry)) (now (marks .entry))) (now (words .entry))) ⌝ }
+    requires { ⌜ (T (isPassTable (now codes))) × (FreeBitsClear b) × (BlockIn (length (now words)) p (now row))
+        × (layer < notYetIncluded)
+        × (PassesFit (getD (now words) (p .at) 0) (getD (now words) (p .at + 1) 0) count (now lengths) (now marks)) ⌝ }
+    ensures { λ r. ⌜ leafCoded (now (words .exit)) (now (out .exit)) r
+        ≡ putCoded (output (now (out .entry)) b)
+        (codeBlock layer (blockIn p (now (row .entry)) 0) count (segmentsOf (now (lengths .entry)) (now (marks .entry)))
+        (now (words .entry))) ⌝ }
 {
     let told = t2_write_block_parts::code_inclusion(words, out, b, p, row, layer, count);
     if count == 0 {
@@ -61,8 +66,11 @@ fn code_next(
     lengths: &[u32],
     marks: &[u8],
 ) -> Run
-    requires { ⌜ (T (isPassTable (now codes))) × (FreeBitsClear (r .bio)) × (BlockIn (length (now words)) p (now row)) × (layer < notYetIncluded) × (NextFits (now counts) (now lengths) (now marks) (now words) (p .at) (r .block) (r .pass)) ⌝ }
-    ensures { λ s. ⌜ running (now (words .exit)) (now (out .exit)) s ≡ codeNext layer (now (counts .entry)) (now (lengths .entry)) (now (marks .entry)) (blockIn p (now (row .entry)) 0) (running (now (words .entry)) (now (out .entry)) r) ⌝ }
+    requires { ⌜ (T (isPassTable (now codes))) × (FreeBitsClear (r .bio)) × (BlockIn (length (now words)) p (now row))
+        × (layer < notYetIncluded) × (NextFits (now counts) (now lengths) (now marks) (now words) (p .at) (r .block) (r .pass)) ⌝ }
+    ensures { λ s. ⌜ running (now (words .exit)) (now (out .exit)) s
+        ≡ codeNext layer (now (counts .entry)) (now (lengths .entry)) (now (marks .entry)) (blockIn p (now (row .entry)) 0)
+        (running (now (words .entry)) (now (out .entry)) r) ⌝ }
 {
     let block = r.block;
     let next = block + 1;
@@ -102,8 +110,12 @@ pub fn code_row(
     lengths: &[u32],
     marks: &[u8],
 ) -> Run
-    requires { ⌜ (T (isPassTable (now codes))) × (FreeBitsClear (r .bio)) × (RowIn (length (now words)) p (now row) n) × (layer < notYetIncluded) × (AllFit (now counts) (now lengths) (now marks) (now words) (rowBlocks p (now row) 0 n 0) (r .block) (r .pass)) ⌝ }
-    ensures { λ s. ⌜ running (now (words .exit)) (now (out .exit)) s ≡ codeAll layer (now (counts .entry)) (now (lengths .entry)) (now (marks .entry)) (rowBlocks p (now (row .entry)) 0 n 0) (running (now (words .entry)) (now (out .entry)) r) ⌝ }
+    requires { ⌜ (T (isPassTable (now codes))) × (FreeBitsClear (r .bio)) × (RowIn (length (now words)) p (now row) n)
+        × (layer < notYetIncluded)
+        × (AllFit (now counts) (now lengths) (now marks) (now words) (rowBlocks p (now row) 0 n 0) (r .block) (r .pass)) ⌝ }
+    ensures { λ s. ⌜ running (now (words .exit)) (now (out .exit)) s
+        ≡ codeAll layer (now (counts .entry)) (now (lengths .entry)) (now (marks .entry)) (rowBlocks p (now (row .entry)) 0 n 0)
+        (running (now (words .entry)) (now (out .entry)) r) ⌝ }
 {
     let mut run = r;
     let mut i: usize = 0;

@@ -25,8 +25,11 @@ pub fn code_passes(
     lengths: &[u32],
     marks: &[u8],
 ) -> Bio
-    requires { ⌜ (T (isPassTable (now codes))) × (FreeBitsClear b) × (at + 3 < length (now words)) × (1 ≤ count) × (PassesFit (getD (now words) at 0) (getD (now words) (at + 1) 0) count (now lengths) (now marks)) ⌝ }
-    ensures { λ r. ⌜ leafCoded (now (words .exit)) (now (out .exit)) r ≡ putCoded (output (now (out .entry)) b) (codePasses (blockAt at) count (segmentsOf (now (lengths .entry)) (now (marks .entry))) (now (words .entry))) ⌝ }
+    requires { ⌜ (T (isPassTable (now codes))) × (FreeBitsClear b) × (at + 3 < length (now words)) × (1 ≤ count)
+        × (PassesFit (getD (now words) at 0) (getD (now words) (at + 1) 0) count (now lengths) (now marks)) ⌝ }
+    ensures { λ r. ⌜ leafCoded (now (words .exit)) (now (out .exit)) r
+        ≡ putCoded (output (now (out .entry)) b)
+        (codePasses (blockAt at) count (segmentsOf (now (lengths .entry)) (now (marks .entry))) (now (words .entry))) ⌝ }
 {
     let before = t2_segments::length_bits_before(words[at], words[at + 1]);
     let r = t2_write_lengths::put_lengths(codes, out, b, before, count, lengths, marks);
@@ -53,7 +56,9 @@ pub fn code_inclusion(
     count: u32,
 ) -> Bio
     requires { ⌜ (FreeBitsClear b) × (BlockIn (length (now words)) p (now row)) × (layer < notYetIncluded) ⌝ }
-    ensures { λ r. ⌜ leafCoded (now (words .exit)) (now (out .exit)) r ≡ putCoded (output (now (out .entry)) b) (codeInclusion layer (blockIn p (now (row .entry)) 0) count (now (words .entry))) ⌝ }
+    ensures { λ r. ⌜ leafCoded (now (words .exit)) (now (out .exit)) r
+        ≡ putCoded (output (now (out .entry)) b) (codeInclusion layer (blockIn p (now (row .entry)) 0) count (now (words .entry)))
+        ⌝ }
 {
     let at = p.at;
     if words[at] == 0 {
@@ -72,7 +77,8 @@ pub fn code_zero_planes(
     row: &[usize; 7],
 ) -> Bio
     requires { ⌜ (FreeBitsClear b) × (BlockIn (length (now words)) p (now row)) ⌝ }
-    ensures { λ r. ⌜ leafCoded (now (words .exit)) (now (out .exit)) r ≡ putCoded (output (now (out .entry)) b) (codeZeroPlanes (blockIn p (now (row .entry)) 0) (now (words .entry))) ⌝ }
+    ensures { λ r. ⌜ leafCoded (now (words .exit)) (now (out .exit)) r
+        ≡ putCoded (output (now (out .entry)) b) (codeZeroPlanes (blockIn p (now (row .entry)) 0) (now (words .entry))) ⌝ }
 {
     let at = p.at;
     if words[at] == 0 {

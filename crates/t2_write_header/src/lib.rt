@@ -14,8 +14,11 @@ pub fn encode_header(
     lengths: &[u32],
     marks: &[u8],
 ) -> usize
-    requires { ⌜ (measureRefusalFor (now words) (length (now words)) (contribution (now counts) (now lengths) (now marks)) ≡ 0) × (start ≤ 6) ⌝ }
-    ensures { λ r. ⌜ headerCoded (now (words .exit)) (now (out .exit)) r ≡ putHeader (contribution (now (counts .entry)) (now (lengths .entry)) (now (marks .entry))) (now (words .entry)) start (now (out .entry)) ⌝ }
+    requires { ⌜ (measureRefusalFor (now words) (length (now words)) (contribution (now counts) (now lengths) (now marks)) ≡ 0)
+        × (start ≤ 6) ⌝ }
+    ensures { λ r. ⌜ headerCoded (now (words .exit)) (now (out .exit)) r
+        ≡ putHeader (contribution (now (counts .entry)) (now (lengths .entry)) (now (marks .entry))) (now (words .entry)) start
+        (now (out .entry)) ⌝ }
 {
     let bands = tcd_first_words::bands_of(words);
     let n = words[1] as usize;

@@ -21,8 +21,10 @@ pub struct LengthsPut {
 
 // One length per segment.
 fn code_lengths(out: &mut [u8], b: Bio, lengths: &[u32], marks: &[u8], lenbits: u32) -> Bio
-    requires { ⌜ (FreeBitsClear b) × (BlockPasses (now lengths) (now marks)) × (anyTooWide lenbits (segmentsOf (now lengths) (now marks)) ≡ false) ⌝ }
-    ensures { λ r. ⌜ output (now (out .exit)) r ≡ putBits (output (now (out .entry)) b) (lengthFields lenbits (segmentsOf (now (lengths .entry)) (now (marks .entry)))) ⌝ }
+    requires { ⌜ (FreeBitsClear b) × (BlockPasses (now lengths) (now marks))
+        × (anyTooWide lenbits (segmentsOf (now lengths) (now marks)) ≡ false) ⌝ }
+    ensures { λ r. ⌜ output (now (out .exit)) r
+        ≡ putBits (output (now (out .entry)) b) (lengthFields lenbits (segmentsOf (now (lengths .entry)) (now (marks .entry)))) ⌝ }
 {
     let mut bio = b;
     let mut i: usize = 0;
@@ -46,8 +48,11 @@ fn put_all_lengths(
     lengths: &[u32],
     marks: &[u8],
 ) -> LengthsPut
-    requires { ⌜ (T (isPassTable (now codes))) × (FreeBitsClear b) × (1 ≤ count) × (count ≡ length (now lengths)) × (BlockPasses (now lengths) (now marks)) × (before ≤ 32) × (blockTooWide before (segmentsOf (now lengths) (now marks)) ≡ false) ⌝ }
-    ensures { λ r. ⌜ lengthsPut (now (out .exit)) r ≡ putLengths (output (now (out .entry)) b) before count (segmentsOf (now (lengths .entry)) (now (marks .entry))) ⌝ }
+    requires { ⌜ (T (isPassTable (now codes))) × (FreeBitsClear b) × (1 ≤ count) × (count ≡ length (now lengths))
+        × (BlockPasses (now lengths) (now marks)) × (before ≤ 32)
+        × (blockTooWide before (segmentsOf (now lengths) (now marks)) ≡ false) ⌝ }
+    ensures { λ r. ⌜ lengthsPut (now (out .exit)) r
+        ≡ putLengths (output (now (out .entry)) b) before count (segmentsOf (now (lengths .entry)) (now (marks .entry))) ⌝ }
 {
     let more = t2_segments::segment_increment(lengths, marks, before);
     let lenbits = before + more;
@@ -66,8 +71,10 @@ fn put_one_length(
     count: u32,
     s: CodedSegment,
 ) -> LengthsPut
-    requires { ⌜ (T (isPassTable (now codes))) × (FreeBitsClear b) × (1 ≤ count) × (count ≤ 164) × (before ≤ 32) × (s .bytes < 2 ^ 31) × (blockTooWide before (segment (s .passes) (s .bytes) ∷ []) ≡ false) ⌝ }
-    ensures { λ r. ⌜ lengthsPut (now (out .exit)) r ≡ putLengths (output (now (out .entry)) b) before count (segment (s .passes) (s .bytes) ∷ []) ⌝ }
+    requires { ⌜ (T (isPassTable (now codes))) × (FreeBitsClear b) × (1 ≤ count) × (count ≤ 164) × (before ≤ 32) × (s .bytes < 2 ^ 31)
+        × (blockTooWide before (segment (s .passes) (s .bytes) ∷ []) ≡ false) ⌝ }
+    ensures { λ r. ⌜ lengthsPut (now (out .exit)) r
+        ≡ putLengths (output (now (out .entry)) b) before count (segment (s .passes) (s .bytes) ∷ []) ⌝ }
 {
     let bytes = s.bytes as u32;
     let more = t2_segments::bits_missing(bytes, s.passes, before);
@@ -89,8 +96,11 @@ pub fn put_lengths(
     lengths: &[u32],
     marks: &[u8],
 ) -> LengthsPut
-    requires { ⌜ (T (isPassTable (now codes))) × (FreeBitsClear b) × (1 ≤ count) × (count ≡ length (now lengths)) × (BlockPasses (now lengths) (now marks)) × (before ≤ 32) × (blockTooWide before (segmentsOf (now lengths) (now marks)) ≡ false) ⌝ }
-    ensures { λ r. ⌜ lengthsPut (now (out .exit)) r ≡ putLengths (output (now (out .entry)) b) before count (segmentsOf (now (lengths .entry)) (now (marks .entry))) ⌝ }
+    requires { ⌜ (T (isPassTable (now codes))) × (FreeBitsClear b) × (1 ≤ count) × (count ≡ length (now lengths))
+        × (BlockPasses (now lengths) (now marks)) × (before ≤ 32)
+        × (blockTooWide before (segmentsOf (now lengths) (now marks)) ≡ false) ⌝ }
+    ensures { λ r. ⌜ lengthsPut (now (out .exit)) r
+        ≡ putLengths (output (now (out .entry)) b) before count (segmentsOf (now (lengths .entry)) (now (marks .entry))) ⌝ }
 {
     let first = t2_segments::segment_at(lengths, marks, 0);
     if first.passes == count {

@@ -21,7 +21,8 @@ fn set_rows(
     counts: &[u32],
     block: usize,
 )
-    requires { ⌜ (BandIn (length (now words)) (g .start) band) × (g ≡ gridOf (g .start) band) × (tree ≡ padded (levels (band .across) (band .down))) × (block + blocksIn band ≤ length (now counts)) ⌝ }
+    requires { ⌜ (BandIn (length (now words)) (g .start) band) × (g ≡ gridOf (g .start) band)
+        × (tree ≡ padded (levels (band .across) (band .down))) × (block + blocksIn band ≤ length (now counts)) ⌝ }
     ensures { λ _. ⌜ now (words .exit) ≡ setAll layer (now (counts .entry)) (bandBlocks (g .start) band) block (now (words .entry)) ⌝ }
 {
     let mut y: usize = 0;
@@ -45,7 +46,8 @@ pub fn set_new_blocks(
     counts: &[u32],
     block: usize,
 )
-    requires { ⌜ (BandIn (length (now words)) (g .start) band) × (g ≡ gridOf (g .start) band) × (tree ≡ padded (levels (band .across) (band .down))) × (block + blocksIn band ≤ length (now counts)) ⌝ }
+    requires { ⌜ (BandIn (length (now words)) (g .start) band) × (g ≡ gridOf (g .start) band)
+        × (tree ≡ padded (levels (band .across) (band .down))) × (block + blocksIn band ≤ length (now counts)) ⌝ }
     ensures { λ _. ⌜ now (words .exit) ≡ setAll layer (now (counts .entry)) (bandBlocks (g .start) band) block (now (words .entry)) ⌝ }
 {
     let end = block + tcd_layout::band_blocks(band);

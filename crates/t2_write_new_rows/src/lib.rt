@@ -31,7 +31,8 @@ pub fn set_row(
     block: usize,
 )
     requires { ⌜ (RowIn (length (now words)) p (now row) n) × (block + n ≤ length (now counts)) ⌝ }
-    ensures { λ _. ⌜ now (words .exit) ≡ setAll layer (now (counts .entry)) (rowBlocks p (now (row .entry)) 0 n 0) block (now (words .entry)) ⌝ }
+    ensures { λ _. ⌜ now (words .exit)
+        ≡ setAll layer (now (counts .entry)) (rowBlocks p (now (row .entry)) 0 n 0) block (now (words .entry)) ⌝ }
 {
     let mut i: usize = 0;
     while i < n {

@@ -51,7 +51,9 @@ pub fn put_front(
     number: u32,
 ) -> usize
     requires { ⌜ measureRefusalFor (now scratch) (length (now scratch)) (contribution (now counts) (now lengths) (now marks)) ≡ 0 ⌝ }
-    ensures { λ r. ⌜ headerCoded (now (scratch .exit)) (now (output .exit)) r ≡ putFront (contribution (now (counts .entry)) (now (lengths .entry)) (now (marks .entry))) (now (scratch .entry)) markers number (now (output .entry)) ⌝ }
+    ensures { λ r. ⌜ headerCoded (now (scratch .exit)) (now (output .exit)) r
+        ≡ putFront (contribution (now (counts .entry)) (now (lengths .entry)) (now (marks .entry))) (now (scratch .entry)) markers
+        number (now (output .entry)) ⌝ }
 {
     let start = put_sop(output, markers.sop, number);
     let end = t2_write_header::encode_header(scratch, output, start, counts, lengths, marks);

@@ -10,7 +10,8 @@ use Rattle.t800.specs.declared.Markers.{Markers}
 use Rattle.t800.specs.WriteHeader.{Contribution}
 use Rattle.t800.specs.Base.{sum}
 use Rattle.t800.specs.Segments.{termAll, bypass}
-use Rattle.t800.proofs.Table.{Step, starts, loads-writer, loads-reader, holds-writer, holds-reader, writes, heads, reads, Row, rowHolds, failing}
+use Rattle.t800.proofs.Table.{Step, starts, loads-writer, loads-reader, holds-writer, holds-reader, writes, heads, reads}
+use Rattle.t800.proofs.Table.{Row, rowHolds, failing}
 
 -- ---- short forms
 
@@ -39,7 +40,9 @@ contribution cs ls ms = record { counts = cs; lengths = ls; marks = ms }
 
 -- a call with the scratch of n words, the body of the lengths' sum, and so many bytes of output
 abbrev put : ℕ → List ℕ → List ℕ → List ℕ → ℕ → ℕ → List ℕ → Step
-put n cs ls ms room why bytes = writes (record { contribution = contribution cs ls ms; markers = plain; number = 0; scratch = n; body = sum ls; output = room }) why bytes
+put n cs ls ms room why bytes =
+    writes (record { contribution = contribution cs ls ms; markers = plain; number = 0; scratch = n; body = sum ls; output = room })
+    why bytes
 
 -- and accepted, with just the output it needs
 abbrev puts : ℕ → List ℕ → List ℕ → List ℕ → List ℕ → Step
@@ -47,7 +50,8 @@ puts n cs ls ms bytes = put n cs ls ms (length bytes + sum ls) 0 bytes
 
 -- a read of k blocks with n scratch words and five records
 abbrev get : ℕ → ℕ → List ℕ → List ℕ → List ℕ → List ℕ → Step
-get n k src answer reports records = reads (record { markers = plain; input = src; scratch = n; reports = 4 * k; records = 20 }) answer reports records
+get n k src answer reports records =
+    reads (record { markers = plain; input = src; scratch = n; reports = 4 * k; records = 20 }) answer reports records
 
 -- the answer of a packet without markers: present, bytes taken, segments
 abbrev told : ℕ → ℕ → ℕ → List ℕ
@@ -84,9 +88,24 @@ a-to-l =
     ∷ one (get 23 1 (0x00 ∷ []) (told 0 1 0) (copies 4 0) [] ∷ [])
     -- I: A with both markers, number 65,537
     ∷ one
-    (writes (record { contribution = contribution (1 ∷ []) (5 ∷ []) (0 ∷ []); markers = marked; number = 65537; scratch = 23; body = 5; output = 20 }) 0
+    (writes
+    (record {
+      contribution = contribution (1 ∷ []) (5 ∷ []) (0 ∷ []);
+      markers = marked;
+      number = 65537;
+      scratch = 23;
+      body = 5;
+      output = 20;
+    }) 0
     (0xff ∷ 0x91 ∷ 0x00 ∷ 0x04 ∷ 0x00 ∷ 0x01 ∷ 0xe5 ∷ 0xff ∷ 0x92 ∷ [])
-    ∷ reads (record { markers = marked; input = 0xff ∷ 0x91 ∷ 0x00 ∷ 0x04 ∷ 0x00 ∷ 0x01 ∷ 0xe5 ∷ 0xff ∷ 0x92 ∷ copies 5 7; scratch = 23; reports = 4; records = 4 })
+    ∷ reads
+    (record {
+      markers = marked;
+      input = 0xff ∷ 0x91 ∷ 0x00 ∷ 0x04 ∷ 0x00 ∷ 0x01 ∷ 0xe5 ∷ 0xff ∷ 0x92 ∷ copies 5 7;
+      scratch = 23;
+      reports = 4;
+      records = 4;
+    })
     (told 1 9 1) (1 ∷ 0 ∷ 5 ∷ 1 ∷ []) (0 ∷ 1 ∷ 1 ∷ 5 ∷ [])
     ∷ [])
     -- J: absent in layer 0, then 1 pass of 5, then 1 pass of 3
@@ -176,12 +195,15 @@ abbrev wrote : ℕ → ℕ → List ℕ
 wrote layer bits = words 1 0 layer (node 0 1 1) (node 0 1 1) (block 1 bits 0 0)
 
 abbrev read-one : ℕ → ℕ → ℕ → List ℕ
-read-one style layer bits = words 2 style layer (node 0 1 0) (node 0 1 0) (block 1 bits (cond (termAll style) 1 (cond (bypass style) 10 109)) 1)
+read-one style layer bits =
+    words 2 style layer (node 0 1 0) (node 0 1 0) (block 1 bits (cond (termAll style) 1 (cond (bypass style) 10 109)) 1)
 
 -- ---- the refusals of writing and measuring, each where every later one could be given too
 
 abbrev writing : ℕ → ℕ → List ℕ → List ℕ → List ℕ → ℕ → ℕ → List ℕ → Step
-writing n body cs ls ms room why bytes = writes (record { contribution = contribution cs ls ms; markers = plain; number = 0; scratch = n; body = body; output = room }) why bytes
+writing n body cs ls ms room why bytes =
+    writes (record { contribution = contribution cs ls ms; markers = plain; number = 0; scratch = n; body = body; output = room })
+    why bytes
 
 -- a list too short, 165 passes, 2^31 bytes, a field of 39 bits, no body, no output
 abbrev all-wrong : ℕ → ℕ → Step
@@ -221,13 +243,22 @@ write-rows =
     ∷ [])
     -- 8 in any block comes before 9 in any: 32 length bits and two passes in the first, 2^31 bytes in the second
     ∷ precinct 2 0 (5 ∷ 5 ∷ [])
-    (loads-writer (1 ∷ 1 ∷ 0 ∷ 1 ∷ 2 ∷ 1 ∷ 5 ∷ copies 6 0 ++ node 0 1 1 ++ node 0 1 1 ++ node 0 1 1 ++ node 0 1 1 ++ node 0 1 1 ++ node 0 1 1 ++ block 1 32 0 0 ++ block 1 3 0 0)
+    (loads-writer (1 ∷ 1 ∷ 0 ∷ 1 ∷ 2 ∷ 1 ∷ 5 ∷ copies 6 0 ++ node 0 1 1 ++ node 0 1 1 ++ node 0 1 1 ++ node 0 1 1 ++ node 0 1 1 ++
+    node 0 1 1 ++ block 1 32 0 0 ++ block 1 3 0 0)
     ∷ writing 39 0 (2 ∷ 1 ∷ []) (1 ∷ 1 ∷ 2 ^ 31 ∷ []) (0 ∷ 0 ∷ 0 ∷ []) 0 8 []
     ∷ writing 39 0 (2 ∷ 1 ∷ []) (1 ∷ 1 ∷ (2 ^ 31 - 1) ∷ []) (0 ∷ 0 ∷ 0 ∷ []) 0 9 []
     ∷ [])
     -- a header too long to be built with its body: 2^31 - 1 bytes take 31 bits
     ∷ one
-    (heads (record { contribution = contribution (1 ∷ []) ((2 ^ 31 - 1) ∷ []) (0 ∷ []); markers = plain; number = 0; scratch = 23; body = 0; output = 0 }) 0
+    (heads
+    (record {
+      contribution = contribution (1 ∷ []) ((2 ^ 31 - 1) ∷ []) (0 ∷ []);
+      markers = plain;
+      number = 0;
+      scratch = 23;
+      body = 0;
+      output = 0;
+    }) 0
     (0xef ∷ 0xff ∷ 0x7f ∷ 0xff ∷ 0x5f ∷ 0xff ∷ 0x7f ∷ 0xff ∷ 0x70 ∷ [])
     ∷ holds-writer (words 1 0 1 (node 0 0 1) (node 0 0 1) (block 1 31 0 0))
     ∷ [])
@@ -236,7 +267,8 @@ write-rows =
 -- ---- the refusals of reading
 
 abbrev reading : ℕ → ℕ → ℕ → List ℕ → ℕ → Step
-reading n reports records src why = reads (record { markers = plain; input = src; scratch = n; reports = reports; records = records }) (no why) [] []
+reading n reports records src why =
+    reads (record { markers = plain; input = src; scratch = n; reports = reports; records = records }) (no why) [] []
 
 -- one pass with an increment of 30, which gives 9
 abbrev too-wide : List ℕ
@@ -267,7 +299,8 @@ read-rows =
     ∷ loads-reader (words 2 4 1 (node 0 1 0) (node 0 1 0) (block 9 32 1 1)) ∷ reading 23 4 4 ends-in-ff 13
     -- 12, and with a byte more the packet: three passes in one segment with 31 length bits
     ∷ loads-reader (words 2 0 1 (node 0 1 0) (node 0 1 0) (block 9 31 109 9)) ∷ reading 23 4 4 ends-in-ff 12
-    ∷ reads (record { markers = plain; input = ends-in-ff ++ 0x7f ∷ []; scratch = 23; reports = 4; records = 4 }) (told 1 6 1) (2 ∷ 0 ∷ 0 ∷ 3 ∷ []) (0 ∷ 0 ∷ 3 ∷ 0x7f80ff ∷ [])
+    ∷ reads (record { markers = plain; input = ends-in-ff ++ 0x7f ∷ []; scratch = 23; reports = 4; records = 4 }) (told 1 6 1)
+    (2 ∷ 0 ∷ 0 ∷ 3 ∷ []) (0 ∷ 0 ∷ 3 ∷ 0x7f80ff ∷ [])
     ∷ holds-reader (words 2 0 2 (node 0 1 0) (node 0 1 0) (block 12 31 109 12))
     ∷ [])
     -- 13 at a segment before 9 at a later one: the first block is A's, the second has an increment of 30
@@ -309,17 +342,23 @@ range-rows =
     ∷ fresh (head 2 1 0 0 65 1 5) (copies 6 0) ∷ fresh (head 2 1 0 0 1 65 5) (copies 6 0) ∷ fresh (head 2 1 0 0 1 1 999) (copies 6 0)
     ∷ fresh (head 2 1 0 0 1 1 5) (1 ∷ copies 5 0) ∷ fresh (head 2 1 0 0 1 1 5) (copies 5 0 ++ 1 ∷ [])
     -- lengths: none, a header cut short, a word too few, a word too many, another geometry
-    ∷ [] ∷ (2 ∷ 1 ∷ []) ∷ (head 2 1 0 0 1 1 5 ++ copies 15 0) ∷ (fresh (head 2 1 0 0 1 1 5) (copies 6 0) ++ 0 ∷ []) ∷ fresh (head 2 1 0 0 2 1 5) (copies 6 0)
+    ∷ [] ∷ (2 ∷ 1 ∷ []) ∷ (head 2 1 0 0 1 1 5 ++ copies 15 0) ∷ (fresh (head 2 1 0 0 1 1 5) (copies 6 0) ++ 0 ∷ []) ∷ fresh
+    (head 2 1 0 0 2 1 5) (copies 6 0)
     -- nodes
-    ∷ words 2 0 1 (node 1000 0 0) (node 999 0 0) (block 0 0 0 0) ∷ words 2 0 1 (node 999 1000 0) (node 999 0 0) (block 0 0 0 0) ∷ words 2 0 1 (node 999 0 2) (node 999 0 0) (block 0 0 0 0)
-    ∷ words 2 0 1 (node 999 0 0) (node 1000 0 0) (block 0 0 0 0) ∷ words 2 0 1 (node 999 0 0) (node 999 1000 0) (block 0 0 0 0) ∷ words 2 0 1 (node 999 0 0) (node 999 0 2) (block 0 0 0 0)
+    ∷ words 2 0 1 (node 1000 0 0) (node 999 0 0) (block 0 0 0 0) ∷ words 2 0 1 (node 999 1000 0) (node 999 0 0) (block 0 0 0 0) ∷
+    words 2 0 1 (node 999 0 2) (node 999 0 0) (block 0 0 0 0)
+    ∷ words 2 0 1 (node 999 0 0) (node 1000 0 0) (block 0 0 0 0) ∷ words 2 0 1 (node 999 0 0) (node 999 1000 0) (block 0 0 0 0) ∷
+    words 2 0 1 (node 999 0 0) (node 999 0 2) (block 0 0 0 0)
     -- blocks: passes above 164 × layer; length bits
     ∷ words 2 0 0 (node 0 1 0) (node 0 1 0) (block 1 3 109 1) ∷ words 2 0 1 (node 0 1 0) (node 0 1 0) (block 165 3 109 1)
-    ∷ words 2 0 1 (node 0 1 0) (node 0 1 0) (block 0 3 0 0) ∷ words 2 0 1 (node 0 1 0) (node 0 1 0) (block 1 0 109 1) ∷ words 2 0 1 (node 0 1 0) (node 0 1 0) (block 1 2 109 1) ∷ words 2 0 1 (node 0 1 0) (node 0 1 0) (block 1 33 109 1)
+    ∷ words 2 0 1 (node 0 1 0) (node 0 1 0) (block 0 3 0 0) ∷ words 2 0 1 (node 0 1 0) (node 0 1 0) (block 1 0 109 1) ∷ words 2 0 1
+    (node 0 1 0) (node 0 1 0) (block 1 2 109 1) ∷ words 2 0 1 (node 0 1 0) (node 0 1 0) (block 1 33 109 1)
     -- limit and passes of the segment: none with passes, some without; a limit that the style doesn't give; none or too many passes
     ∷ words 2 0 1 (node 0 1 0) (node 0 1 0) (block 1 3 0 0) ∷ words 2 0 1 (node 0 1 0) (node 0 1 0) (block 0 0 109 1)
-    ∷ words 2 0 1 (node 0 1 0) (node 0 1 0) (block 1 3 10 1) ∷ words 2 1 1 (node 0 1 0) (node 0 1 0) (block 1 3 109 1) ∷ words 2 1 1 (node 0 1 0) (node 0 1 0) (block 1 3 3 1) ∷ words 2 5 1 (node 0 1 0) (node 0 1 0) (block 1 3 2 1)
-    ∷ words 2 0 1 (node 0 1 0) (node 0 1 0) (block 1 3 109 0) ∷ words 2 0 1 (node 0 1 0) (node 0 1 0) (block 1 3 109 110) ∷ words 2 4 1 (node 0 1 0) (node 0 1 0) (block 1 3 1 2)
+    ∷ words 2 0 1 (node 0 1 0) (node 0 1 0) (block 1 3 10 1) ∷ words 2 1 1 (node 0 1 0) (node 0 1 0) (block 1 3 109 1) ∷ words 2 1 1
+    (node 0 1 0) (node 0 1 0) (block 1 3 3 1) ∷ words 2 5 1 (node 0 1 0) (node 0 1 0) (block 1 3 2 1)
+    ∷ words 2 0 1 (node 0 1 0) (node 0 1 0) (block 1 3 109 0) ∷ words 2 0 1 (node 0 1 0) (node 0 1 0) (block 1 3 109 110) ∷ words 2
+    4 1 (node 0 1 0) (node 0 1 0) (block 1 3 1 2)
     ∷ []))
     ∷ one
     (steps-of (looks-writer 5)
@@ -346,7 +385,8 @@ slip-rows =
       given = band 1 1 5 ∷ [];
       planes = 2 ∷ [];
       style = 0;
-      steps = puts 23 (1 ∷ []) (5 ∷ []) (0 ∷ []) (0xc4 ∷ 0xa0 ∷ []) ∷ get 23 1 (0xc4 ∷ 0xa0 ∷ []) (told 1 2 1) (1 ∷ 3 ∷ 2 ∷ 1 ∷ []) (0 ∷ 1 ∷ 1 ∷ 5 ∷ []) ∷ [];
+      steps = puts 23 (1 ∷ []) (5 ∷ []) (0 ∷ []) (0xc4 ∷ 0xa0 ∷ []) ∷ get 23 1 (0xc4 ∷ 0xa0 ∷ []) (told 1 2 1) (1 ∷ 3 ∷ 2 ∷ 1 ∷ [])
+          (0 ∷ 1 ∷ 1 ∷ 5 ∷ []) ∷ [];
     }
     -- widths from all passes of the block: C twice, the second field as wide as the first
     ∷ one
@@ -364,19 +404,38 @@ slip-rows =
     ∷ [])
     -- no 00 after a last FF: E, again, with EPH after it
     ∷ one
-    (writes (record { contribution = contribution (16 ∷ []) (lengths 16 511) (copies 16 0); markers = record { sop = false; eph = true }; number = 0; scratch = 23; body = 511; output = 517 }) 0
+    (writes
+    (record {
+      contribution = contribution (16 ∷ []) (lengths 16 511) (copies 16 0);
+      markers = record { sop = false; eph = true };
+      number = 0;
+      scratch = 23;
+      body = 511;
+      output = 517;
+    }) 0
     (0xfe ∷ 0xad ∷ 0xff ∷ 0x00 ∷ 0xff ∷ 0x92 ∷ [])
     ∷ [])
     -- a missing marker treated as a refusal: A without markers where both are used, alone and with bytes after it; a half marker
     ∷ one
-    (reads (record { markers = marked; input = 0xe5 ∷ []; scratch = 23; reports = 4; records = 4 }) (0 ∷ 1 ∷ 1 ∷ 1 ∷ 1 ∷ 1 ∷ []) (1 ∷ 0 ∷ 5 ∷ 1 ∷ []) (0 ∷ 1 ∷ 1 ∷ 5 ∷ []) ∷ [])
+    (reads (record { markers = marked; input = 0xe5 ∷ []; scratch = 23; reports = 4; records = 4 }) (0 ∷ 1 ∷ 1 ∷ 1 ∷ 1 ∷ 1 ∷ [])
+    (1 ∷ 0 ∷ 5 ∷ 1 ∷ []) (0 ∷ 1 ∷ 1 ∷ 5 ∷ []) ∷ [])
     ∷ one
-    (reads (record { markers = marked; input = 0xe5 ∷ copies 5 7; scratch = 23; reports = 4; records = 4 }) (0 ∷ 1 ∷ 1 ∷ 1 ∷ 2 ∷ 2 ∷ []) (1 ∷ 0 ∷ 5 ∷ 1 ∷ []) (0 ∷ 1 ∷ 1 ∷ 5 ∷ []) ∷ [])
+    (reads (record { markers = marked; input = 0xe5 ∷ copies 5 7; scratch = 23; reports = 4; records = 4 })
+    (0 ∷ 1 ∷ 1 ∷ 1 ∷ 2 ∷ 2 ∷ []) (1 ∷ 0 ∷ 5 ∷ 1 ∷ []) (0 ∷ 1 ∷ 1 ∷ 5 ∷ []) ∷ [])
     ∷ one
-    (reads (record { markers = record { sop = false; eph = true }; input = 0xe5 ∷ 0xff ∷ []; scratch = 23; reports = 4; records = 4 }) (0 ∷ 1 ∷ 1 ∷ 1 ∷ 0 ∷ 1 ∷ []) (1 ∷ 0 ∷ 5 ∷ 1 ∷ []) (0 ∷ 1 ∷ 1 ∷ 5 ∷ []) ∷ [])
+    (reads
+    (record { markers = record { sop = false; eph = true }; input = 0xe5 ∷ 0xff ∷ []; scratch = 23; reports = 4; records = 4 })
+    (0 ∷ 1 ∷ 1 ∷ 1 ∷ 0 ∷ 1 ∷ []) (1 ∷ 0 ∷ 5 ∷ 1 ∷ []) (0 ∷ 1 ∷ 1 ∷ 5 ∷ []) ∷ [])
     -- an absent packet between its markers
     ∷ one
-    (reads (record { markers = marked; input = 0xff ∷ 0x91 ∷ 0x00 ∷ 0x04 ∷ 0x00 ∷ 0x00 ∷ 0x00 ∷ 0xff ∷ 0x92 ∷ []; scratch = 23; reports = 4; records = 4 }) (told 0 9 0) (copies 4 0) [] ∷ [])
+    (reads
+    (record {
+      markers = marked;
+      input = 0xff ∷ 0x91 ∷ 0x00 ∷ 0x04 ∷ 0x00 ∷ 0x00 ∷ 0x00 ∷ 0xff ∷ 0x92 ∷ [];
+      scratch = 23;
+      reports = 4;
+      records = 4;
+    }) (told 0 9 0) (copies 4 0) [] ∷ [])
     -- a length of 0 takes one bit, and so no increment
     ∷ one (both 1 0 (0xe0 ∷ []))
     -- six zero planes read in a band of five: the block's planes wrap
@@ -391,21 +450,29 @@ slip-rows =
       style = 4;
       steps =
           puts 33 (1 ∷ 2 ∷ []) (5 ∷ 1 ∷ 2 ∷ []) (0 ∷ 1 ∷ 0 ∷ []) (0xe5 ∷ 0xe1 ∷ 0x40 ∷ [])
-          ∷ get 33 2 (0xe5 ∷ 0xe1 ∷ 0x40 ∷ []) (told 1 3 3) (1 ∷ 0 ∷ 5 ∷ 1 ∷ 1 ∷ 0 ∷ 6 ∷ 2 ∷ []) (0 ∷ 1 ∷ 1 ∷ 5 ∷ 1 ∷ 1 ∷ 1 ∷ 1 ∷ 1 ∷ 1 ∷ 1 ∷ 2 ∷ [])
+          ∷ get 33 2 (0xe5 ∷ 0xe1 ∷ 0x40 ∷ []) (told 1 3 3) (1 ∷ 0 ∷ 5 ∷ 1 ∷ 1 ∷ 0 ∷ 6 ∷ 2 ∷ [])
+          (0 ∷ 1 ∷ 1 ∷ 5 ∷ 1 ∷ 1 ∷ 1 ∷ 1 ∷ 1 ∷ 1 ∷ 1 ∷ 2 ∷ [])
           ∷ [];
     }
     -- a state at layer 0 is taken as it is, where the crate would reset its trees
     ∷ one
     (loads-writer (words 1 0 0 (node 0 0 1) (node 0 0 1) (block 0 0 0 0)) ∷ puts 23 (1 ∷ []) (5 ∷ []) (0 ∷ []) (0x94 ∷ [])
-    ∷ loads-reader (words 2 0 0 (node 0 0 1) (node 0 0 1) (block 0 0 0 0)) ∷ get 23 1 (0x94 ∷ []) (told 1 1 1) (1 ∷ 0 ∷ 5 ∷ 1 ∷ []) (0 ∷ 1 ∷ 1 ∷ 5 ∷ [])
+    ∷ loads-reader (words 2 0 0 (node 0 0 1) (node 0 0 1) (block 0 0 0 0)) ∷ get 23 1 (0x94 ∷ []) (told 1 1 1) (1 ∷ 0 ∷ 5 ∷ 1 ∷ [])
+    (0 ∷ 1 ∷ 1 ∷ 5 ∷ [])
     ∷ [])
     -- zero planes read with one threshold for all: of a root that isn't known, over a leaf that is, one bit is read and not four
     ∷ precinct 2 0 (5 ∷ 5 ∷ [])
-    (loads-reader (2 ∷ 1 ∷ 0 ∷ 0 ∷ 2 ∷ 1 ∷ 5 ∷ copies 6 0 ++ node 999 0 0 ++ node 999 0 0 ++ node 999 0 0 ++ node 0 0 0 ++ node 999 0 0 ++ node 999 0 0 ++ copies 8 0)
+    (loads-reader (2 ∷ 1 ∷ 0 ∷ 0 ∷ 2 ∷ 1 ∷ 5 ∷ copies 6 0 ++ node 999 0 0 ++ node 999 0 0 ++ node 999 0 0 ++ node 0 0 0 ++ node 999
+    0 0 ++ node 999 0 0 ++ copies 8 0)
     ∷ get 39 2 (0xe2 ∷ 0x80 ∷ []) (told 1 2 1) (1 ∷ 0 ∷ 5 ∷ 1 ∷ 0 ∷ 0 ∷ 0 ∷ 0 ∷ []) (0 ∷ 1 ∷ 1 ∷ 5 ∷ [])
     ∷ [])
     -- a precinct without blocks
-    ∷ record { given = band 0 0 5 ∷ []; planes = []; style = 0; steps = puts 13 [] [] [] (0x80 ∷ []) ∷ get 13 0 (0x80 ∷ []) (told 1 1 0) [] [] ∷ [] }
+    ∷ record {
+      given = band 0 0 5 ∷ [];
+      planes = [];
+      style = 0;
+      steps = puts 13 [] [] [] (0x80 ∷ []) ∷ get 13 0 (0x80 ∷ []) (told 1 1 0) [] [] ∷ [];
+    }
     ∷ []
 
 pub rows : List Row

@@ -1,5 +1,6 @@
 -- A table of calls on precincts, and what it is for a row to hold: each call is computed and compared with what the row says of it, with
--- the rule of SCOPE S5 for every lent list, and each read of a packet that the row wrote with the book's entry. No definition rests on this.
+-- the rule of SCOPE S5 for every lent list, and each read of a packet that the row wrote with the book's entry. No definition rests
+-- on this.
 use Prim.Native.Nat.{ℕ, _+_}
 use mathlib.Core.Bool.{Bool, true, false, cond, _&&_, _||_}
 use mathlib.Core.List.{List, [], _∷_, _++_}
@@ -9,19 +10,29 @@ use Rattle.t800.specs.declared.Band.{Band}
 use Rattle.t800.specs.declared.Markers.{Markers}
 use Rattle.t800.specs.declared.ReadAnswer.{ReadAnswer}
 use Rattle.t800.specs.Base.{every, any, sum, halvings, floorLog2, overwrite, wiped}
-use Rattle.t800.specs.Bits.{bitsOf, bitsAfter, lastBytes, packFrom, pack, byteIn, heldBit, getBit, readBitsOnto, readBits, inFF, endsInFF, bytesTaken}
-use Rattle.t800.specs.TagTree.{levelsFrom, levels, nodesIn, nodes, pathFrom, pathToRoot, setValue, lowAfter, nodeBits, knownAfter, codePath, readNode, readPath}
+use Rattle.t800.specs.Bits.{bitsOf, bitsAfter, lastBytes, packFrom, pack, byteIn, heldBit, getBit, readBitsOnto, readBits}
+use Rattle.t800.specs.Bits.{inFF, endsInFF, bytesTaken}
+use Rattle.t800.specs.TagTree.{levelsFrom, levels, nodesIn, nodes, pathFrom, pathToRoot, setValue, lowAfter, nodeBits}
+use Rattle.t800.specs.TagTree.{knownAfter, codePath, readNode, readPath}
 use Rattle.t800.specs.PassCount.{passBits, readPasses}
-use Rattle.t800.specs.Segments.{termAll, bypass, firstLimit, nextLimit, isLimit, segmentsFrom, segmentsOf, width, bitLength, increment, commaBits, lengthFields, readOnes, readComma}
-use Rattle.t800.specs.State.{writer, reader, blocksIn, bandNodes, bandLength, blocksFrom, blocksAt, endOf, blocks, stateLength, bandAt, bands}
-use Rattle.t800.specs.Ranges.{badShape, badStyle, bandTooDeep, blockTooDeep, nodeInRange, blockInRange, bandInRange, bandsInRange, unusedBandsZero, validState}
+use Rattle.t800.specs.Segments.{termAll, bypass, firstLimit, nextLimit, isLimit, segmentsFrom, segmentsOf, width, bitLength}
+use Rattle.t800.specs.Segments.{increment, commaBits, lengthFields, readOnes, readComma}
+use Rattle.t800.specs.State.{writer, reader, blocksIn, bandNodes, bandLength, blocksFrom, blocksAt, endOf, blocks}
+use Rattle.t800.specs.State.{stateLength, bandAt, bands}
+use Rattle.t800.specs.Ranges.{badShape, badStyle, bandTooDeep, blockTooDeep, nodeInRange, blockInRange, bandInRange}
+use Rattle.t800.specs.Ranges.{bandsInRange, unusedBandsZero, validState}
 use Rattle.t800.specs.Start.{freshNodes, freshBlocks, freshBands, bandWords, freshState, setZeroPlanes, startRefusal, start}
 use Rattle.t800.specs.Reports.{reportWords, recordWords}
-use Rattle.t800.specs.WriteHeader.{Contribution, isNew, lengthBitsBefore, setNewBlocks, codeInclusion, codeZeroPlanes, codePasses, codeBlock, codeBlocks, codeHeader, segmentTooLong, fieldTooWide}
-use Rattle.t800.specs.ReadHeader.{opensSegment, currentLimit, currentPasses, passesTaken, readSegment, readSegments, readZeroPlanesFrom, readZeroPlanes, firstReport, againReport, readIncluded, readNewBlock, readOldBlock, readBlock, readBlocks, readHeader}
+use Rattle.t800.specs.WriteHeader.{Contribution, isNew, lengthBitsBefore, setNewBlocks, codeInclusion, codeZeroPlanes}
+use Rattle.t800.specs.WriteHeader.{codePasses, codeBlock, codeBlocks, codeHeader, segmentTooLong, fieldTooWide}
+use Rattle.t800.specs.ReadHeader.{opensSegment, currentLimit, currentPasses, passesTaken, readSegment, readSegments}
+use Rattle.t800.specs.ReadHeader.{readZeroPlanesFrom, readZeroPlanes, firstReport, againReport, readIncluded, readNewBlock}
+use Rattle.t800.specs.ReadHeader.{readOldBlock, readBlock, readBlocks, readHeader}
 use Rattle.t800.specs.MarkerSegments.{sopBytes, ephBytes, withMarkers, readMarker, readSop, readEph}
-use Rattle.t800.specs.Packet.{wrongLists, measureRefusal, front, MeasureResult, measure, packet, writeRefusal, WriteResult, write, readRefusal, readAbsent, readPresent, ReadResult, read}
-use Rattle.t800.specs.Book.{BlockEntry, Entry, opensAt, newEntries, newBook, reportOf, recordsFrom, recordsOf, entryFrom, entry, addCounts}
+use Rattle.t800.specs.Packet.{wrongLists, measureRefusal, front, MeasureResult, measure, packet, writeRefusal, WriteResult}
+use Rattle.t800.specs.Packet.{write, readRefusal, readAbsent, readPresent, ReadResult, read}
+use Rattle.t800.specs.Book.{BlockEntry, Entry, opensAt, newEntries, newBook, reportOf, recordsFrom, recordsOf, entryFrom}
+use Rattle.t800.specs.Book.{entry, addCounts}
 
 -- ---- rows
 
@@ -106,7 +117,8 @@ startHolds s why =
 -- measuring: refused with `why`, or with the lengths of the packet and the state after it in scratch
 unfoldable pub measureHolds : Writing → MeasureResult → ℕ → List ℕ → List ℕ → Bool
 measureHolds c m why bytes after =
-    let done = eqb (m .answer .header) (length bytes) && eqb (m .answer .body) (sum (c .contribution .lengths)) && same (m .scratch) after in
+    let done = eqb (m .answer .header) (length bytes) && eqb (m .answer .body) (sum (c .contribution .lengths)) && same (m .scratch)
+    after in
     let otherwise = eqb (m .answer .header) 0 && eqb (m .answer .body) 0 && same (m .scratch) (scratchOf (c .scratch)) in
     eqb (m .answer .refusal) why && cond (eqb why 0) done otherwise
 
@@ -114,10 +126,12 @@ unfoldable pub writeHolds : Writing → List ℕ → WriteResult → ℕ → Lis
 writeHolds c w o why bytes =
     let out = outputOf (c .output) in
     let scr = scratchOf (c .scratch) in
-    let done = same (o .output) (overwrite out (bytes ++ bodyOf (c .body))) && same (o .scratch) (o .state) && eqb (o .answer .bytes) (length bytes + c .body) in
+    let done = same (o .output) (overwrite out (bytes ++ bodyOf (c .body))) && same (o .scratch) (o .state) && eqb
+    (o .answer .bytes) (length bytes + c .body) in
     let wipes = eqb why 11 in
     let otherwise =
-    same (o .output) (cond wipes (wiped out) out) && same (o .scratch) (cond wipes (wiped scr) scr) && same (o .state) w && eqb (o .answer .bytes) 0 in
+    same (o .output) (cond wipes (wiped out) out) && same (o .scratch) (cond wipes (wiped scr) scr) && same (o .state) w && eqb
+    (o .answer .bytes) 0 in
     eqb (o .answer .refusal) why && cond (eqb why 0) done otherwise
 
 unfoldable pub readHolds : Reading → List ℕ → ReadResult → List ℕ → List ℕ → List ℕ → Bool
@@ -129,7 +143,8 @@ readHolds c r o answer reports records =
     let wipes = leb 9 why in
     let done = same (o .reports) reports && same (o .records) (overwrite rec records) && same (o .scratch) (o .state) in
     let otherwise =
-    same (o .reports) (cond wipes (wiped rep) rep) && same (o .records) (cond wipes (wiped rec) rec) && same (o .scratch) (cond wipes (wiped scr) scr) && same (o .state) r in
+    same (o .reports) (cond wipes (wiped rep) rep) && same (o .records) (cond wipes (wiped rec) rec) && same (o .scratch)
+    (cond wipes (wiped scr) scr) && same (o .state) r in
     same (answerWords (o .answer)) answer && cond (eqb why 0) done otherwise
 
 -- the book's next entry, where the row wrote a packet for it
@@ -166,7 +181,18 @@ stepsHold style (reads c answer reports records ∷ rest) book es w r =
 
 -- `unfolding rowHolds` computes a row: it opens every definition of the base
 unfoldable pub rowHolds : Row → Bool
-unfolding same startHolds measureHolds writeHolds readHolds asOwed stepsHold every any sum halvings floorLog2 overwrite bitsOf bitsAfter lastBytes packFrom pack byteIn heldBit getBit readBitsOnto readBits inFF endsInFF bytesTaken levelsFrom levels nodesIn nodes pathFrom pathToRoot setValue lowAfter nodeBits knownAfter codePath readNode readPath passBits readPasses termAll bypass firstLimit nextLimit isLimit segmentsFrom segmentsOf width bitLength increment commaBits lengthFields readOnes readComma writer reader blocksIn bandNodes bandLength blocksFrom blocksAt endOf blocks stateLength bandAt bands badShape badStyle bandTooDeep blockTooDeep nodeInRange blockInRange bandInRange bandsInRange unusedBandsZero validState freshNodes freshBlocks freshBands bandWords freshState setZeroPlanes startRefusal start reportWords recordWords isNew lengthBitsBefore setNewBlocks codeInclusion codeZeroPlanes codePasses codeBlock codeBlocks codeHeader segmentTooLong fieldTooWide opensSegment currentLimit currentPasses passesTaken readSegment readSegments readZeroPlanesFrom readZeroPlanes firstReport againReport readIncluded readNewBlock readOldBlock readBlock readBlocks readHeader sopBytes ephBytes withMarkers readMarker readSop readEph wrongLists measureRefusal front measure packet writeRefusal write readRefusal readAbsent readPresent read opensAt newEntries newBook reportOf recordsFrom recordsOf entryFrom entry addCounts
+unfolding same startHolds measureHolds writeHolds readHolds asOwed stepsHold every any sum halvings floorLog2 overwrite bitsOf
+    bitsAfter lastBytes packFrom pack byteIn heldBit getBit readBitsOnto readBits inFF endsInFF bytesTaken levelsFrom levels nodesIn
+    nodes pathFrom pathToRoot setValue lowAfter nodeBits knownAfter codePath readNode readPath passBits readPasses termAll bypass
+    firstLimit nextLimit isLimit segmentsFrom segmentsOf width bitLength increment commaBits lengthFields readOnes readComma writer
+    reader blocksIn bandNodes bandLength blocksFrom blocksAt endOf blocks stateLength bandAt bands badShape badStyle bandTooDeep
+    blockTooDeep nodeInRange blockInRange bandInRange bandsInRange unusedBandsZero validState freshNodes freshBlocks freshBands
+    bandWords freshState setZeroPlanes startRefusal start reportWords recordWords isNew lengthBitsBefore setNewBlocks codeInclusion
+    codeZeroPlanes codePasses codeBlock codeBlocks codeHeader segmentTooLong fieldTooWide opensSegment currentLimit currentPasses
+    passesTaken readSegment readSegments readZeroPlanesFrom readZeroPlanes firstReport againReport readIncluded readNewBlock
+    readOldBlock readBlock readBlocks readHeader sopBytes ephBytes withMarkers readMarker readSop readEph wrongLists measureRefusal
+    front measure packet writeRefusal write readRefusal readAbsent readPresent read opensAt newEntries newBook reportOf recordsFrom
+    recordsOf entryFrom entry addCounts
 rowHolds row =
     let bs = row .given in
     let lent = scratchOf (stateLength bs) in

@@ -47,13 +47,15 @@ unfoldable pub recordsFrom : ℕ → ℕ → SegmentRecord → List ℕ → List
 recordsFrom style p now [] = now ∷ []
 recordsFrom style p now (l ∷ ls) =
     let next = now ∷ recordsFrom style (p + 1) (record { block = now .block; opens = 1; passes = 1; bytes = l }) ls in
-    let goesOn = recordsFrom style (p + 1) (record { block = now .block; opens = now .opens; passes = now .passes + 1; bytes = now .bytes + l }) ls in
+    let goesOn = recordsFrom style (p + 1)
+    (record { block = now .block; opens = now .opens; passes = now .passes + 1; bytes = now .bytes + l }) ls in
     cond (opensAt style p) next goesOn
 
 -- the records of block number i, whose passes in this call are those from p on
 unfoldable pub recordsOf : ℕ → ℕ → ℕ → List ℕ → List SegmentRecord
 recordsOf style i p [] = []
-recordsOf style i p (l ∷ ls) = recordsFrom style (p + 1) (record { block = i; opens = cond (opensAt style p) 1 0; passes = 1; bytes = l }) ls
+recordsOf style i p (l ∷ ls) =
+    recordsFrom style (p + 1) (record { block = i; opens = cond (opensAt style p) 1 0; passes = 1; bytes = l }) ls
 
 -- what is owed for one call
 pub record Entry : Type 0 where

@@ -23,7 +23,9 @@ use Rattle.t800.specs.MarkerSegments.{withMarkers, MarkerRead, readSop, 
 
 -- pass counts not as many as the blocks, pass lengths or marks not as many as the counts add up to
 unfoldable pub wrongLists : Contribution → ℕ → Bool
-wrongLists p blocks = not (eqb (length (p .counts)) blocks) || not (eqb (length (p .lengths)) (sum (p .counts))) || not (eqb (length (p .marks)) (sum (p .counts)))
+wrongLists p blocks =
+    not (eqb (length (p .counts)) blocks) || not (eqb (length (p .lengths)) (sum (p .counts))) || not
+    (eqb (length (p .marks)) (sum (p .counts)))
 
 -- 5, 6, 3, 7, 8, 9
 unfoldable pub measureRefusal : List ℕ → List ℕ → Contribution → ℕ
@@ -80,7 +82,9 @@ write ws scratch p body m number output =
     let made = packet ws p body m number in
     let after = codeHeader p ws .words in
     let no : WriteAnswer = record { refusal = why; bytes = 0 } in
-    let done : WriteResult = record { answer = record { refusal = 0; bytes = length made }; state = after; scratch = after; output = overwrite output made } in
+    let done : WriteResult =
+    record { answer = record { refusal = 0; bytes = length made }; state = after; scratch = after; output = overwrite output made }
+    in
     let noSpace : WriteResult = record { answer = no; state = ws; scratch = wiped scratch; output = wiped output } in
     let unchanged : WriteResult = record { answer = no; state = ws; scratch = scratch; output = output } in
     cond (eqb why 0) done (cond (eqb why 11) noSpace unchanged)
@@ -141,6 +145,14 @@ read ws scratch m src reports records =
     let r = readHeader src (length records / recordWidth) ws (first .bio) in
     let absent = readAbsent ws m src reports records s (first .bio) in
     let present = readPresent ws m src records s r in
-    let broken : ReadResult = record { answer = refusedAnswer (r .refusal); state = ws; scratch = wiped scratch; reports = wiped reports; records = wiped records } in
-    let unchanged : ReadResult = record { answer = refusedAnswer why; state = ws; scratch = scratch; reports = reports; records = records } in
+    let broken : ReadResult =
+    record {
+      answer = refusedAnswer (r .refusal);
+      state = ws;
+      scratch = wiped scratch;
+      reports = wiped reports;
+      records = wiped records;
+    } in
+    let unchanged : ReadResult =
+    record { answer = refusedAnswer why; state = ws; scratch = scratch; reports = reports; records = records } in
     cond (not (eqb why 0)) unchanged (cond (eqb (first .value) 0) absent (cond (eqb (r .refusal) 0) present broken))

@@ -33,4 +33,5 @@ readPasses src b =
     let from3 = plus 3 two in
     let from6 = plus 6 five in
     let from37 = plus 37 seven in
-    cond (eqb (first .value) 0) is1 (cond (eqb (second .value) 0) is2 (cond (leb (two .value) 2) from3 (cond (leb (five .value) 30) from6 from37)))
+    cond (eqb (first .value) 0) is1
+    (cond (eqb (second .value) 0) is2 (cond (leb (two .value) 2) from3 (cond (leb (five .value) 30) from6 from37)))

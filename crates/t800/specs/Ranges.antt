@@ -8,7 +8,8 @@ use Rattle.t800.specs.declared.Band.{Band}
 use Rattle.t800.specs.Base.{every, any}
 use Rattle.t800.specs.TagTree.{value, low, known}
 use Rattle.t800.specs.Segments.{isLimit}
-use Rattle.t800.specs.State.{Block, notYetIncluded, notYetPlanes, writer, role, bandCount, style, layer, bands, blocksIn, bandNodes, bandLength, stateLength, passesSoFar, lengthBits, segmentLimit, segmentPasses}
+use Rattle.t800.specs.State.{Block, notYetIncluded, notYetPlanes, writer, role, bandCount, style, layer, bands, blocksIn}
+use Rattle.t800.specs.State.{bandNodes, bandLength, stateLength, passesSoFar, lengthBits, segmentLimit, segmentPasses}
 
 -- ---- refusals 1, 2 and 4
 

@@ -105,7 +105,8 @@ readIncluded src room i k r =
     let z = readZeroPlanes src k r in
     let n = readPasses src (z .bio) in
     let inc = readComma src (n .bio) in
-    let ws = set (set (z .words) (k .at) (passesSoFar (r .words) (k .at) + n .value)) (k .at + 1) (lengthBitsBefore (r .words) k + inc .value) in
+    let ws = set (set (z .words) (k .at) (passesSoFar (r .words) (k .at) + n .value)) (k .at + 1)
+    (lengthBitsBefore (r .words) k + inc .value) in
     let a = cond (isNew (r .words) k) (firstReport k (value (z .words) (k .zeroTree + 3 * k .leaf)) (n .value)) (againReport (n .value)) in
     readSegments src room i k (n .value) (n .value) (withReport a (movedTo ws (inc .bio) r))
 
@@ -142,5 +143,6 @@ readBlocks src room t i (k ∷ ks) r =
 -- all blocks, the bits standing at b; then 12
 unfoldable pub readHeader : List ℕ → ℕ → List ℕ → Bio → HeaderRead
 readHeader src room ws b =
-    let r = readBlocks src room (layer ws) 0 (blocks (bands ws)) (record { refusal = 0; words = ws; bio = b; reports = []; records = [] }) in
+    let r = readBlocks src room (layer ws) 0 (blocks (bands ws))
+    (record { refusal = 0; words = ws; bio = b; reports = []; records = [] }) in
     cond (eqb (r .refusal) 0 && endsInFF src (r .bio)) (refused 12) r

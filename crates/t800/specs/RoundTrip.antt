@@ -70,7 +70,8 @@ unfoldable pub allTerminatedAsStyle : ℕ → List ℕ → List BlockEntry → L
 allTerminatedAsStyle style ws book [] = true
 allTerminatedAsStyle style ws book (measuring c ∷ cs) = allTerminatedAsStyle style ws book cs
 allTerminatedAsStyle style ws book (writing c ∷ cs) =
-    let yes = terminatedAsStyle style book (c .contribution .counts) (c .contribution .marks) && allTerminatedAsStyle style (writeOf ws c .state) (addCounts book (c .contribution .counts)) cs in
+    let yes = terminatedAsStyle style book (c .contribution .counts) (c .contribution .marks) && allTerminatedAsStyle style
+    (writeOf ws c .state) (addCounts book (c .contribution .counts)) cs in
     let no = allTerminatedAsStyle style (writeOf ws c .state) book cs in
     cond (accepted ws c) yes no
 
@@ -111,7 +112,8 @@ pub record GivesEntry (o : Owed) (c : ReadCall) (r : ReadResult) : Type 0 where
 
 -- the same call with more input
 abbrev pub withMore : ReadCall → List ℕ → ReadCall
-withMore c more = record { scratch = c .scratch; markers = c .markers; input = c .input ++ more; reports = c .reports; records = c .records }
+withMore c more = record
+    { scratch = c .scratch; markers = c .markers; input = c .input ++ more; reports = c .reports; records = c .records }
 
 -- From the reader's state ws on, with the packets os still owed: each read of a packet gives the book's entry, also with more input,
 -- and the state that the list leaves is in the ranges of refusal 5. The list may end before all packets are read.
@@ -121,7 +123,8 @@ ReadsAsOwed ws os (refusedRead c ∷ cs) = 0 < readOf ws c .answer .refusal → 
 ReadsAsOwed ws [] (packetRead c ∷ cs) = Unit {0}
 ReadsAsOwed ws (o ∷ os) (packetRead c ∷ cs) =
     ReadsPacket ws o c
-    → (GivesEntry o c (readOf ws c)) × ((more : List ℕ) → GivesEntry o c (readOf ws (withMore c more))) × ReadsAsOwed (readOf ws c .state) os cs
+    → (GivesEntry o c (readOf ws c)) × ((more : List ℕ) → GivesEntry o c (readOf ws (withMore c more)))
+    × ReadsAsOwed (readOf ws c .state) os cs
 
 -- DEMAND 3, for every accepted start of a writer and a reader with the same bands and style
 unfoldable pub RoundTrip : Type 0
@@ -132,7 +135,8 @@ RoundTrip =
     → (ws : List WriterCall)
     → T (allTerminatedAsStyle style (start writer n given style planes lent .state) (newBook (take n given) planes) ws)
     → (rs : List ReaderCall)
-    → ReadsAsOwed (start reader n given style [] lent′ .state) (owed style (start writer n given style planes lent .state) (newBook (take n given) planes) ws) rs
+    → ReadsAsOwed (start reader n given style [] lent′ .state)
+    (owed style (start writer n given style planes lent .state) (newBook (take n given) planes) ws) rs
 
 -- the writer's state stays in the ranges of refusal 5, whatever the marks
 unfoldable pub WriterInRange : Type 0

@@ -23,7 +23,8 @@ freshBlocks (suc n) = 0 ∷ 0 ∷ 0 ∷ 0 ∷ freshBlocks n
 
 unfoldable pub freshBands : List Band → List ℕ
 freshBands [] = []
-freshBands (b ∷ bs) = freshNodes notYetIncluded (bandNodes b) ++ freshNodes notYetPlanes (bandNodes b) ++ freshBlocks (blocksIn b) ++ freshBands bs
+freshBands (b ∷ bs) =
+    freshNodes notYetIncluded (bandNodes b) ++ freshNodes notYetPlanes (bandNodes b) ++ freshBlocks (blocksIn b) ++ freshBands bs
 
 -- three words for each of n bands, 0 where there is none
 unfoldable pub bandWords : List Band → ℕ → List ℕ

@@ -85,7 +85,8 @@ codeHeader p ws =
 -- a segment of 2^31 bytes or more
 unfoldable pub segmentTooLong : List ℕ → List ℕ → List ℕ → Bool
 segmentTooLong [] ls ms = false
-segmentTooLong (c ∷ cs) ls ms = any (λ s. leb (2 ^ 31) (s .bytes)) (segmentsOf (take c ls) (take c ms)) || segmentTooLong cs (drop c ls) (drop c ms)
+segmentTooLong (c ∷ cs) ls ms =
+    any (λ s. leb (2 ^ 31) (s .bytes)) (segmentsOf (take c ls) (take c ms)) || segmentTooLong cs (drop c ls) (drop c ms)
 
 -- a length field wider than 32 bits
 unfoldable pub fieldTooWide : List ℕ → List Block → List ℕ → List ℕ → List ℕ → Bool

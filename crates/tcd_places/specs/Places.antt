@@ -18,7 +18,15 @@ blockAt at = record { inclTree = 0; zeroTree = 0; leaf = 0; path = []; at = at; 
 
 -- a block in a row that begins with these nodes on each level, in a band with so many planes
 abbrev pub blockIn : Place → List ℕ → ℕ → Block
-blockIn p row planes = record { inclTree = p .incl; zeroTree = p .zero; leaf = getD row 0 0 + p .x; path = pathOver row (p .depth) (p .x); at = p .at; planes = planes }
+blockIn p row planes =
+    record {
+      inclTree = p .incl;
+      zeroTree = p .zero;
+      leaf = getD row 0 0 + p .x;
+      path = pathOver row (p .depth) (p .x);
+      at = p .at;
+      planes = planes;
+    }
 
 -- both trees lie before the block's words, and those in a list of so many
 pub record BlockIn (size : ℕ) (p : Place) (row : List ℕ) : Type 0 where
@@ -52,7 +60,8 @@ gridOf start b = record { start = start; nodes = bandNodes b; depth = length (le
 
 -- the first block of its row y
 abbrev pub rowPlace : Grid → ℕ → Place
-rowPlace g y = record { incl = g .start; zero = g .start + 3 * g .nodes; depth = g .depth; x = 0; at = g .start + 6 * g .nodes + 4 * (y * g .w) }
+rowPlace g y = record
+    { incl = g .start; zero = g .start + 3 * g .nodes; depth = g .depth; x = 0; at = g .start + 6 * g .nodes + 4 * (y * g .w) }
 
 abbrev pub bandBlocks : ℕ → Band → List Block
 bandBlocks start b = blocksFrom start b (blocksIn b) 0

@@ -12,7 +12,9 @@ use t800::Band;
 // The words of the bands end where the state does, and are in range.
 fn bands_in_range(state: &[u32], bands: [Band; 3], n: usize) -> bool
     requires { ⌜ (n ≤ 3) × AllUpTo64 (take n bands) ⌝ }
-    ensures { λ r. ⌜ r ≡ (eqb (length (now (state .entry))) (stateLength (take n bands)) && bandsInRange (now (state .entry)) 13 (take n bands)) ⌝ }
+    ensures { λ r.
+        ⌜ r ≡ (eqb (length (now (state .entry))) (stateLength (take n bands)) && bandsInRange (now (state .entry)) 13
+        (take n bands)) ⌝ }
 {
     let mut at: usize = 13;
     let mut i: usize = 0;

@@ -10,7 +10,8 @@ ghost use Rattle.t800.specs.TagTree.{readNode, readPath};
 ghost use Rattle.t800.specs.State.{notYetPlanes};
 ghost use Rattle.t800.specs.ReadHeader.{readZeroPlanesFrom};
 ghost use Rattle.tgt.specs.Path.{pathOver, leafWord, PathIn, NodesIn};
-ghost use Rattle.tgt_read.specs.Reading.{pathRead, leafAfter, belowIn, valueAfter, valueIn, leafOf, nodeRead, nodeAfter, readAt, LeadingZeros};
+ghost use Rattle.tgt_read.specs.Reading.{pathRead, leafAfter, belowIn, valueAfter, valueIn, leafOf, nodeRead, nodeAfter};
+ghost use Rattle.tgt_read.specs.Reading.{readAt, LeadingZeros};
 use bio_read::Decoded;
 use t800::Bio;
 use tgt::AfterNode;
@@ -157,7 +158,9 @@ fn decode_below(
     above: u32,
 ) -> Bio
     requires { ⌜ (b .ct ≤ 8) × (NodesIn (length (now words)) base (now row) levels x) ⌝ }
-    ensures { λ r. ⌜ pathRead (now (words .exit)) r ≡ readPath (now (src .entry)) base threshold (reverse (pathOver (now (row .entry)) levels x)) above (now (words .entry)) b ⌝ }
+    ensures { λ r. ⌜ pathRead (now (words .exit)) r
+        ≡ readPath (now (src .entry)) base threshold (reverse (pathOver (now (row .entry)) levels x)) above (now (words .entry)) b
+        ⌝ }
 {
     let mut bio = b;
     let mut low = above;
@@ -184,7 +187,8 @@ fn decode_path(
     threshold: u32,
 ) -> Bio
     requires { ⌜ (b .ct ≤ 8) × (PathIn (length (now words)) base (now row) depth x) ⌝ }
-    ensures { λ r. ⌜ pathRead (now (words .exit)) r ≡ readPath (now (src .entry)) base threshold (reverse (pathOver (now (row .entry)) depth x)) 0 (now (words .entry)) b ⌝ }
+    ensures { λ r. ⌜ pathRead (now (words .exit)) r
+        ≡ readPath (now (src .entry)) base threshold (reverse (pathOver (now (row .entry)) depth x)) 0 (now (words .entry)) b ⌝ }
 {
     let top = depth - 1;
     let at = tgt::first_word(base, row[top], x, top);
@@ -211,7 +215,9 @@ pub fn opj_tgt_decode(
     threshold: u32,
 ) -> LeafRead
     requires { ⌜ (b .ct ≤ 8) × (PathIn (length (now words)) base (now row) depth x) ⌝ }
-    ensures { λ r. ⌜ leafAfter (now (words .exit)) r ≡ belowIn threshold (leafWord base (now (row .entry)) x) (readPath (now (src .entry)) base threshold (reverse (pathOver (now (row .entry)) depth x)) 0 (now (words .entry)) b) ⌝ }
+    ensures { λ r. ⌜ leafAfter (now (words .exit)) r
+        ≡ belowIn threshold (leafWord base (now (row .entry)) x)
+        (readPath (now (src .entry)) base threshold (reverse (pathOver (now (row .entry)) depth x)) 0 (now (words .entry)) b) ⌝ }
 {
     let bio = decode_path(words, src, b, base, row, depth, x, threshold);
     let value = leaf_value(words, base, row, depth, x);
@@ -235,7 +241,9 @@ fn raise(
     x: usize,
 ) -> Bio
     requires { ⌜ (b .ct ≤ 8) × (PathIn (length (now words)) base (now row) depth x) ⌝ }
-    ensures { λ r. ⌜ pathRead (now (words .exit)) r ≡ readZeroPlanesFrom (now (src .entry)) (leafOf base (now (row .entry)) depth x) (notYetPlanes + 2) 0 (now (words .entry)) b ⌝ }
+    ensures { λ r. ⌜ pathRead (now (words .exit)) r
+        ≡ readZeroPlanesFrom (now (src .entry)) (leafOf base (now (row .entry)) depth x) (notYetPlanes + 2) 0 (now (words .entry)) b
+        ⌝ }
 {
     let mut bio = b;
     let mut threshold: u32 = 0;
@@ -261,7 +269,9 @@ fn read_planes(
     x: usize,
 ) -> Bio
     requires { ⌜ (b .ct ≤ 8) × (PathIn (length (now words)) base (now row) depth x) ⌝ }
-    ensures { λ r. ⌜ pathRead (now (words .exit)) r ≡ readZeroPlanesFrom (now (src .entry)) (leafOf base (now (row .entry)) depth x) (notYetPlanes + 2) 0 (now (words .entry)) b ⌝ }
+    ensures { λ r. ⌜ pathRead (now (words .exit)) r
+        ≡ readZeroPlanesFrom (now (src .entry)) (leafOf base (now (row .entry)) depth x) (notYetPlanes + 2) 0 (now (words .entry)) b
+        ⌝ }
 {
     if depth == 1 {
         return decode_path(words, src, b, base, row, depth, x, LAST_THRESHOLD);
@@ -280,7 +290,10 @@ pub fn opj_tgt_decode_value(
     x: usize,
 ) -> Decoded
     requires { ⌜ (b .ct ≤ 8) × (PathIn (length (now words)) base (now row) depth x) ⌝ }
-    ensures { λ r. ⌜ valueAfter (now (words .exit)) r ≡ valueIn (leafWord base (now (row .entry)) x) (readZeroPlanesFrom (now (src .entry)) (leafOf base (now (row .entry)) depth x) (notYetPlanes + 2) 0 (now (words .entry)) b) ⌝ }
+    ensures { λ r. ⌜ valueAfter (now (words .exit)) r
+        ≡ valueIn (leafWord base (now (row .entry)) x)
+        (readZeroPlanesFrom (now (src .entry)) (leafOf base (now (row .entry)) depth x) (notYetPlanes + 2) 0 (now (words .entry)) b)
+        ⌝ }
 {
     let bio = read_planes(words, src, b, base, row, depth, x);
     let value = leaf_value(words, base, row, depth, x);

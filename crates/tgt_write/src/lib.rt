@@ -59,7 +59,8 @@ fn encode_from(
     threshold: u32,
 ) -> AfterNode
     requires { ⌜ (FreeBitsClear b) × (at + 2 < length (now words)) × (from < threshold) ⌝ }
-    ensures { λ r. ⌜ nodeCoded (now (words .exit)) (now (out .exit)) r ≡ codeFrom threshold at from (now (words .entry)) (output (now (out .entry)) b) ⌝ }
+    ensures { λ r. ⌜ nodeCoded (now (words .exit)) (now (out .exit)) r
+        ≡ codeFrom threshold at from (now (words .entry)) (output (now (out .entry)) b) ⌝ }
 {
     let to = math::opj_uint_max(from, math::opj_uint_min(words[at], threshold));
     words[at + 1] = to;
@@ -92,7 +93,8 @@ fn reached(value: u32, threshold: u32) -> u32
 // The node's one bit: a 0 raises low to the threshold, a 1 tells the value.
 fn encode_one(words: &mut [u32], out: &mut [u8], b: Bio, at: usize, threshold: u32) -> AfterNode
     requires { ⌜ (FreeBitsClear b) × (at + 2 < length (now words)) × (1 ≤ threshold) × (getD (now words) (at + 2) 0 ≡ 0) ⌝ }
-    ensures { λ r. ⌜ nodeCoded (now (words .exit)) (now (out .exit)) r ≡ codeFrom threshold at (threshold - 1) (now (words .entry)) (output (now (out .entry)) b) ⌝ }
+    ensures { λ r. ⌜ nodeCoded (now (words .exit)) (now (out .exit)) r
+        ≡ codeFrom threshold at (threshold - 1) (now (words .entry)) (output (now (out .entry)) b) ⌝ }
 {
     let bit = reached(words[at], threshold);
     let low = threshold - bit;
@@ -111,7 +113,8 @@ fn encode_above(
     threshold: u32,
 ) -> AfterNode
     requires { ⌜ (FreeBitsClear b) × (at + 2 < length (now words)) × (from < threshold) ⌝ }
-    ensures { λ r. ⌜ nodeCoded (now (words .exit)) (now (out .exit)) r ≡ codeFrom threshold at from (now (words .entry)) (output (now (out .entry)) b) ⌝ }
+    ensures { λ r. ⌜ nodeCoded (now (words .exit)) (now (out .exit)) r
+        ≡ codeFrom threshold at from (now (words .entry)) (output (now (out .entry)) b) ⌝ }
 {
     if one_bit(words[at + 2], from, threshold) {
         return encode_one(words, out, b, at, threshold);
@@ -132,7 +135,8 @@ fn encode_node(
     threshold: u32,
 ) -> AfterNode
     requires { ⌜ (FreeBitsClear b) × (at + 2 < length (now words)) ⌝ }
-    ensures { λ r. ⌜ nodeCoded (now (words .exit)) (now (out .exit)) r ≡ codeNode threshold at low (now (words .entry)) (output (now (out .entry)) b) ⌝ }
+    ensures { λ r. ⌜ nodeCoded (now (words .exit)) (now (out .exit)) r
+        ≡ codeNode threshold at low (now (words .entry)) (output (now (out .entry)) b) ⌝ }
 {
     let from = math::opj_uint_max(low, words[at + 1]);
     if threshold <= from {
@@ -153,7 +157,9 @@ pub fn opj_tgt_encode(
     threshold: u32,
 ) -> Bio
     requires { ⌜ (FreeBitsClear b) × (PathIn (length (now words)) base (now row) depth x) ⌝ }
-    ensures { λ r. ⌜ leafCoded (now (words .exit)) (now (out .exit)) r ≡ putCoded (output (now (out .entry)) b) (codePath base threshold (reverse (pathOver (now (row .entry)) depth x)) 0 (now (words .entry))) ⌝ }
+    ensures { λ r. ⌜ leafCoded (now (words .exit)) (now (out .exit)) r
+        ≡ putCoded (output (now (out .entry)) b)
+        (codePath base threshold (reverse (pathOver (now (row .entry)) depth x)) 0 (now (words .entry))) ⌝ }
 {
     let mut bio = b;
     let mut low = 0;

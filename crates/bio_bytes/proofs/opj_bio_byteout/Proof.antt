@@ -25,7 +25,8 @@ returns c =
     λ i.
     output
     ((c .before .before .before .before .store .ensures ∙ ap (set (a .out .now) (a .b .bp)) e) i)
-    (bio≡ _ (byteOut (output (a .out .now) (a .b)) .bio) (c .before .place-after .ensures) m (c .bits-after .ensures ∙ ap (λ (u : ℕ). cond (eqb u 0xff00) 7 8) m) i)
+    (bio≡ _ (byteOut (output (a .out .now) (a .b)) .bio) (c .before .place-after .ensures) m
+    (c .bits-after .ensures ∙ ap (λ (u : ℕ). cond (eqb u 0xff00) 7 8) m) i)
 
 pub opj-bio-byteout-spec : {M : Type 1} → statement M
 opj-bio-byteout-spec =

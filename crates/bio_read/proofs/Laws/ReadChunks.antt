@@ -20,7 +20,8 @@ pub byteIn-ct : (src : List ℕ) (b : Bio) → (7 ≤ byteIn src b .ct) × (byte
 unfolding byteIn
 byteIn-ct src b = seven-or-eight (eqb (b .buf * 256 % 65536) 0xff00)
 
-refill-by : (src : List ℕ) (b : Bio) (t : Bool) → eqb (b .ct) 0 ≡ t → b .ct ≤ 8 → (1 ≤ cond t (byteIn src b) b .ct) × (cond t (byteIn src b) b .ct ≤ 8)
+refill-by : (src : List ℕ) (b : Bio) (t : Bool) → eqb (b .ct) 0 ≡ t → b .ct ≤ 8 → (1 ≤ cond t (byteIn src b) b .ct)
+    × (cond t (byteIn src b) b .ct ≤ 8)
 refill-by src b true e h = let r = byteIn-ct src b in omega arith
 refill-by src b false e h = let n = eqb-false (b .ct) 0 e in omega arith
 
@@ -114,7 +115,8 @@ no-bits : (v w : ℕ) → v ≡ v * 2 ^ 0 + w % 2 ^ 0
 no-bits v w = let z : w % 2 ^ 0 ≡ 0 = omega arith in rw z (omega arith)
 
 -- k bits where k + r are held
-get-all-held : (src : List ℕ) (p u r k v : ℕ) → readBitsOnto src k v (bioOf p u (k + r)) ≡ found (v * 2 ^ k + u / 2 ^ r % 2 ^ k) (bioOf p u r)
+get-all-held : (src : List ℕ) (p u r k v : ℕ) → readBitsOnto src k v (bioOf p u (k + r))
+    ≡ found (v * 2 ^ k + u / 2 ^ r % 2 ^ k) (bioOf p u r)
 unfolding readBitsOnto
 get-all-held src p u r zero v = λ i. found (no-bits v (u / 2 ^ r) i) (bioOf p u (zero-add r i))
 get-all-held src p u r (suc k) v =
@@ -132,7 +134,8 @@ get-all-held src p u r (suc k) v =
     two : 2 * 2 ^ k ≡ 2 ^ suc k
     two = omega arith
 
-onto-held : (src : List ℕ) (b : Bio) (k v : ℕ) → k ≤ b .ct → readBitsOnto src k v b ≡ found (v * 2 ^ k + heldBits b k .value) (heldBits b k .bio)
+onto-held : (src : List ℕ) (b : Bio) (k v : ℕ) → k ≤ b .ct → readBitsOnto src k v b
+    ≡ found (v * 2 ^ k + heldBits b k .value) (heldBits b k .bio)
 unfolding heldBits
 onto-held src b k v h =
     let e : b .ct ≡ k + (b .ct - k) = omega arith in
@@ -151,10 +154,12 @@ getBit-read src b = let e : getBit src b .value ≡ 0 * 2 + getBit src b .value 
 
 -- ---- a turn
 
-onto-split : (src : List ℕ) (k m v : ℕ) (b : Bio) → readBitsOnto src (k + m) v b ≡ readBitsOnto src m (readBitsOnto src k v b .value) (readBitsOnto src k v b .bio)
+onto-split : (src : List ℕ) (k m v : ℕ) (b : Bio) → readBitsOnto src (k + m) v b
+    ≡ readBitsOnto src m (readBitsOnto src k v b .value) (readBitsOnto src k v b .bio)
 unfolding readBitsOnto
 onto-split src zero m v b = ap (λ (n : ℕ). readBitsOnto src n v b) (zero-add m)
-onto-split src (suc k) m v b = ap (λ (n : ℕ). readBitsOnto src n v b) (suc-add k m) ∙ onto-split src k m (2 * v + getBit src b .value) (getBit src b .bio)
+onto-split src (suc k) m v b = ap (λ (n : ℕ). readBitsOnto src n v b) (suc-add k m)
+    ∙ onto-split src k m (2 * v + getBit src b .value) (getBit src b .bio)
 
 refill-once : (src : List ℕ) (b : Bio) → b .ct ≤ 8 → getBit src (refill src b) ≡ getBit src b
 unfolding getBit refill

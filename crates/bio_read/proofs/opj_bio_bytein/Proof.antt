@@ -22,7 +22,8 @@ returns c =
     let inside = c .before .before .if1 .taken in
     bio≡ _ _
     (omega arith)
-    (ap₂ bitOr (moved-is (b .buf)) (c .wide .ensures) ∙ or-byte (b .buf) (getD src (b .bp) 0) (omega (arith, c .before .shared-slice-known2 .given (b .bp))))
+    (ap₂ bitOr (moved-is (b .buf)) (c .wide .ensures)
+    ∙ or-byte (b .buf) (getD src (b .bp) 0) (omega (arith, c .before .shared-slice-known2 .given (b .bp))))
     (c .before .before .before .bits-after .ensures ∙ ap (λ (u : ℕ). cond (eqb u 0xff00) 7 8) (moved-is (b .buf)))
 
 returns-2 : tie.Need-returns-2

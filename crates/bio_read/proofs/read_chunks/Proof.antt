@@ -42,7 +42,8 @@ shl-value : tie.Need-shl-value Inv-loop μ-loop
 shl-value c =
     let l = c .before .before .before .before .before .loop in
     let e = c .before .before .opj-uint-min .ensures in
-    let r = refilled (c .before .before .before .before .before .before .before .args .src .now) (l .bio) _ (l .inv .0) (c .before .before .before .refill .ensures) in
+    let r = refilled (c .before .before .before .before .before .before .before .args .src .now) (l .bio) _ (l .inv .0)
+    (c .before .before .before .refill .ensures) in
     omega (arith, r .1)
 
 sub-left : tie.Need-sub-left Inv-loop μ-loop
@@ -52,7 +53,8 @@ loop-less : tie.Need-loop-less Inv-loop μ-loop
 loop-less c =
     let l = c .before .before .before .before .before .before .loop in
     let e = c .before .before .before .opj-uint-min .ensures in
-    let r = refilled (c .before .before .before .before .before .before .before .before .args .src .now) (l .bio) _ (l .inv .0) (c .before .before .before .before .refill .ensures) in
+    let r = refilled (c .before .before .before .before .before .before .before .before .args .src .now) (l .bio) _ (l .inv .0)
+    (c .before .before .before .before .refill .ensures) in
     omega (arith, r .0, c .before .before .before .before .before .loop-test .taken)
 
 loop-again : tie.Need-loop-again Inv-loop μ-loop
@@ -76,7 +78,8 @@ loop-again c =
       rw is (rw q at (after-fits (l .value) (g .value) (n - l .left) k (l .inv .3) small fit)),
       ap (λ (v : ℕ). readBitsOnto src (l .left - k) v (g .bio)) is
           ∙ ap (λ (d : Decoded). readBitsOnto src (l .left - k) (l .value * 2 ^ k + d .value) (d .bio)) h
-          ∙ read-turn src (l .bio) m (l .left) k (l .value) (l .inv .0) (c .before .before .before .before .refill .ensures) (c .before .before .before .before .before .loop-test .taken) (omega arith) (omega arith)
+          ∙ read-turn src (l .bio) m (l .left) k (l .value) (l .inv .0) (c .before .before .before .before .refill .ensures)
+          (c .before .before .before .before .before .loop-test .taken) (omega arith) (omega arith)
           ∙ l .inv .4,
     )
 

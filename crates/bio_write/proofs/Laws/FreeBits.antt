@@ -41,7 +41,11 @@ holdBit-clear : (b : Bio) (bit : ℕ) → FreeBitsClear b → 1 ≤ b .ct → Fr
 unfolding holdBit
 holdBit-clear b bit h l =
     let few = h .atMostEight in
-    record { atMostEight = omega arith; clear = add-mul-mod-self-right (b .buf) bit (2 ^ (b .ct - 1)) ∙ clear-under (b .buf) (b .ct) l (h .clear) }
+    record {
+      atMostEight = omega arith;
+      clear = add-mul-mod-self-right (b .buf) bit (2 ^ (b .ct - 1))
+          ∙ clear-under (b .buf) (b .ct) l (h .clear);
+    }
 
 room-by : (o : Output) (t : Bool) → eqb (o .bio .ct) 0 ≡ t → FreeBitsClear (o .bio)
     → FreeBitsClear (cond t (byteOut o) o .bio) × (1 ≤ cond t (byteOut o) o .bio .ct)

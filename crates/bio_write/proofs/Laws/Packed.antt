@@ -10,7 +10,8 @@ use lib.Seq.{sets, set-out}
 use borrow.Author.Tests.{eq-eqb, ne-eqb, eqb-true, eqb-false, ltb-true, ltb-false}
 use Rattle.t800.specs.Bits.{bitsAfter, lastBytes, packFrom, pack}
 use Rattle.t800.proofs.Laws.Pack.{AreBits}
-use Rattle.bio_bytes.specs.Writing.{Output, output, emptyAt, lastPlace, placeAfter, byteOut, makeRoom, holdBit, putBit, putBits, flush, FreeBitsClear}
+use Rattle.bio_bytes.specs.Writing.{Output, output, emptyAt, lastPlace, placeAfter, byteOut, makeRoom, holdBit, putBit, putBits}
+use Rattle.bio_bytes.specs.Writing.{flush, FreeBitsClear}
 use Rattle.bio_bytes.proofs.Laws.HeldWord.{bioOf}
 use Rattle.bio_write.proofs.Laws.FreeBits.{emptyAt-clear, putBit-clear}
 use Rattle.bio_write.proofs.Laws.WriteChunks.{put-held}
@@ -55,7 +56,8 @@ sets-after vs o p false e l =
     sets-out vs o (min (p + 1) lastPlace) (omega arith) ∙ sym (sets-out vs o (suc p) (omega arith))
 
 -- one byte, and those after it
-stores-cons : (e : Output) (o : List ℕ) (p v : ℕ) (vs : List ℕ) → length o ≤ lastPlace → Stores e (set o p v) (placeAfter p) vs → Stores e o p (v ∷ vs)
+stores-cons : (e : Output) (o : List ℕ) (p v : ℕ) (vs : List ℕ) → length o ≤ lastPlace → Stores e (set o p v) (placeAfter p) vs
+    → Stores e o p (v ∷ vs)
 unfolding placeAfter
 stores-cons e o p v vs l s =
     let n = length-set o p v in
@@ -90,7 +92,8 @@ flush-stores o p u c l = flush-by o p u c (eqb (u % 256) 255) refl l
 
 -- a full byte goes out, and the bit x into the next
 out-then-held : (o : List ℕ) (p u x : ℕ) (t : Bool) → eqb (u % 256) 255 ≡ t
-    → putBit (output o (bioOf p u 0)) x ≡ output (set o p (u % 256)) (bioOf (placeAfter p) (u * 256 % 65536 + x * 2 ^ (cond t 7 8 - 1)) (cond t 7 8 - 1))
+    → putBit (output o (bioOf p u 0)) x
+    ≡ output (set o p (u % 256)) (bioOf (placeAfter p) (u * 256 % 65536 + x * 2 ^ (cond t 7 8 - 1)) (cond t 7 8 - 1))
 unfolding putBit makeRoom byteOut holdBit
 out-then-held o p u x t e = simp (moved-ff u t e)
 
@@ -113,7 +116,8 @@ stores-packed (x ∷ xs) o p u zero h are l =
     let n = length-set o p (u % 256) in
     let clear = subst (λ (e : Output). FreeBitsClear (e .bio)) q (putBit-clear (output o (bioOf p u 0)) x h) in
     let rest = stores-packed xs o′ p′ u′ k clear (are .1) (omega arith) in
-    let packed = subst (λ (v : ℕ). Stores (flush (putBits (output o′ (bioOf p′ u′ k)) xs)) o′ p′ (packFrom v k xs)) (first-bit t u x (are .0)) rest in
+    let packed = subst (λ (v : ℕ). Stores (flush (putBits (output o′ (bioOf p′ u′ k)) xs)) o′ p′ (packFrom v k xs))
+    (first-bit t u x (are .0)) rest in
     stores-cons (flush (putBits (output o (bioOf p u 0)) (x ∷ xs))) o p (u % 256) (packFrom (x * 2 ^ k) k xs) l (rw q packed)
 stores-packed (x ∷ xs) o p u (suc c) h are l =
     let u′ = u + x * 2 ^ c in
@@ -121,7 +125,8 @@ stores-packed (x ∷ xs) o p u (suc c) h are l =
     let few = h .atMostEight in
     let clear = subst (λ (e : Output). FreeBitsClear (e .bio)) q (putBit-clear (output o (bioOf p u (suc c))) x h) in
     let rest = stores-packed xs o p u′ c clear (are .1) l in
-    let packed = subst (λ (v : ℕ). Stores (flush (putBits (output o (bioOf p u′ c)) xs)) o p (packFrom v c xs)) (byte-takes c u x (omega arith) (h .clear) (are .0)) rest in
+    let packed = subst (λ (v : ℕ). Stores (flush (putBits (output o (bioOf p u′ c)) xs)) o p (packFrom v c xs))
+    (byte-takes c u x (omega arith) (h .clear) (are .0)) rest in
     rw q packed
 
 -- ---- from the start

@@ -29,7 +29,8 @@ no-bits : (u v t : ℕ) → u ≡ u + v % 2 ^ 0 * t
 no-bits u v t = let z : v % 2 ^ 0 ≡ 0 = omega arith in rw z (omega arith)
 
 -- k bits where k + r are free
-put-all-held : (o : List ℕ) (p u r k v : ℕ) → putBits (output o (bioOf p u (k + r))) (bitsOf k v) ≡ output o (bioOf p (u + v % 2 ^ k * 2 ^ r) r)
+put-all-held : (o : List ℕ) (p u r k v : ℕ) → putBits (output o (bioOf p u (k + r))) (bitsOf k v)
+    ≡ output o (bioOf p (u + v % 2 ^ k * 2 ^ r) r)
 unfolding putBits bitsOf
 put-all-held o p u r zero v = λ i. output o (bioOf p (no-bits u v (2 ^ r) i) (zero-add r i))
 put-all-held o p u r (suc k) v =
@@ -49,7 +50,8 @@ holdBits-is o b v k h =
     sym (put-all-held o (b .bp) (b .buf) (b .ct - k) k v) ∙ ap (λ (c : ℕ). putBits (output o (bioOf (b .bp) (b .buf) c)) (bitsOf k v)) e
 
 pub holdBits-clear : (b : Bio) (v k : ℕ) → FreeBitsClear b → k ≤ b .ct → FreeBitsClear (holdBits b v k)
-holdBits-clear b v k h l = subst FreeBitsClear (sym (ap (λ (s : Output). s .bio) (holdBits-is [] b v k l))) (putBits-clear (output [] b) (bitsOf k v) h)
+holdBits-clear b v k h l =
+    subst FreeBitsClear (sym (ap (λ (s : Output). s .bio) (holdBits-is [] b v k l))) (putBits-clear (output [] b) (bitsOf k v) h)
 
 -- one bit
 pub holdBit-is : (b : Bio) (bit : ℕ) → bit ≤ 1 → holdBits b bit 1 ≡ holdBit b bit
@@ -88,7 +90,8 @@ bitsOf-split (suc k) m v =
     ∙ ap₂ (λ (d : ℕ) (ds : List ℕ). d % 2 ∷ ds) (ap (λ (n : ℕ). v / 2 ^ n) (add-comm k m) ∙ sym (shr-shr v m k)) (bitsOf-split k m v)
 
 -- of the loop that writes k bits at a time, where m has room
-pub write-turn : (o : Output) (bytes : List ℕ) (m : Bio) (v left k : ℕ) → FreeBitsClear (o .bio) → output bytes m ≡ makeRoom o → 0 < left → k ≤ left → k ≤ m .ct
+pub write-turn : (o : Output) (bytes : List ℕ) (m : Bio) (v left k : ℕ) → FreeBitsClear (o .bio) → output bytes m ≡ makeRoom o
+    → 0 < left → k ≤ left → k ≤ m .ct
     → putBits (output bytes (holdBits m (v / 2 ^ (left - k)) k)) (bitsOf (left - k) v) ≡ putBits o (bitsOf left v)
 write-turn o bytes m v left k h e pos l r =
     let q : k + (left - k) ≡ left = omega arith in

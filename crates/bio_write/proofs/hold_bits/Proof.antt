@@ -25,7 +25,8 @@ returns c =
     let m : bitAnd v (c .before .low-ones .result) ≡ v % 2 ^ k = ap (bitAnd v) (c .before .low-ones .ensures) ∙ and-mask v k in
     bio≡ _ _ refl
     (ap (λ (z : ℕ). bitOr (b .buf) (z * 2 ^ (b .ct - k) % 4294967296)) m
-    ∙ or-above (b .buf) (v % 2 ^ k) k (b .ct - k) (subst (λ (z : ℕ). b .buf % 2 ^ z ≡ 0) e (s .pre .0 .clear)) (mod-lt v (pow-pos k)) (omega arith))
+    ∙ or-above (b .buf) (v % 2 ^ k) k (b .ct - k) (subst (λ (z : ℕ). b .buf % 2 ^ z ≡ 0) e (s .pre .0 .clear))
+    (mod-lt v (pow-pos k)) (omega arith))
     refl
 
 pub hold-bits-spec : {M : Type 1} → statement M

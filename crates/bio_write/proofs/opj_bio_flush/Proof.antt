@@ -8,13 +8,15 @@ use Rattle.bio_write.proofs.opj_bio_flush.Statement.{statement}
 use Rattle.bio_write.proofs.opj_bio_flush.Tie as tie
 
 same-length : tie.Need-same-length
-same-length c = c .before .before .opj-bio-byteout2 .kept .0 ∙ c .before .before .before .before .before .before .before .before .opj-bio-byteout .kept .0
+same-length c = c .before .before .opj-bio-byteout2 .kept .0
+    ∙ c .before .before .before .before .before .before .before .before .opj-bio-byteout .kept .0
 
 returns : tie.Need-returns
 unfolding flush
 returns c =
     let e = c .before .before .before .before .before .before .before .before .opj-bio-byteout .ensures in
-    c .before .before .opj-bio-byteout2 .ensures ∙ ap byteOut e ∙ simp (eq-eqb _ _ (sym (ap (λ (o : Output). o .bio .ct) e) ∙ c .before .before .before .before .if1 .taken))
+    c .before .before .opj-bio-byteout2 .ensures ∙ ap byteOut e
+    ∙ simp (eq-eqb _ _ (sym (ap (λ (o : Output). o .bio .ct) e) ∙ c .before .before .before .before .if1 .taken))
 
 same-length-2 : tie.Need-same-length-2
 same-length-2 c = c .before .before .before .before .opj-bio-byteout .kept .0

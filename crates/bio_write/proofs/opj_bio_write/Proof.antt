@@ -27,7 +27,8 @@ returns c =
 returns-2 : tie.Need-returns-2
 returns-2 c =
     let s = c .before .before .before .before .before in
-    ap (output (s .args .out .now)) (c .hold-bits .ensures) ∙ holdBits-is (s .args .out .now) (s .args .b) (s .args .v) (s .args .n) (c .before .if2 .taken)
+    ap (output (s .args .out .now)) (c .hold-bits .ensures)
+    ∙ holdBits-is (s .args .out .now) (s .args .b) (s .args .v) (s .args .n) (c .before .if2 .taken)
 
 pub opj-bio-write-spec : {M : Type 1} → statement M
 opj-bio-write-spec =

@@ -15,7 +15,8 @@ use Rattle.bio_write.proofs.write_chunks.Statement.{statement}
 use Rattle.bio_write.proofs.write_chunks.Tie as tie
 
 -- the room that was made
-roomy : (o : List ℕ) (b : Bio) (o′ : List ℕ) (m : Bio) → FreeBitsClear b → output o′ m ≡ makeRoom (output o b) → FreeBitsClear m × (1 ≤ m .ct)
+roomy : (o : List ℕ) (b : Bio) (o′ : List ℕ) (m : Bio) → FreeBitsClear b → output o′ m ≡ makeRoom (output o b) → FreeBitsClear m
+    × (1 ≤ m .ct)
 roomy o b o′ m h e =
     let r = makeRoom-clear (output o b) h in
     let q = ap (λ (s : Output). s .bio) e in
@@ -23,7 +24,8 @@ roomy o b o′ m h e =
 
 abbrev Inv-loop : tie.InvT-loop
 Inv-loop out₀ v n bio₀ left₀ out bio left =
-    (FreeBitsClear bio) × (length out ≡ length out₀) × (left ≤ 32) × (putBits (output out bio) (bitsOf left v) ≡ putBits (output out₀ bio₀) (bitsOf n v))
+    (FreeBitsClear bio) × (length out ≡ length out₀) × (left ≤ 32)
+    × (putBits (output out bio) (bitsOf left v) ≡ putBits (output out₀ bio₀) (bitsOf n v))
 
 abbrev μ-loop : tie.MeasureT-loop
 μ-loop out₀ v n bio₀ left₀ out bio left = left
@@ -68,7 +70,8 @@ loop-again c =
       m .kept .0 ∙ l .inv .1,
       omega (arith, l .inv .2),
       ap (λ (b : Bio). putBits (output (m .last .0) b) (bitsOf (l .left - k) v)) h
-          ∙ write-turn (output (l .out) (l .bio)) (m .last .0) (m .result) v (l .left) k (l .inv .0) (m .ensures) (c .before .before .before .before .before .before .loop-test .taken) (omega arith) (omega arith)
+          ∙ write-turn (output (l .out) (l .bio)) (m .last .0) (m .result) v (l .left) k (l .inv .0) (m .ensures)
+          (c .before .before .before .before .before .before .loop-test .taken) (omega arith) (omega arith)
           ∙ l .inv .3,
     )
 

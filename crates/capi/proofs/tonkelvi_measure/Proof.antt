@@ -8,14 +8,18 @@ use Rattle.capi.proofs.tonkelvi_measure.Tie as tie
 returns : tie.Need-returns
 returns c =
     let a = c .before .before .before .before .before .before .before .args in
-    measure-unlisted (a .state .now) (a .scratch .now) (contribution (a .counts .now) (a .lengths .now) (a .marks .now)) (record { sop = a .sop; eph = a .eph }) (a .answer .now) (c .if1 .taken)
+    measure-unlisted (a .state .now) (a .scratch .now) (contribution (a .counts .now) (a .lengths .now) (a .marks .now))
+    (record { sop = a .sop; eph = a .eph }) (a .answer .now) (c .if1 .taken)
 
 returns-2 : tie.Need-returns-2
 returns-2 c =
-    let a = c .before .before .before .before .before .before .before .before .before .before .before .before .before .before .before .args in
+    let a = c .before .before .before .before .before .before .before .before .before .before .before .before .before .before
+    .before .args in
     let f = c .before .before .before .before .before .before .measure in
-    measure-listed (a .state .now) (a .scratch .now) (contribution (a .counts .now) (a .lengths .now) (a .marks .now)) (record { sop = a .sop; eph = a .eph }) (a .answer .now)
-    (f .result) _ _ (c .before .before .before .before .before .before .before .before .if1 .left) (f .ensures) (c .before .before .put-two .ensures)
+    measure-listed (a .state .now) (a .scratch .now) (contribution (a .counts .now) (a .lengths .now) (a .marks .now))
+    (record { sop = a .sop; eph = a .eph }) (a .answer .now)
+    (f .result) _ _ (c .before .before .before .before .before .before .before .before .if1 .left) (f .ensures)
+    (c .before .before .put-two .ensures)
 
 pub tonkelvi-measure-spec : {M : Type 1} → statement M
 tonkelvi-measure-spec =

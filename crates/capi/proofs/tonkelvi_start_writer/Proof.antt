@@ -8,9 +8,11 @@ use Rattle.capi.proofs.tonkelvi_start_writer.Tie as tie
 returns : tie.Need-returns
 returns c =
     let a = c .before .before .before .before .before .before .before .args in
-    let bands = threeBands (band (a .across0) (a .down0) (a .planes0)) (band (a .across1) (a .down1) (a .planes1)) (band (a .across2) (a .down2) (a .planes2)) in
+    let bands = threeBands (band (a .across0) (a .down0) (a .planes0)) (band (a .across1) (a .down1) (a .planes1))
+    (band (a .across2) (a .down2) (a .planes2)) in
     let g = c .before .before .before .before .three-bands in
-    started-with writer (a .count) (g .result) bands (a .style) (a .planes .now) (a .state .now) _ (c .before .before .start-writer .ensures) (g .ensures)
+    started-with writer (a .count) (g .result) bands (a .style) (a .planes .now) (a .state .now) _
+    (c .before .before .start-writer .ensures) (g .ensures)
 
 pub tonkelvi-start-writer-spec : {M : Type 1} → statement M
 tonkelvi-start-writer-spec =

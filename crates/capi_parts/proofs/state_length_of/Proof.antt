@@ -10,7 +10,8 @@ returns : tie.Need-returns
 returns c = let s = c .before .before .args in length-refused (s .count) (s .bands) (sym (c .before .bad-shape .ensures) ∙ c .if1 .taken)
 
 state-length-requires : tie.Need-state-length-requires
-state-length-requires c κs = let s = c .before .before .args in let h = shape-not-refused (s .count) (s .bands) (sym (c .before .bad-shape .ensures) ∙ c .if1 .left) in (h .1, h .2)
+state-length-requires c κs = let s = c .before .before .args in let h =
+    shape-not-refused (s .count) (s .bands) (sym (c .before .bad-shape .ensures) ∙ c .if1 .left) in (h .1, h .2)
 
 returns-2 : tie.Need-returns-2
 returns-2 c =

@@ -12,7 +12,8 @@ use Rattle.t800.proofs.Laws.Lists.{record-words-length}
 use Rattle.lists.specs.Rows.{putRow, putReport, putRecord}
 
 -- row n over a list whose first n rows are xs
-row-over : (lent xs : List ℕ) (n a b c d : ℕ) → length xs ≡ 4 * n → n < length lent / 4 → putRow (overwrite lent xs) n a b c d ≡ overwrite lent (xs ++ (a ∷ b ∷ c ∷ d ∷ []))
+row-over : (lent xs : List ℕ) (n a b c d : ℕ) → length xs ≡ 4 * n → n < length lent / 4 → putRow (overwrite lent xs) n a b c d
+    ≡ overwrite lent (xs ++ (a ∷ b ∷ c ∷ d ∷ []))
 unfolding putRow overwrite
 row-over lent xs n a b c d l h =
     let row : List ℕ = a ∷ b ∷ c ∷ d ∷ [] in
@@ -30,14 +31,16 @@ row-over lent xs n a b c d l h =
 
 -- ---- records
 
-records-and-one : (rs : List SegmentRecord) (r : SegmentRecord) → recordWords (rs ++ (r ∷ [])) ≡ recordWords rs ++ (r .block ∷ r .opens ∷ r .passes ∷ r .bytes ∷ [])
+records-and-one : (rs : List SegmentRecord) (r : SegmentRecord) → recordWords (rs ++ (r ∷ []))
+    ≡ recordWords rs ++ (r .block ∷ r .opens ∷ r .passes ∷ r .bytes ∷ [])
 unfolding recordWords
 records-and-one [] r = refl
 records-and-one (s ∷ rs) r = rw (records-and-one rs r)
 
 -- the first rows are the records so far, and one more is lent
 pub record-put : (lent : List ℕ) (rs : List SegmentRecord) (r : SegmentRecord) → length rs < length lent / recordWidth
-    → putRecord (overwrite lent (recordWords rs)) (length rs) (r .block) (r .opens) (r .passes) (r .bytes) ≡ overwrite lent (recordWords (rs ++ (r ∷ [])))
+    → putRecord (overwrite lent (recordWords rs)) (length rs) (r .block) (r .opens) (r .passes) (r .bytes)
+    ≡ overwrite lent (recordWords (rs ++ (r ∷ [])))
 record-put lent rs r h =
     row-over lent (recordWords rs) (length rs) (r .block) (r .opens) (r .passes) (r .bytes) (record-words-length rs) h
     ∙ sym (ap (overwrite lent) (records-and-one rs r))
@@ -49,13 +52,15 @@ unfolding reportWords
 length-reports [] = refl
 length-reports (r ∷ rs) = let i = length-reports rs in omega arith
 
-reports-and-one : (rs : List BlockReport) (r : BlockReport) → reportWords (rs ++ (r ∷ [])) ≡ reportWords rs ++ (r .inclusion ∷ r .zeroPlanes ∷ r .planes ∷ r .passes ∷ [])
+reports-and-one : (rs : List BlockReport) (r : BlockReport) → reportWords (rs ++ (r ∷ []))
+    ≡ reportWords rs ++ (r .inclusion ∷ r .zeroPlanes ∷ r .planes ∷ r .passes ∷ [])
 unfolding reportWords
 reports-and-one [] r = refl
 reports-and-one (s ∷ rs) r = rw (reports-and-one rs r)
 
 pub report-put : (lent : List ℕ) (rs : List BlockReport) (r : BlockReport) → length rs < length lent / reportWidth
-    → putReport (overwrite lent (reportWords rs)) (length rs) (r .inclusion) (r .zeroPlanes) (r .planes) (r .passes) ≡ overwrite lent (reportWords (rs ++ (r ∷ [])))
+    → putReport (overwrite lent (reportWords rs)) (length rs) (r .inclusion) (r .zeroPlanes) (r .planes) (r .passes)
+    ≡ overwrite lent (reportWords (rs ++ (r ∷ [])))
 report-put lent rs r h =
     row-over lent (reportWords rs) (length rs) (r .inclusion) (r .zeroPlanes) (r .planes) (r .passes) (length-reports rs) h
     ∙ sym (ap (overwrite lent) (reports-and-one rs r))

@@ -19,8 +19,11 @@ loop-holds c = (omega arith, refl, refl)
 
 loop-again : tie.Need-loop-again Inv-loop μ-loop
 loop-again c =
-    let l = c .before .loop in
-    (omega arith, simp length-set (l .inv .1), wiped-turn (c .before .before .args .list .now) (l .list) (l .i) (omega arith) (l .inv .1) (l .inv .2))
+    let l = c .before .loop in (
+      omega arith,
+      simp length-set (l .inv .1),
+      wiped-turn (c .before .before .args .list .now) (l .list) (l .i) (omega arith) (l .inv .1) (l .inv .2),
+    )
 
 same-length : tie.Need-same-length Inv-loop μ-loop
 same-length c = c .before .loop .inv .1

@@ -22,9 +22,11 @@ unfolding halvings
 leading-halvings zero f n pos h l = absurd (omega arith)
 leading-halvings (suc k) zero n pos h l = absurd (omega arith)
 leading-halvings (suc k) (suc f) n pos h l =
-    ap (λ (z : ℕ). cond (ltb n 2) 0 (1 + halvings f (n / 2)) + suc z) (leading-half k n pos) ∙ go (ltb n 2) refl (λ p. leading-halvings k f (n / 2) p (omega arith) (omega arith))
+    ap (λ (z : ℕ). cond (ltb n 2) 0 (1 + halvings f (n / 2)) + suc z) (leading-half k n pos)
+    ∙ go (ltb n 2) refl (λ p. leading-halvings k f (n / 2) p (omega arith) (omega arith))
   where
-    go : (t : Bool) → ltb n 2 ≡ t → (0 < n / 2 → halvings f (n / 2) + suc (leadingZeros k (n / 2)) ≡ k) → cond t 0 (1 + halvings f (n / 2)) + suc (leadingZeros k (n / 2)) ≡ suc k
+    go : (t : Bool) → ltb n 2 ≡ t → (0 < n / 2 → halvings f (n / 2) + suc (leadingZeros k (n / 2)) ≡ k)
+        → cond t 0 (1 + halvings f (n / 2)) + suc (leadingZeros k (n / 2)) ≡ suc k
     go true e rest =
         let below = ltb-true n 2 e in
         let z : n / 2 ≡ 0 = omega arith in
@@ -45,7 +47,9 @@ floorLog2-is : (a : ℕ) → a < 2 ^ 32 → floorLog2 a + suc (leadingZeros 32 (
 unfolding floorLog2 halvings leadingZeros
 floorLog2-is zero h = refl
 floorLog2-is (suc n) h =
-    ap (λ (z : ℕ). floorLog2 (suc n) + suc z) (leading-half 31 (bitOr (suc n) 1) (odd-pos (suc n)) ∙ ap (leadingZeros 31) (odd-half (suc n)) ∙ sym (leading-half 31 (suc n) (omega arith)))
+    ap (λ (z : ℕ). floorLog2 (suc n) + suc z)
+    (leading-half 31 (bitOr (suc n) 1) (odd-pos (suc n)) ∙ ap (leadingZeros 31) (odd-half (suc n))
+    ∙ sym (leading-half 31 (suc n) (omega arith)))
     ∙ leading-halvings 32 (suc n) (suc n) (omega arith) h (omega arith)
 
 sub-result : tie.Need-sub-result

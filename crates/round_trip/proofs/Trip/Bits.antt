@@ -79,7 +79,13 @@ record FirstByte (a k : ℕ) (l : List ℕ) : Type 0 where
 first-byte : (a k : ℕ) (bs : List ℕ) → AreBits bs → FirstByte a k (packFrom a k bs)
 unfolding packFrom lastBytes
 first-byte a k [] h = record { low = 0; rest = drop 1 (lastBytes (a * 2 ^ k)); small = pow-pos k; is = rw add-zero }
-first-byte a zero (x ∷ xs) h = record { low = 0; rest = packFrom x (span a - 1) xs; small = pow-pos 0; is = ap (λ (z : ℕ). z ∷ packFrom x (span a - 1) xs) (omega arith) }
+first-byte a zero (x ∷ xs) h =
+    record {
+      low = 0;
+      rest = packFrom x (span a - 1) xs;
+      small = pow-pos 0;
+      is = ap (λ (z : ℕ). z ∷ packFrom x (span a - 1) xs) (omega arith);
+    }
 first-byte a (suc k) (x ∷ xs) h =
     let r = first-byte (a * 2 + x) k xs (h .1) in
     record {
@@ -117,7 +123,11 @@ byte-in s q u h =
 
 -- of the next byte
 get-next : (s : List ℕ) (q u : ℕ) → q < length s
-    → getBit s (bioWith q u 0) ≡ record { value = (u % 256 * 256 + getD s q 0) / 2 ^ (span (u % 256) - 1) % 2; bio = bioWith (suc q) (u % 256 * 256 + getD s q 0) (span (u % 256) - 1) }
+    → getBit s (bioWith q u 0)
+    ≡ record {
+      value = (u % 256 * 256 + getD s q 0) / 2 ^ (span (u % 256) - 1) % 2;
+      bio = bioWith (suc q) (u % 256 * 256 + getD s q 0) (span (u % 256) - 1);
+    }
 unfolding getBit heldBit
 get-next s q u h = ap heldBit (byte-in s q u h)
 
@@ -147,9 +157,15 @@ pub record BitsRead (s : List ℕ) (b : Bio) (bs : List ℕ) (n : ℕ) : Type 0 
   pub whole : endsInFF s end ≡ false
   pub taken : bytesTaken s end ≡ n
 
-one-more : (s : List ℕ) (b c : Bio) (x : ℕ) (xs : List ℕ) (n m : ℕ) → b .ct < 8 → getBit s b ≡ record { value = x; bio = c } → BitsRead s c xs n → n ≡ m → BitsRead s b (x ∷ xs) m
+one-more : (s : List ℕ) (b c : Bio) (x : ℕ) (xs : List ℕ) (n m : ℕ) → b .ct < 8 → getBit s b ≡ record { value = x; bio = c }
+    → BitsRead s c xs n → n ≡ m → BitsRead s b (x ∷ xs) m
 one-more s b c x xs n m h e g q =
-    record { end = g .end; reads = (h, ap (λ (z : Decoded). z .value) e, rw (ap (λ (z : Decoded). z .bio) e) (g .reads)); whole = g .whole; taken = g .taken ∙ q }
+    record {
+      end = g .end;
+      reads = (h, ap (λ (z : Decoded). z .value) e, rw (ap (λ (z : Decoded). z .bio) e) (g .reads));
+      whole = g .whole;
+      taken = g .taken ∙ q;
+    }
 
 module _ (s t : List ℕ) where
   -- the byte at p, where the bytes from p on are packed
@@ -160,7 +176,8 @@ module _ (s t : List ℕ) where
       let f = drop-head s p (a * 2 ^ k + r .low) (r .rest ++ t) 0 (e ∙ ap (λ (z : List ℕ). z ++ t) (r .is)) in
       (r .low, f .1, r .small, omega (arith, r .small, f .1), f .0)
 
-  no-bits-left : (p u a k : ℕ) → k < 8 → u % 256 ≡ getD s p 0 → drop p s ≡ packFrom a k [] ++ t → BitsRead s (bioWith (suc p) u k) [] (p + length (packFrom a k []))
+  no-bits-left : (p u a k : ℕ) → k < 8 → u % 256 ≡ getD s p 0 → drop p s ≡ packFrom a k [] ++ t
+      → BitsRead s (bioWith (suc p) u k) [] (p + length (packFrom a k []))
   unfolding packFrom endsInFF bytesTaken inFF
   no-bits-left p u a k i low e =
       let c : ℕ = a * 2 ^ k in
@@ -198,7 +215,8 @@ module _ (s t : List ℕ) where
       let v : word / 2 ^ k % 2 ≡ x = bit-of word (7 - k) k x (omega (arith, nb .0)) (m ∙ f .1) (f .2) ∙ omega arith in
       (get-next s q u (f .4) ∙ ap (λ (z : ℕ). record { value = z; bio = bioWith (suc q) word k }) v, nb .0, nb .1, m)
 
-  bits-from : (bs : List ℕ) (p u a k : ℕ) → AreBits bs → k < 8 → (a + 1) * 2 ^ k ≤ 256 → u % 256 ≡ getD s p 0 → drop p s ≡ packFrom a k bs ++ t
+  bits-from : (bs : List ℕ) (p u a k : ℕ) → AreBits bs → k < 8 → (a + 1) * 2 ^ k ≤ 256 → u % 256 ≡ getD s p 0 → drop p s
+      ≡ packFrom a k bs ++ t
       → BitsRead s (bioWith (suc p) u k) bs (p + length (packFrom a k bs))
   unfolding packFrom
   bits-from [] p u a k h i w low e = no-bits-left p u a k i low e
@@ -213,9 +231,11 @@ module _ (s t : List ℕ) where
       let f = byte-at p (a * 2 + x) k xs (h .1) small e in
       let g = bits-from xs p u (a * 2 + x) k (h .1) (omega arith) small low e in
       let v : u / 2 ^ k % 2 ≡ x = bit-of u (7 - k) k (a * 2 + x) (omega arith) (low ∙ f .1) (f .2) ∙ omega (arith, h .0) in
-      one-more s (bioWith (suc p) u (suc k)) _ x xs _ _ (omega arith) (get-held s (suc p) u k ∙ ap (λ (z : ℕ). record { value = z; bio = bioWith (suc p) u k }) v) g refl
+      one-more s (bioWith (suc p) u (suc k)) _ x xs _ _ (omega arith)
+      (get-held s (suc p) u k ∙ ap (λ (z : ℕ). record { value = z; bio = bioWith (suc p) u k }) v) g refl
 
-pub packed-bits-read : (s t : List ℕ) (x : ℕ) (xs : List ℕ) (p : ℕ) → x < 2 → AreBits xs → drop p s ≡ pack (x ∷ xs) ++ t → BitsRead s (bioAt p) (x ∷ xs) (p + length (pack (x ∷ xs)))
+pub packed-bits-read : (s t : List ℕ) (x : ℕ) (xs : List ℕ) (p : ℕ) → x < 2 → AreBits xs → drop p s ≡ pack (x ∷ xs) ++ t
+    → BitsRead s (bioAt p) (x ∷ xs) (p + length (pack (x ∷ xs)))
 unfolding packFrom
 packed-bits-read s t x xs p hx h e =
     let q : pack (x ∷ xs) ≡ packFrom x 7 xs = pack-is (x ∷ xs) ∙ ap (λ (z : ℕ). packFrom z 7 xs) (zero-add x) in
@@ -238,7 +258,8 @@ span-most : (f : Bool) → cond f 7 8 - 1 ≤ 7
 span-most true = omega arith
 span-most false = omega arith
 
-one-fewer : (s : List ℕ) (b : Bio) → nextBit s b ≡ 1 → 8 * (length s - bioAfter s b .bp) + bioAfter s b .ct + 1 ≤ 8 * (length s - b .bp) + b .ct
+one-fewer : (s : List ℕ) (b : Bio) → nextBit s b ≡ 1
+    → 8 * (length s - bioAfter s b .bp) + bioAfter s b .ct + 1 ≤ 8 * (length s - b .bp) + b .ct
 unfolding getBit heldBit byteIn
 one-fewer s b e =
     on-eq (b .ct) 0

@@ -32,12 +32,16 @@ AllReady s t ws [] [] cs ls ms = Unit {0}
 AllReady s t ws [] (e ∷ es) cs ls ms = ⊥
 AllReady s t ws (k ∷ ks) [] cs ls ms = ⊥
 AllReady s t ws (k ∷ ks) (e ∷ es) [] ls ms = ⊥
-AllReady s t ws (k ∷ ks) (e ∷ es) (c ∷ cs) ls ms = Ready s t ws k e c (take c ls) (take c ms) × AllReady s t ws ks es cs (drop c ls) (drop c ms)
+AllReady s t ws (k ∷ ks) (e ∷ es) (c ∷ cs) ls ms = Ready s t ws k e c (take c ls) (take c ms)
+    × AllReady s t ws ks es cs (drop c ls) (drop c ms)
 
 -- the new blocks of an acceptable layer were set, which made us of ws
-pub all-ready : (L : Layout) (s t : ℕ) (ws us : List ℕ) (ks : List Block) (es : List BlockEntry) (cs ls ms : List ℕ) → t < notYetIncluded → AllPlaced L ks → ValuesOnly L inclusion ws us
-    → AllBooked ws ks es → Leaves inclusion (LayerSet t) ws us ks cs → ((p : ℕ) → L .BlockAt p → passesSoFar ws p ≤ 164 * t) → length cs ≡ length ks → length ls ≡ sum cs → length ms ≡ sum cs
-    → any (λ (c : ℕ). ltb 164 c) cs ≡ false → fieldTooWide ws ks cs ls ms ≡ false → T (terminatedAsStyle s es cs ms) → AllReady s t us ks es cs ls ms
+pub all-ready : (L : Layout) (s t : ℕ) (ws us : List ℕ) (ks : List Block) (es : List BlockEntry) (cs ls ms : List ℕ)
+    → t < notYetIncluded → AllPlaced L ks → ValuesOnly L inclusion ws us
+    → AllBooked ws ks es → Leaves inclusion (LayerSet t) ws us ks cs → ((p : ℕ) → L .BlockAt p → passesSoFar ws p ≤ 164 * t)
+    → length cs ≡ length ks → length ls ≡ sum cs → length ms ≡ sum cs
+    → any (λ (c : ℕ). ltb 164 c) cs ≡ false → fieldTooWide ws ks cs ls ms ≡ false → T (terminatedAsStyle s es cs ms)
+    → AllReady s t us ks es cs ls ms
 unfolding sum any terminatedAsStyle
 all-ready L s t ws us [] [] cs ls ms ht f o b n most lc ll lm few fits term = tt
 all-ready L s t ws us [] (e ∷ es) cs ls ms ht f o b n most lc ll lm few fits term = b
@@ -49,21 +53,25 @@ all-ready L s t ws us (k ∷ ks) (e ∷ es) (c ∷ cs) ls ms ht f o b n most lc 
     let K = b .0 in
     let same = block-stays L ws us (nodes-only L inclusion ws us o) (k .at) B in
     let z = leaf-node L zeroPlanes k P in
-    let p = codable-part t ws us k ks c cs ls ms same (most (k .at) B) ll lm (or-left (ltb 164 c) (any (λ (d : ℕ). ltb 164 d) cs) few) fits in
+    let p = codable-part t ws us k ks c cs ls ms same (most (k .at) B) ll lm
+    (or-left (ltb 164 c) (any (λ (d : ℕ). ltb 164 d) cs) few) fits in
     let here : Bool = terminatedAt s (e .passes) (take c ms) in
     let rest : Bool = terminatedAsStyle s es cs (drop c ms) in (
       record {
         passes = same .0 ∙ K .passes;
-        planes = same-planes ws us k (e .bandPlanes) (e .planes) (o .off (leafOf zeroPlanes k) (λ a m q. L .other-tree a (leafOf zeroPlanes k) m z (sym q))) (K .planes);
+        planes = same-planes ws us k (e .bandPlanes) (e .planes)
+            (o .off (leafOf zeroPlanes k) (λ a m q. L .other-tree a (leafOf zeroPlanes k) m z (sym q))) (K .planes);
         layer-set = λ h. n .0 .0 (K .passes ∙ h) (rw (K .new h) ht);
         terminated = and-l here rest term;
         codable = p .here;
       },
-      all-ready L s t ws us ks es cs (drop c ls) (drop c ms) ht (f .1) o (b .1) (n .1) most (omega arith) (p .lengths) (p .marks) (or-right (ltb 164 c) (any (λ (d : ℕ). ltb 164 d) cs) few)
+      all-ready L s t ws us ks es cs (drop c ls) (drop c ms) ht (f .1) o (b .1) (n .1) most (omega arith) (p .lengths) (p .marks)
+          (or-right (ltb 164 c) (any (λ (d : ℕ). ltb 164 d) cs) few)
           (later-fits ws k ks c cs ls ms fits) (and-r here rest term),
     )
 
-still-ready : (L : Layout) (s t : ℕ) (ws vs : List ℕ) (k : Block) (c : ℕ) (ks : List Block) (es : List BlockEntry) (cs ls ms : List ℕ) → BlockCoded L ws vs k c → SeparateFromAll k ks → AllPlaced L ks
+still-ready : (L : Layout) (s t : ℕ) (ws vs : List ℕ) (k : Block) (c : ℕ) (ks : List Block) (es : List BlockEntry)
+    (cs ls ms : List ℕ) → BlockCoded L ws vs k c → SeparateFromAll k ks → AllPlaced L ks
     → AllReady s t ws ks es cs ls ms → AllReady s t vs ks es cs ls ms
 still-ready L s t ws vs k c [] [] cs ls ms b o f y = tt
 still-ready L s t ws vs k c [] (e ∷ es) cs ls ms b o f y = y
@@ -72,28 +80,39 @@ still-ready L s t ws vs k c (j ∷ js) (e ∷ es) [] ls ms b o f y = y
 still-ready L s t ws vs k c (j ∷ js) (e ∷ es) (d ∷ cs) ls ms b o f y =
     let P = f .0 .0 in (
       same-ready s t ws vs j e d (take d ls) (take d ms) (b .others (j .at) (P .block) (o .0 .1 .places))
-          (b .values zeroPlanes (leafOf zeroPlanes j) (leaf-node L zeroPlanes j P)) (b .values inclusion (leafOf inclusion j) (leaf-node L inclusion j P)) (y .0),
+          (b .values zeroPlanes (leafOf zeroPlanes j) (leaf-node L zeroPlanes j P))
+          (b .values inclusion (leafOf inclusion j) (leaf-node L inclusion j P)) (y .0),
       still-ready L s t ws vs k c js es cs (drop d ls) (drop d ms) b (o .1) (f .1) (y .1),
     )
 
 module _ (L : Layout) (s t : ℕ) (src : List ℕ) (room : ℕ) (end : Bio) where
-  pub record BlocksRead (rs vs : List ℕ) (out : HeaderRead) (entry : Entry) (reps : List BlockReport) (recs : List SegmentRecord) : Type 0 where
+  pub record BlocksRead (rs vs : List ℕ) (out : HeaderRead) (entry : Entry) (reps : List BlockReport)
+      (recs : List SegmentRecord) : Type 0 where
     pub words : List ℕ
     pub is : out ≡ readSoFar words end (reps ++ entry .reports) (recs ++ entry .records)
     pub in-step : InStep L s vs words
     pub first : (j : ℕ) → j < 13 → getD words j 0 ≡ getD rs j 0
 
-  first-read : (i : ℕ) (k : Block) (ks : List Block) (r : HeaderRead) (us : List ℕ) (b : Bio) (reps : List BlockReport) (recs : List SegmentRecord) → readBlock src room t i k r ≡ readSoFar us b reps recs
+  first-read : (i : ℕ) (k : Block) (ks : List Block) (r : HeaderRead) (us : List ℕ) (b : Bio) (reps : List BlockReport)
+      (recs : List SegmentRecord) → readBlock src room t i k r ≡ readSoFar us b reps recs
       → readBlocks src room t i (k ∷ ks) r ≡ readBlocks src room t (i + 1) ks (readSoFar us b reps recs)
   unfolding readBlocks
   first-read i k ks r us b reps recs h = rw h
 
-  pub blocks-read : (ks : List Block) (es : List BlockEntry) (cs ls ms : List ℕ) (i : ℕ) (ws rs : List ℕ) (b : Bio) (reps : List BlockReport) (recs : List SegmentRecord) → t < notYetIncluded → AllPlaced L ks
-      → InStep L s ws rs → AllReady s t ws ks es cs ls ms → Reads src b (codeBlocks t ks cs ls ms ws .bits) end → length recs + length (entryFrom s i es cs ls .records) ≤ room
-      → BlocksRead rs (codeBlocks t ks cs ls ms ws .words) (readBlocks src room t i ks (readSoFar rs b reps recs)) (entryFrom s i es cs ls) reps recs
+  pub blocks-read : (ks : List Block) (es : List BlockEntry) (cs ls ms : List ℕ) (i : ℕ) (ws rs : List ℕ) (b : Bio)
+      (reps : List BlockReport) (recs : List SegmentRecord) → t < notYetIncluded → AllPlaced L ks
+      → InStep L s ws rs → AllReady s t ws ks es cs ls ms → Reads src b (codeBlocks t ks cs ls ms ws .bits) end
+      → length recs + length (entryFrom s i es cs ls .records) ≤ room
+      → BlocksRead rs (codeBlocks t ks cs ls ms ws .words) (readBlocks src room t i ks (readSoFar rs b reps recs))
+      (entryFrom s i es cs ls) reps recs
   unfolding codeBlocks readBlocks entryFrom
   blocks-read [] [] cs ls ms i ws rs b reps recs ht f y d r enough =
-      record { words = rs; is = (λ q. readSoFar rs (r .1 q) (sym (append-nil reps) q) (sym (append-nil recs) q)); in-step = y; first = λ j h. refl }
+      record {
+        words = rs;
+        is = (λ q. readSoFar rs (r .1 q) (sym (append-nil reps) q) (sym (append-nil recs) q));
+        in-step = y;
+        first = λ j h. refl;
+      }
   blocks-read [] (e ∷ es) cs ls ms i ws rs b reps recs ht f y d r enough = absurd d
   blocks-read (k ∷ ks) [] cs ls ms i ws rs b reps recs ht f y d r enough = absurd d
   blocks-read (k ∷ ks) (e ∷ es) [] ls ms i ws rs b reps recs ht f y d r enough = absurd d
@@ -116,7 +135,8 @@ module _ (L : Layout) (s t : ℕ) (src : List ℕ) (room : ℕ) (end : Bio) wher
       record {
         words = z .words;
         is = first-read i k ks (readSoFar rs b reps recs) (x .words) (q .0) reps₁ recs₁ (x .is) ∙ z .is
-            ∙ ap₂ (λ (u : List BlockReport) (v : List SegmentRecord). readSoFar (z .words) end u v) (append-assoc reps (reportOf e c ∷ []) (E .reports)) (append-assoc recs here (E .records));
+            ∙ ap₂ (λ (u : List BlockReport) (v : List SegmentRecord). readSoFar (z .words) end u v)
+            (append-assoc reps (reportOf e c ∷ []) (E .reports)) (append-assoc recs here (E .records));
         in-step = z .in-step;
         first = λ j h. z .first j h ∙ x .first j h;
       }

@@ -18,9 +18,11 @@ use Rattle.t800.specs.Ranges.{validState}
 use Rattle.t800.specs.WriteHeader.{Contribution, codeHeader, segmentTooLong, fieldTooWide}
 use Rattle.t800.specs.ReadHeader.{readHeader}
 use Rattle.t800.specs.MarkerSegments.{readSop}
-use Rattle.t800.specs.Packet.{wrongLists, measureRefusal, front, packet, writeRefusal, WriteResult, write, readRefusal, readAbsent, readPresent, ReadResult, read}
+use Rattle.t800.specs.Packet.{wrongLists, measureRefusal, front, packet, writeRefusal, WriteResult, write, readRefusal, readAbsent}
+use Rattle.t800.specs.Packet.{readPresent, ReadResult, read}
 use Rattle.t800.specs.Book.{BlockEntry, addCounts, terminatedAsStyle}
-use Rattle.t800.specs.RoundTrip.{WriteCall, WriterCall, measuring, writing, writeOf, accepted, owedFor, owed, allTerminatedAsStyle, ReadCall, readOf}
+use Rattle.t800.specs.RoundTrip.{WriteCall, WriterCall, measuring, writing, writeOf, accepted, owedFor, owed, allTerminatedAsStyle}
+use Rattle.t800.specs.RoundTrip.{ReadCall, readOf}
 use Rattle.t800.specs.Reports.{recordWidth}
 use Rattle.t800.proofs.Laws.Tests.{not-refused, either, if-true, if-false}
 use Rattle.t800.proofs.Laws.Lists.{lists-right}
@@ -28,7 +30,8 @@ use Rattle.round_trip.proofs.Trip.WriterState.{Acceptable}
 
 -- ---- writing
 
-measured : (ws scratch : List ℕ) (p : Contribution) → measureRefusal ws scratch p ≡ 0 → (layer ws ≢ notYetIncluded) × Acceptable ws (blocks (bands ws)) p
+measured : (ws scratch : List ℕ) (p : Contribution) → measureRefusal ws scratch p ≡ 0 → (layer ws ≢ notYetIncluded)
+    × Acceptable ws (blocks (bands ws)) p
 unfolding measureRefusal
 measured ws scratch p e =
     let ks : List Block = blocks (bands ws) in
@@ -46,7 +49,8 @@ pub record Accepted (ws : List ℕ) (c : WriteCall) : Type 0 where
   pub layer-left : layer ws ≢ notYetIncluded
   pub acceptable : Acceptable ws (blocks (bands ws)) (c .contribution)
   pub state : writeOf ws c .state ≡ codeHeader (c .contribution) ws .words
-  pub front-is : take (writeOf ws c .answer .bytes - sum (c .contribution .lengths)) (writeOf ws c .output) ≡ front ws (c .contribution) (c .markers) (c .number)
+  pub front-is : take (writeOf ws c .answer .bytes - sum (c .contribution .lengths)) (writeOf ws c .output)
+      ≡ front ws (c .contribution) (c .markers) (c .number)
 
 both-zero : (b : Bool) (n x : ℕ) → eqb n 0 ≡ b → cond (not b) n x ≡ 0 → (n ≡ 0) × (x ≡ 0)
 both-zero true n x e h = (eqb-true n 0 e, h)
@@ -70,11 +74,17 @@ module _ (ws scratch : List ℕ) (p : Contribution) (body : List ℕ) (m : Marke
 
   -- the two ways that a call goes
   write-done : eqb why 0 ≡ true → write ws scratch p body m number output
-      ≡ record { answer = record { refusal = 0; bytes = length (packet ws p body m number) }; state = codeHeader p ws .words; scratch = codeHeader p ws .words; output = overwrite output (packet ws p body m number) }
+      ≡ record {
+        answer = record { refusal = 0; bytes = length (packet ws p body m number) };
+        state = codeHeader p ws .words;
+        scratch = codeHeader p ws .words;
+        output = overwrite output (packet ws p body m number);
+      }
   unfolding write
   write-done e = if-true (eqb why 0) _ _ e
 
-  write-refused : eqb why 0 ≡ false → (write ws scratch p body m number output .state ≡ ws) × (write ws scratch p body m number output .answer .refusal ≡ why)
+  write-refused : eqb why 0 ≡ false → (write ws scratch p body m number output .state ≡ ws)
+      × (write ws scratch p body m number output .answer .refusal ≡ why)
   unfolding write
   write-refused e =
       let P : WriteResult → Type 0 = λ w. (w .state ≡ ws) × (w .answer .refusal ≡ why) in
@@ -87,7 +97,9 @@ module _ (ws scratch : List ℕ) (p : Contribution) (body : List ℕ) (m : Marke
       let c₂ = not-refused (not (eqb (length body) (sum (p .lengths)))) 10 _ (omega arith) (c₁ .1) in
       (c₁ .0, eqb-true (length body) (sum (p .lengths)) (not-false (eqb (length body) (sum (p .lengths))) (c₂ .0)))
 
-  front-taken : length body ≡ sum (p .lengths) → take (length (packet ws p body m number) - sum (p .lengths)) (overwrite output (packet ws p body m number)) ≡ front ws p m number
+  front-taken : length body ≡ sum (p .lengths)
+      → take (length (packet ws p body m number) - sum (p .lengths)) (overwrite output (packet ws p body m number))
+      ≡ front ws p m number
   unfolding packet
   front-taken e = front-cut (front ws p m number) body output (sum (p .lengths)) e
 
@@ -107,7 +119,8 @@ module _ (ws : List ℕ) (c : WriteCall) where
             layer-left = a .0;
             acceptable = a .1;
             state = ap (λ (w : WriteResult). w .state) d;
-            front-is = ap (λ (w : WriteResult). take (w .answer .bytes - sum (c .contribution .lengths)) (w .output)) d ∙ front-taken ws (c .scratch) (c .contribution) (c .body) (c .markers) (c .number) (c .output) (z .1);
+            front-is = ap (λ (w : WriteResult). take (w .answer .bytes - sum (c .contribution .lengths)) (w .output)) d
+                ∙ front-taken ws (c .scratch) (c .contribution) (c .body) (c .markers) (c .number) (c .output) (z .1);
           }
       go false e =
           let r = write-refused ws (c .scratch) (c .contribution) (c .body) (c .markers) (c .number) (c .output) e in
@@ -133,7 +146,8 @@ pub record FirstOwed (s : ℕ) (ws : List ℕ) (es : List BlockEntry) (cs : List
   pub rest-terminated : T (allTerminatedAsStyle s (writeOf ws call .state) (addCounts es (call .contribution .counts)) rest)
 
 module _ (s : ℕ) (ws : List ℕ) (es : List BlockEntry) (c : WriteCall) (cs : List WriterCall) where
-  owed-accepted : accepted ws c ≡ true → owed s ws es (writing c ∷ cs) ≡ owedFor s ws es c ∷ owed s (writeOf ws c .state) (addCounts es (c .contribution .counts)) cs
+  owed-accepted : accepted ws c ≡ true → owed s ws es (writing c ∷ cs)
+      ≡ owedFor s ws es c ∷ owed s (writeOf ws c .state) (addCounts es (c .contribution .counts)) cs
   unfolding owed
   owed-accepted h = if-true (accepted ws c) _ _ h
 
@@ -142,7 +156,9 @@ module _ (s : ℕ) (ws : List ℕ) (es : List BlockEntry) (c : WriteCall) (cs : 
   owed-refused h = if-false (accepted ws c) _ _ h ∙ ap (λ (z : List ℕ). owed s z es cs) (refused-keeps ws c h)
 
   pub terminated-accepted : accepted ws c ≡ true
-      → allTerminatedAsStyle s ws es (writing c ∷ cs) ≡ (terminatedAsStyle s es (c .contribution .counts) (c .contribution .marks) && allTerminatedAsStyle s (writeOf ws c .state) (addCounts es (c .contribution .counts)) cs)
+      → allTerminatedAsStyle s ws es (writing c ∷ cs)
+      ≡ (terminatedAsStyle s es (c .contribution .counts) (c .contribution .marks) && allTerminatedAsStyle s (writeOf ws c .state)
+      (addCounts es (c .contribution .counts)) cs)
   unfolding allTerminatedAsStyle
   terminated-accepted h = if-true (accepted ws c) _ _ h
 
@@ -150,26 +166,54 @@ module _ (s : ℕ) (ws : List ℕ) (es : List BlockEntry) (c : WriteCall) (cs : 
   unfolding allTerminatedAsStyle
   terminated-refused h = if-false (accepted ws c) _ _ h ∙ ap (λ (z : List ℕ). allTerminatedAsStyle s z es cs) (refused-keeps ws c h)
 
-pub first-owed : (s : ℕ) (ws : List ℕ) (es : List BlockEntry) (cs : List WriterCall) → T (allTerminatedAsStyle s ws es cs) → (owed s ws es cs ≡ []) ⊎ FirstOwed s ws es cs
+pub first-owed : (s : ℕ) (ws : List ℕ) (es : List BlockEntry) (cs : List WriterCall) → T (allTerminatedAsStyle s ws es cs)
+    → (owed s ws es cs ≡ []) ⊎ FirstOwed s ws es cs
 unfolding owed allTerminatedAsStyle
 first-owed s ws es [] h = inl refl
 first-owed s ws es (measuring c ∷ cs) h = more (first-owed s ws es cs h)
   where
     more : (owed s ws es cs ≡ []) ⊎ FirstOwed s ws es cs → (owed s ws es (measuring c ∷ cs) ≡ []) ⊎ FirstOwed s ws es (measuring c ∷ cs)
     more (inl e) = inl e
-    more (inr f) = inr (record { call = f .call; rest = f .rest; is = f .is; accepts = f .accepts; terminated = f .terminated; rest-terminated = f .rest-terminated })
+    more (inr f) =
+        inr
+        (record {
+          call = f .call;
+          rest = f .rest;
+          is = f .is;
+          accepts = f .accepts;
+          terminated = f .terminated;
+          rest-terminated = f .rest-terminated;
+        })
 first-owed s ws es (writing c ∷ cs) h = go (accepted ws c) refl (λ g. first-owed s ws es cs g)
   where
-    more : accepted ws c ≡ false → (owed s ws es cs ≡ []) ⊎ FirstOwed s ws es cs → (owed s ws es (writing c ∷ cs) ≡ []) ⊎ FirstOwed s ws es (writing c ∷ cs)
+    more : accepted ws c ≡ false → (owed s ws es cs ≡ []) ⊎ FirstOwed s ws es cs
+        → (owed s ws es (writing c ∷ cs) ≡ []) ⊎ FirstOwed s ws es (writing c ∷ cs)
     more a (inl e) = inl (owed-refused s ws es c cs a ∙ e)
-    more a (inr f) = inr (record { call = f .call; rest = f .rest; is = owed-refused s ws es c cs a ∙ f .is; accepts = f .accepts; terminated = f .terminated; rest-terminated = f .rest-terminated })
+    more a (inr f) = inr
+        (record {
+          call = f .call;
+          rest = f .rest;
+          is = owed-refused s ws es c cs a ∙ f .is;
+          accepts = f .accepts;
+          terminated = f .terminated;
+          rest-terminated = f .rest-terminated;
+        })
 
-    go : (b : Bool) → accepted ws c ≡ b → (T (allTerminatedAsStyle s ws es cs) → (owed s ws es cs ≡ []) ⊎ FirstOwed s ws es cs) → (owed s ws es (writing c ∷ cs) ≡ []) ⊎ FirstOwed s ws es (writing c ∷ cs)
+    go : (b : Bool) → accepted ws c ≡ b → (T (allTerminatedAsStyle s ws es cs) → (owed s ws es cs ≡ []) ⊎ FirstOwed s ws es cs)
+        → (owed s ws es (writing c ∷ cs) ≡ []) ⊎ FirstOwed s ws es (writing c ∷ cs)
     go true a k =
         let here : Bool = terminatedAsStyle s es (c .contribution .counts) (c .contribution .marks) in
         let rest : Bool = allTerminatedAsStyle s (writeOf ws c .state) (addCounts es (c .contribution .counts)) cs in
         let h₁ : T (here && rest) = subst T (terminated-accepted s ws es c cs a) h in
-        inr (record { call = c; rest = cs; is = owed-accepted s ws es c cs a; accepts = a; terminated = and-l here rest h₁; rest-terminated = and-r here rest h₁ })
+        inr
+        (record {
+          call = c;
+          rest = cs;
+          is = owed-accepted s ws es c cs a;
+          accepts = a;
+          terminated = and-l here rest h₁;
+          rest-terminated = and-r here rest h₁;
+        })
     go false a k = more a (k (subst T (terminated-refused s ws es c cs a) h))
 
 -- ---- reading
@@ -181,4 +225,5 @@ refused-read-keeps rs c =
     let first = getBit (c .input) (bioAt (readSop (c .markers) (c .input) .skip)) in
     either P (not (eqb (readRefusal rs (c .scratch) (c .reports)) 0)) _ _ (λ h. refl)
     (either P (eqb (first .value) 0) _ _ (λ h. absurd (omega (arith, h)))
-    (either P (eqb (readHeader (c .input) (length (c .records) / recordWidth) rs (first .bio) .refusal) 0) _ _ (λ h. absurd (omega (arith, h))) (λ h. refl)))
+    (either P (eqb (readHeader (c .input) (length (c .records) / recordWidth) rs (first .bio) .refusal) 0) _ _
+    (λ h. absurd (omega (arith, h))) (λ h. refl)))

@@ -14,7 +14,8 @@ use Rattle.t800.specs.State.{Block, notYetPlanes, passesSoFar}
 use Rattle.t800.specs.WriteHeader.{isNew, codeInclusion, codeZeroPlanes, codePasses, codeBlock, codeBlocks}
 use Rattle.t800.proofs.Laws.Tests.{either, on-eq, if-eq, if-ne}
 use Rattle.t800.proofs.Laws.Paths.{All, NotIn}
-use Rattle.t800.proofs.Laws.Layout.{Tree, inclusion, zeroPlanes, treeOf, Layout, Placed, SeparateFromAll, AllPlaced, leafToRoot, path-nodes, second-no-node, third-no-node}
+use Rattle.t800.proofs.Laws.Layout.{Tree, inclusion, zeroPlanes, treeOf, Layout, Placed, SeparateFromAll, AllPlaced, leafToRoot}
+use Rattle.t800.proofs.Laws.Layout.{path-nodes, second-no-node, third-no-node}
 use Rattle.t800.proofs.Laws.SetLeaf.{length-setValue, off-path-stays, every-word}
 use Rattle.round_trip.proofs.Trip.Nodes.{Node}
 use Rattle.round_trip.proofs.Trip.NodeWords.{nodeAt}
@@ -23,7 +24,8 @@ use Rattle.round_trip.proofs.Trip.Trees.{NodesOnly, LowsOnly, coding-ke
 -- ---- a block's four words
 
 abbrev pub SameBlock : List ℕ → List ℕ → ℕ → Type 0
-SameBlock ws vs p = (getD vs p 0 ≡ getD ws p 0) × (getD vs (p + 1) 0 ≡ getD ws (p + 1) 0) × (getD vs (p + 2) 0 ≡ getD ws (p + 2) 0) × (getD vs (p + 3) 0 ≡ getD ws (p + 3) 0)
+SameBlock ws vs p = (getD vs p 0 ≡ getD ws p 0) × (getD vs (p + 1) 0 ≡ getD ws (p + 1) 0) × (getD vs (p + 2) 0 ≡ getD ws (p + 2) 0)
+    × (getD vs (p + 3) 0 ≡ getD ws (p + 3) 0)
 
 pub same-then : (ws vs us : List ℕ) (p : ℕ) → SameBlock ws vs p → SameBlock vs us p → SameBlock ws us p
 same-then ws vs us p a b = (b .0 ∙ a .0, b .1 ∙ a .1, b .2 ∙ a .2, b .3 ∙ a .3)
@@ -100,13 +102,19 @@ pub no-values : (L : Layout) (u : Tree) (ws : List ℕ) → ValuesOnly L u ws ws
 no-values L u ws = record { long = refl; off = λ i f. refl; none-rises = λ i. le-refl (getD ws i 0) }
 
 pub values-then : (L : Layout) (u : Tree) (ws vs us : List ℕ) → ValuesOnly L u ws vs → ValuesOnly L u vs us → ValuesOnly L u ws us
-values-then L u ws vs us a b = record { long = b .long ∙ a .long; off = λ i f. b .off i f ∙ a .off i f; none-rises = λ i. le-trans (b .none-rises i) (a .none-rises i) }
+values-then L u ws vs us a b =
+    record {
+      long = b .long ∙ a .long;
+      off = λ i f. b .off i f ∙ a .off i f;
+      none-rises = λ i. le-trans (b .none-rises i) (a .none-rises i);
+    }
 
 not-in-nodes : (L : Layout) (u : Tree) (i : ℕ) (xs : List ℕ) → ((a : ℕ) → L .Node u a → i ≢ a) → All (L .Node u) xs → NotIn i xs
 not-in-nodes L u i [] f h = tt
 not-in-nodes L u i (a ∷ xs) f h = (f a (h .0), not-in-nodes L u i xs f (h .1))
 
-pub leaf-set : (L : Layout) (u : Tree) (k : Block) → Placed L k → (v : ℕ) (ws : List ℕ) → ValuesOnly L u ws (setValue (treeOf u k) (k .path) v ws)
+pub leaf-set : (L : Layout) (u : Tree) (k : Block) → Placed L k → (v : ℕ) (ws : List ℕ)
+    → ValuesOnly L u ws (setValue (treeOf u k) (k .path) v ws)
 leaf-set L u k P v ws =
     record {
       long = length-setValue (treeOf u k) (k .path) v ws;
@@ -130,16 +138,19 @@ pub lows-same : (L : Layout) (ws : List ℕ) → LowsOnly L ws ws
 lows-same L ws = record { long = refl; off = λ i f. refl; values = λ t a n. refl }
 
 pub lows-then : (L : Layout) (ws vs us : List ℕ) → LowsOnly L ws vs → LowsOnly L vs us → LowsOnly L ws us
-lows-then L ws vs us a b = record { long = b .long ∙ a .long; off = λ i f. b .off i f ∙ a .off i f; values = λ t x n. b .values t x n ∙ a .values t x n }
+lows-then L ws vs us a b =
+    record { long = b .long ∙ a .long; off = λ i f. b .off i f ∙ a .off i f; values = λ t x n. b .values t x n ∙ a .values t x n }
 
 module _ (L : Layout) (k : Block) (P : Placed L k) where
   pub inclusion-keeps : (t c : ℕ) (ws : List ℕ) → length ws ≡ L .size → LowsOnly L ws (codeInclusion t k c ws .words)
   unfolding codeInclusion
-  inclusion-keeps t c ws l = either (λ (x : Coded). LowsOnly L ws (x .words)) (isNew ws k) _ _ (coding-keeps L inclusion k P (t + 1) ws l) (lows-same L ws)
+  inclusion-keeps t c ws l =
+      either (λ (x : Coded). LowsOnly L ws (x .words)) (isNew ws k) _ _ (coding-keeps L inclusion k P (t + 1) ws l) (lows-same L ws)
 
   pub planes-keep : (ws : List ℕ) → length ws ≡ L .size → LowsOnly L ws (codeZeroPlanes k ws .words)
   unfolding codeZeroPlanes
-  planes-keep ws l = either (λ (x : Coded). LowsOnly L ws (x .words)) (isNew ws k) _ _ (coding-keeps L zeroPlanes k P notYetPlanes ws l) (lows-same L ws)
+  planes-keep ws l = either (λ (x : Coded). LowsOnly L ws (x .words)) (isNew ws k) _ _
+      (coding-keeps L zeroPlanes k P notYetPlanes ws l) (lows-same L ws)
 
   -- both of a block's paths
   abbrev pub pathsCoded : ℕ → ℕ → List ℕ → List ℕ
@@ -169,7 +180,8 @@ absent-coded L ws vs k c B z o =
     }
 
 module _ (L : Layout) (k : Block) (P : Placed L k) (c : ℕ) where
-  passes-coded : (l : ℕ) (ws us : List ℕ) → length us ≡ L .size → LowsOnly L ws us → BlockCoded L ws (set (set us (k .at) (passesSoFar us (k .at) + c)) (k .at + 1) l) k c
+  passes-coded : (l : ℕ) (ws us : List ℕ) → length us ≡ L .size → LowsOnly L ws us
+      → BlockCoded L ws (set (set us (k .at) (passesSoFar us (k .at) + c)) (k .at + 1) l) k c
   passes-coded l ws us ul o =
       let at : ℕ = k .at in
       let B : L .BlockAt at = P .block in
@@ -185,13 +197,15 @@ module _ (L : Layout) (k : Block) (P : Placed L k) (c : ℕ) where
         first = λ i g. first-words-stay L us vs at B only i g ∙ first-stays L ws us (o .off) i g;
       }
 
-  pub block-coded : (t : ℕ) (segments : List Segment) (ws : List ℕ) → length ws ≡ L .size → BlockCoded L ws (codeBlock t k c segments ws .words) k c
+  pub block-coded : (t : ℕ) (segments : List Segment) (ws : List ℕ) → length ws ≡ L .size
+      → BlockCoded L ws (codeBlock t k c segments ws .words) k c
   unfolding codeBlock codePasses
   block-coded t segments ws l =
       let us : List ℕ = pathsCoded L k P t c ws in
       let o = paths-keep L k P t c ws l in
       on-eq c 0
-      (λ z. rw (if-eq c 0 (codeInclusion t k c ws) _ z) (absent-coded L ws (codeInclusion t k c ws .words) k c (P .block) z (inclusion-keeps L k P t c ws l)))
+      (λ z. rw (if-eq c 0 (codeInclusion t k c ws) _ z)
+      (absent-coded L ws (codeInclusion t k c ws .words) k c (P .block) z (inclusion-keeps L k P t c ws l)))
       (λ z. rw (if-ne c 0 (codeInclusion t k c ws) _ z) (passes-coded _ ws us (o .long ∙ l) o))
 
 -- ---- coded blocks
@@ -218,16 +232,21 @@ pub record BlocksCoded (L : Layout) (ws vs : List ℕ) (ks : List Block) (cs : L
   pub passes : PassesAdded ws vs ks cs
   pub first : (i : ℕ) → i < 13 → getD vs i 0 ≡ getD ws i 0
 
-added-after : (L : Layout) (ws vs us : List ℕ) (k : Block) (c : ℕ) (ks : List Block) (cs : List ℕ) → BlockCoded L ws vs k c → SeparateFromAll k ks → AllPlaced L ks → PassesAdded vs us ks cs → PassesAdded ws us ks cs
+added-after : (L : Layout) (ws vs us : List ℕ) (k : Block) (c : ℕ) (ks : List Block) (cs : List ℕ) → BlockCoded L ws vs k c
+    → SeparateFromAll k ks → AllPlaced L ks → PassesAdded vs us ks cs → PassesAdded ws us ks cs
 added-after L ws vs us k c [] cs b o f p = tt
 added-after L ws vs us k c (j ∷ js) [] b o f p = tt
-added-after L ws vs us k c (j ∷ js) (d ∷ cs) b o f p =
-    (p .0 ∙ ap (λ (z : ℕ). z + d) (b .others (j .at) (f .0 .0 .block) (o .0 .1 .places) .0), added-after L ws vs us k c js cs b (o .1) (f .1) (p .1))
+added-after L ws vs us k c (j ∷ js) (d ∷ cs) b o f p = (
+  p .0 ∙ ap (λ (z : ℕ). z + d) (b .others (j .at) (f .0 .0 .block) (o .0 .1 .places) .0),
+  added-after L ws vs us k c js cs b (o .1) (f .1) (p .1),
+)
 
 no-blocks-coded : (L : Layout) (ws : List ℕ) (ks : List Block) (cs : List ℕ) → PassesAdded ws ws ks cs → BlocksCoded L ws ws ks cs
-no-blocks-coded L ws ks cs p = record { long = refl; values = λ t a n. refl; others = λ q Q n. (refl, refl, refl, refl); passes = p; first = λ i h. refl }
+no-blocks-coded L ws ks cs p =
+    record { long = refl; values = λ t a n. refl; others = λ q Q n. (refl, refl, refl, refl); passes = p; first = λ i h. refl }
 
-pub blocks-coded : (L : Layout) (t : ℕ) (ks : List Block) (cs ls ms ws : List ℕ) → AllPlaced L ks → length ws ≡ L .size → BlocksCoded L ws (codeBlocks t ks cs ls ms ws .words) ks cs
+pub blocks-coded : (L : Layout) (t : ℕ) (ks : List Block) (cs ls ms ws : List ℕ) → AllPlaced L ks → length ws ≡ L .size
+    → BlocksCoded L ws (codeBlocks t ks cs ls ms ws .words) ks cs
 unfolding codeBlocks
 blocks-coded L t [] cs ls ms ws f l = no-blocks-coded L ws [] cs tt
 blocks-coded L t (k ∷ ks) [] ls ms ws f l = no-blocks-coded L ws (k ∷ ks) [] tt
@@ -242,6 +261,10 @@ blocks-coded L t (k ∷ ks) (c ∷ cs) ls ms ws f l =
       long = r .long ∙ b .long;
       values = λ u a n. r .values u a n ∙ b .values u a n;
       others = λ q Q n. same-then ws vs us q (b .others q Q (n .0)) (r .others q Q (n .1));
-      passes = (r .others (k .at) (P .block) (not-place k ks (f .0 .1)) .0 ∙ b .passes, added-after L ws vs us k c ks cs b (f .0 .1) (f .1) (r .passes));
+      passes = (
+        r .others (k .at) (P .block) (not-place k ks (f .0 .1)) .0
+            ∙ b .passes,
+        added-after L ws vs us k c ks cs b (f .0 .1) (f .1) (r .passes),
+      );
       first = λ i h. r .first i h ∙ b .first i h;
     }

@@ -106,8 +106,10 @@ module _ (s : List ℕ) (b e : Bio) where
       (λ h₂. on-le n 5
       (λ h. from-3 (n - 3) (omega arith) (rw (if-gt n 1 _ _ h₁, if-gt n 2 _ _ h₂, if-le n 5 _ _ h) at r) ∙ is (3 + (n - 3)) (omega arith))
       (λ h₅. on-le n 36
-      (λ h. from-6 (n - 6) (omega arith) (rw (if-gt n 1 _ _ h₁, if-gt n 2 _ _ h₂, if-gt n 5 _ _ h₅, if-le n 36 _ _ h) at r) ∙ is (6 + (n - 6)) (omega arith))
-      (λ h. from-37 (n - 37) (omega arith) (rw (if-gt n 1 _ _ h₁, if-gt n 2 _ _ h₂, if-gt n 5 _ _ h₅, if-gt n 36 _ _ h) at r) ∙ is (37 + (n - 37)) (omega arith)))))
+      (λ h. from-6 (n - 6) (omega arith) (rw (if-gt n 1 _ _ h₁, if-gt n 2 _ _ h₂, if-gt n 5 _ _ h₅, if-le n 36 _ _ h) at r)
+      ∙ is (6 + (n - 6)) (omega arith))
+      (λ h. from-37 (n - 37) (omega arith) (rw (if-gt n 1 _ _ h₁, if-gt n 2 _ _ h₂, if-gt n 5 _ _ h₅, if-gt n 36 _ _ h) at r)
+      ∙ is (37 + (n - 37)) (omega arith)))))
     where
       is : (m : ℕ) → m ≡ n → decoded m e ≡ decoded n e
       is m q = ap (λ (z : ℕ). decoded z e) q
@@ -120,7 +122,8 @@ halvings-above zero n h = omega arith
 halvings-above (suc f) n h =
     on-lt n 2
     (λ k. rw (if-lt n 2 _ _ k) (omega arith))
-    (λ k. rw (if-ge n 2 _ _ k, one-add (halvings f (n / 2)), pow-suc 2 (suc (halvings f (n / 2)))) (omega (arith, halvings-above f (n / 2) (omega arith))))
+    (λ k. rw (if-ge n 2 _ _ k, one-add (halvings f (n / 2)), pow-suc 2 (suc (halvings f (n / 2))))
+    (omega (arith, halvings-above f (n / 2) (omega arith))))
 
 below-bit-length : (n : ℕ) → n < 2 ^ bitLength n
 unfolding bitLength floorLog2

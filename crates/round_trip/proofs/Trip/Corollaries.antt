@@ -1,4 +1,5 @@
--- What follows for packets: different entries of the book never give the same header bytes; no packet's front is a proper prefix of another's;
+-- What follows for packets: different entries of the book never give the same header bytes; no packet's front is a proper prefix of
+-- another's;
 -- and a read of a writer's packet is never refused with 9 or 12, and with 13 only for want of records.
 use mathlib.Core.Path.{_≡_, refl, sym, ap, ap₂, _∙_, subst}
 use mathlib.Core.Logic.{_≢_, _⊎_, inl, inr}
@@ -17,11 +18,14 @@ use Rattle.t800.specs.Reports.{BlockReport, SegmentRecord, reportWords, recordW
 use Rattle.t800.specs.State.{blocks, writer, reader}
 use Rattle.t800.specs.Start.{startRefusal, start}
 use Rattle.t800.specs.Book.{BlockEntry, Entry, reportOf, entryFrom, entry, newBook, addCounts, terminatedAsStyle}
-use Rattle.t800.specs.RoundTrip.{WriteCall, WriterCall, measuring, writing, writeOf, accepted, stateAfter, Owed, owedFor, owed, allTerminatedAsStyle, ReadCall, ReaderCall, refusedRead, packetRead, readOf, ReadsPacket, GivesEntry}
+use Rattle.t800.specs.RoundTrip.{WriteCall, WriterCall, measuring, writing, writeOf, accepted, stateAfter, Owed, owedFor, owed}
+use Rattle.t800.specs.RoundTrip.{allTerminatedAsStyle, ReadCall, ReaderCall, refusedRead, packetRead, readOf, ReadsPacket}
+use Rattle.t800.specs.RoundTrip.{GivesEntry}
 use Rattle.t800.proofs.Laws.Tests.{either, if-eq, if-ne, if-true, if-false, on-eq}
 use Rattle.t800.proofs.Laws.Lists.{record-words-length, none-too-deep}
 use Rattle.round_trip.proofs.Trip.Booked.{entries-length}
-use Rattle.round_trip.proofs.Trip.Calls.{refused-keeps, terminated-accepted, terminated-refused, FirstOwed, first-owed, refused-read-keeps}
+use Rattle.round_trip.proofs.Trip.Calls.{refused-keeps, terminated-accepted, terminated-refused, FirstOwed, first-owed}
+use Rattle.round_trip.proofs.Trip.Calls.{refused-read-keeps}
 use Rattle.t800.proofs.Laws.Accepted.{start-accepted}
 use Rattle.round_trip.proofs.Trip.WriterInRange.{acceptable}
 use Rattle.round_trip.proofs.Trip.Invariant.{Invariant, after-start, reports-are, packet-gives, after-packet, read-harmless}
@@ -32,7 +36,8 @@ use Rattle.round_trip.proofs.Trip.Invariant.{Invariant, after-start, re
 unfoldable pub bookAfter : List ℕ → List BlockEntry → List WriterCall → List BlockEntry
 bookAfter ws book [] = book
 bookAfter ws book (measuring c ∷ cs) = bookAfter ws book cs
-bookAfter ws book (writing c ∷ cs) = bookAfter (writeOf ws c .state) (cond (accepted ws c) (addCounts book (c .contribution .counts)) book) cs
+bookAfter ws book (writing c ∷ cs) =
+    bookAfter (writeOf ws c .state) (cond (accepted ws c) (addCounts book (c .contribution .counts)) book) cs
 
 -- after an accepted start and a list of calls that keeps the termination rule
 pub record Reached (style : ℕ) (ws : List ℕ) (book : List BlockEntry) : Type 0 where
@@ -42,7 +47,8 @@ pub record Reached (style : ℕ) (ws : List ℕ) (book : List BlockEntry) : Type
   pub lent : List ℕ
   pub calls : List WriterCall
   pub starts : start writer count given style planes lent .answer ≡ 0
-  pub terminated : T (allTerminatedAsStyle style (start writer count given style planes lent .state) (newBook (take count given) planes) calls)
+  pub terminated : T (allTerminatedAsStyle style (start writer count given style planes lent .state)
+      (newBook (take count given) planes) calls)
   pub state-is : stateAfter (start writer count given style planes lent .state) calls ≡ ws
   pub book-is : bookAfter (start writer count given style planes lent .state) (newBook (take count given) planes) calls ≡ book
 
@@ -74,10 +80,19 @@ owed-markers s ws es c = refl
 
 -- an input read with n reports and m records lent
 abbrev callFor : List ℕ → WriteCall → List ℕ → ℕ → ℕ → ReadCall
-callFor rs c input n m = record { scratch = replicate (length rs) 0; markers = c .markers; input = input; reports = replicate (reportWidth * n) 0; records = replicate (recordWidth * m) 0 }
+callFor rs c input n m =
+    record {
+      scratch = replicate (length rs) 0;
+      markers = c .markers;
+      input = input;
+      reports = replicate (reportWidth * n) 0;
+      records = replicate (recordWidth * m) 0;
+    }
 
-reads-packet : (s : ℕ) (ws rs : List ℕ) (es : List BlockEntry) (c d : WriteCall) (input : List ℕ) (n m : ℕ) → c .markers ≡ d .markers → take (length (frontOf ws c)) input ≡ frontOf ws c
-    → length (owedFor s ws es c .entry .reports) ≡ n → length (owedFor s ws es c .entry .records) ≤ m → ReadsPacket rs (owedFor s ws es c) (callFor rs d input n m)
+reads-packet : (s : ℕ) (ws rs : List ℕ) (es : List BlockEntry) (c d : WriteCall) (input : List ℕ) (n m : ℕ) → c .markers
+    ≡ d .markers → take (length (frontOf ws c)) input ≡ frontOf ws c
+    → length (owedFor s ws es c .entry .reports) ≡ n → length (owedFor s ws es c .entry .records) ≤ m
+    → ReadsPacket rs (owedFor s ws es c) (callFor rs d input n m)
 reads-packet s ws rs es c d input n m marked begins reps recs =
     record {
       same-markers = sym marked ∙ sym (owed-markers s ws es c);
@@ -89,14 +104,20 @@ reads-packet s ws rs es c d input n m marked begins reps recs =
 
 module _ (bs : List Band) (s : ℕ) where
   -- one accepted call, and a read of its packet
-  reader-follows : (t : ℕ) (ws rs : List ℕ) (es : List BlockEntry) (c : WriteCall) → Invariant bs s t ws rs es → accepted ws c ≡ true → T (terminatedAsStyle s es (c .contribution .counts) (c .contribution .marks))
+  reader-follows : (t : ℕ) (ws rs : List ℕ) (es : List BlockEntry) (c : WriteCall) → Invariant bs s t ws rs es → accepted ws c
+      ≡ true → T (terminatedAsStyle s es (c .contribution .counts) (c .contribution .marks))
       → (us : List ℕ) × Invariant bs s (t + 1) (writeOf ws c .state) us (addCounts es (c .contribution .counts))
   reader-follows t ws rs es c y a term =
       let o : Owed = owedFor s ws es c in
-      let r : ReadCall = callFor rs c (frontOf ws c) (length (o .entry .reports)) (length (o .entry .records)) in
-      (readOf rs r .state, after-packet bs s t ws rs es c y a term r (reads-packet s ws rs es c c (frontOf ws c) (length (o .entry .reports)) (length (o .entry .records)) refl (take-length (frontOf ws c)) refl (omega arith)))
+      let r : ReadCall = callFor rs c (frontOf ws c) (length (o .entry .reports)) (length (o .entry .records)) in (
+        readOf rs r .state,
+        after-packet bs s t ws rs es c y a term r
+            (reads-packet s ws rs es c c (frontOf ws c) (length (o .entry .reports)) (length (o .entry .records)) refl
+            (take-length (frontOf ws c)) refl (omega arith)),
+      )
 
-  reader-after : (t : ℕ) (ws rs : List ℕ) (es : List BlockEntry) (calls : List WriterCall) → Invariant bs s t ws rs es → T (allTerminatedAsStyle s ws es calls)
+  reader-after : (t : ℕ) (ws rs : List ℕ) (es : List BlockEntry) (calls : List WriterCall) → Invariant bs s t ws rs es
+      → T (allTerminatedAsStyle s ws es calls)
       → (u : ℕ) × (us : List ℕ) × Invariant bs s u (stateAfter ws calls) us (bookAfter ws es calls)
   unfolding stateAfter bookAfter allTerminatedAsStyle
   reader-after t ws rs es [] y h = (t, rs, y)
@@ -108,14 +129,20 @@ module _ (bs : List Band) (s : ℕ) where
       book : Bool → List BlockEntry
       book b = cond b (addCounts es (c .contribution .counts)) es
 
-      one : (b : Bool) → accepted ws c ≡ b → (u : ℕ) × (us : List ℕ) × Invariant bs s u (writeOf ws c .state) us (book (accepted ws c)) × T (allTerminatedAsStyle s (writeOf ws c .state) (book (accepted ws c)) cs)
+      one : (b : Bool) → accepted ws c ≡ b → (u : ℕ) × (us : List ℕ)
+          × Invariant bs s u (writeOf ws c .state) us (book (accepted ws c))
+          × T (allTerminatedAsStyle s (writeOf ws c .state) (book (accepted ws c)) cs)
       one true a =
           let here : Bool = terminatedAsStyle s es (c .contribution .counts) (c .contribution .marks) in
           let rest : Bool = allTerminatedAsStyle s (writeOf ws c .state) (addCounts es (c .contribution .counts)) cs in
           let h₁ : T (here && rest) = subst T (terminated-accepted s ws es c cs a) h in
           let n = reader-follows t ws rs es c y a (and-l here rest h₁) in
-          let e : addCounts es (c .contribution .counts) ≡ book (accepted ws c) = sym (if-true (accepted ws c) _ _ a) in
-          (t + 1, n .0, subst (Invariant bs s (t + 1) (writeOf ws c .state) (n .0)) e (n .1), subst (λ (z : List BlockEntry). T (allTerminatedAsStyle s (writeOf ws c .state) z cs)) e (and-r here rest h₁))
+          let e : addCounts es (c .contribution .counts) ≡ book (accepted ws c) = sym (if-true (accepted ws c) _ _ a) in (
+            t + 1,
+            n .0,
+            subst (Invariant bs s (t + 1) (writeOf ws c .state) (n .0)) e (n .1),
+            subst (λ (z : List BlockEntry). T (allTerminatedAsStyle s (writeOf ws c .state) z cs)) e (and-r here rest h₁),
+          )
       one false a =
           let w : ws ≡ writeOf ws c .state = sym (refused-keeps ws c a) in
           let e : es ≡ book (accepted ws c) = sym (if-false (accepted ws c) _ _ a) in
@@ -123,25 +150,41 @@ module _ (bs : List Band) (s : ℕ) where
             t,
             rs,
             subst (Invariant bs s t (writeOf ws c .state) rs) e (subst (λ (v : List ℕ). Invariant bs s t v rs es) w y),
-            subst (λ (z : List BlockEntry). T (allTerminatedAsStyle s (writeOf ws c .state) z cs)) e (subst (λ (v : List ℕ). T (allTerminatedAsStyle s v es cs)) w h₁),
+            subst (λ (z : List BlockEntry). T (allTerminatedAsStyle s (writeOf ws c .state) z cs)) e
+                (subst (λ (v : List ℕ). T (allTerminatedAsStyle s v es cs)) w h₁),
           )
 
 -- a reader can be started wherever a writer can
-reader-starts : (n : ℕ) (given : List Band) (s : ℕ) (planes lent : List ℕ) → start writer n given s planes lent .answer ≡ 0 → start reader n given s [] lent .answer ≡ 0
+reader-starts : (n : ℕ) (given : List Band) (s : ℕ) (planes lent : List ℕ) → start writer n given s planes lent .answer ≡ 0
+    → start reader n given s [] lent .answer ≡ 0
 unfolding start startRefusal writer reader
 reader-starts n given s planes lent e =
     let w = start-accepted writer n given s planes lent e in
-    rw (w .shape, le-ltb (length given) n (w .enough), w .style-in, eq-eqb _ _ (w .lent-length), w .bands-in, none-too-deep (blocks (take n given)))
+    rw (
+      w .shape,
+      le-ltb (length given) n (w .enough),
+      w .style-in,
+      eq-eqb _ _ (w .lent-length),
+      w .bands-in,
+      none-too-deep (blocks (take n given)),
+    )
 
-reader-in-step : (s : ℕ) (ws : List ℕ) (es : List BlockEntry) → Reached s ws es → (bs : List Band) × (t : ℕ) × (rs : List ℕ) × Invariant bs s t ws rs es
+reader-in-step : (s : ℕ) (ws : List ℕ) (es : List BlockEntry) → Reached s ws es → (bs : List Band) × (t : ℕ) × (rs : List ℕ)
+    × Invariant bs s t ws rs es
 reader-in-step s ws es r =
     let bs : List Band = take (r .count) (r .given) in
     let ws₀ : List ℕ = start writer (r .count) (r .given) s (r .planes) (r .lent) .state in
     let rs₀ : List ℕ = start reader (r .count) (r .given) s [] (r .lent) .state in
     let es₀ : List BlockEntry = newBook bs (r .planes) in
-    let y = after-start (r .count) (r .given) s (r .planes) (r .lent) (r .lent) (r .starts) (reader-starts (r .count) (r .given) s (r .planes) (r .lent) (r .starts)) in
-    let q = reader-after bs s 0 ws₀ rs₀ es₀ (r .calls) y (r .terminated) in
-    (bs, q .0, q .1, subst (λ (v : List ℕ). Invariant bs s (q .0) v (q .1) es) (r .state-is) (subst (Invariant bs s (q .0) (stateAfter ws₀ (r .calls)) (q .1)) (r .book-is) (q .2)))
+    let y = after-start (r .count) (r .given) s (r .planes) (r .lent) (r .lent) (r .starts)
+    (reader-starts (r .count) (r .given) s (r .planes) (r .lent) (r .starts)) in
+    let q = reader-after bs s 0 ws₀ rs₀ es₀ (r .calls) y (r .terminated) in (
+      bs,
+      q .0,
+      q .1,
+      subst (λ (v : List ℕ). Invariant bs s (q .0) v (q .1) es) (r .state-is)
+          (subst (Invariant bs s (q .0) (stateAfter ws₀ (r .calls)) (q .1)) (r .book-is) (q .2)),
+    )
 
 -- ---- words tell reports and records
 
@@ -176,12 +219,14 @@ records-told (x ∷ xs) (y ∷ ys) e =
 over-same : (lent xs ys : List ℕ) → length xs ≡ length ys → overwrite lent xs ≡ overwrite lent ys → xs ≡ ys
 unfolding overwrite
 over-same lent xs ys l e =
-    sym (take-append-seam xs (drop (length xs) lent)) ∙ ap (take (length xs)) e ∙ ap (λ (n : ℕ). take n (ys ++ drop (length ys) lent)) l ∙ take-append-seam ys (drop (length ys) lent)
+    sym (take-append-seam xs (drop (length xs) lent)) ∙ ap (take (length xs)) e
+    ∙ ap (λ (n : ℕ). take n (ys ++ drop (length ys) lent)) l ∙ take-append-seam ys (drop (length ys) lent)
 
 -- ---- two packets in one state
 
 -- read by one call, whose input begins with both fronts
-module _ (s : ℕ) (ws : List ℕ) (es : List BlockEntry) (R : Reached s ws es) (a b : WriteCall) (A : Writes s ws es a) (B : Writes s ws es b) (marked : a .markers ≡ b .markers)
+module _ (s : ℕ) (ws : List ℕ) (es : List BlockEntry) (R : Reached s ws es) (a b : WriteCall) (A : Writes s ws es a)
+    (B : Writes s ws es b) (marked : a .markers ≡ b .markers)
     (begins : take (length (frontOf ws a)) (frontOf ws b) ≡ frontOf ws a) where
   abbrev itsBands : List Band
   itsBands = reader-in-step s ws es R .0
@@ -203,11 +248,14 @@ module _ (s : ℕ) (ws : List ℕ) (es : List BlockEntry) (R : Reached s ws es) 
 
   gives-a : GivesEntry (owedFor s ws es a) call (readOf readerWords call)
   gives-a = packet-gives itsBands s itsLayer ws readerWords es a between (A .accepts) (A .terminated) call
-      (reads-packet s ws readerWords es a b (frontOf ws b) (length (blocks itsBands)) (recordsOwed a + recordsOwed b) marked begins (reports-are itsBands s itsLayer ws readerWords es a between (A .accepts) (A .terminated)) (omega arith))
+      (reads-packet s ws readerWords es a b (frontOf ws b) (length (blocks itsBands)) (recordsOwed a + recordsOwed b) marked begins
+      (reports-are itsBands s itsLayer ws readerWords es a between (A .accepts) (A .terminated)) (omega arith))
 
   gives-b : GivesEntry (owedFor s ws es b) call (readOf readerWords call)
   gives-b = packet-gives itsBands s itsLayer ws readerWords es b between (B .accepts) (B .terminated) call
-      (reads-packet s ws readerWords es b b (frontOf ws b) (length (blocks itsBands)) (recordsOwed a + recordsOwed b) refl (take-length (frontOf ws b)) (reports-are itsBands s itsLayer ws readerWords es b between (B .accepts) (B .terminated)) (omega arith))
+      (reads-packet s ws readerWords es b b (frontOf ws b) (length (blocks itsBands)) (recordsOwed a + recordsOwed b) refl
+      (take-length (frontOf ws b)) (reports-are itsBands s itsLayer ws readerWords es b between (B .accepts) (B .terminated))
+      (omega arith))
 
   same-length : length (frontOf ws a) ≡ length (frontOf ws b)
   same-length = ap length (sym (owed-front s ws es a)) ∙ sym (gives-a .taken) ∙ gives-b .taken ∙ ap length (owed-front s ws es b)
@@ -218,23 +266,32 @@ module _ (s : ℕ) (ws : List ℕ) (es : List BlockEntry) (R : Reached s ws es) 
       let F : Entry = owedFor s ws es b .entry in
       let p : E .reports ≡ F .reports = reports-told (E .reports) (F .reports) (sym (gives-a .reports) ∙ gives-b .reports) in
       let n : length (E .records) ≡ length (F .records) = sym (gives-a .segments) ∙ gives-b .segments in
-      let l : length (recordWords (E .records)) ≡ length (recordWords (F .records)) = record-words-length (E .records) ∙ ap (λ (z : ℕ). recordWidth * z) n ∙ sym (record-words-length (F .records)) in
-      let q : E .records ≡ F .records = records-told (E .records) (F .records) (over-same (call .records) (recordWords (E .records)) (recordWords (F .records)) l (sym (gives-a .records) ∙ gives-b .records)) in
+      let l : length (recordWords (E .records)) ≡ length (recordWords (F .records)) = record-words-length (E .records)
+      ∙ ap (λ (z : ℕ). recordWidth * z) n ∙ sym (record-words-length (F .records)) in
+      let q : E .records ≡ F .records =
+      records-told (E .records) (F .records)
+      (over-same (call .records) (recordWords (E .records)) (recordWords (F .records)) l
+      (sym (gives-a .records) ∙ gives-b .records)) in
       sym (owed-entry s ws es a) ∙ (λ i. record { reports = p i; records = q i }) ∙ owed-entry s ws es b
 
--- Two writing calls accepted in the same state with the same markers, each meeting the termination rule: different entries of the book, that
+-- Two writing calls accepted in the same state with the same markers, each meeting the termination rule: different entries of the
+-- book, that
 -- is, different counts, block facts or segment lengths, never give the same header bytes.
-pub different-entries-differ : (s : ℕ) (ws : List ℕ) (book : List BlockEntry) → Reached s ws book → (a b : WriteCall) → Writes s ws book a → Writes s ws book b → a .markers ≡ b .markers
+pub different-entries-differ : (s : ℕ) (ws : List ℕ) (book : List BlockEntry) → Reached s ws book → (a b : WriteCall)
+    → Writes s ws book a → Writes s ws book b → a .markers ≡ b .markers
     → entryOf s book a ≢ entryOf s book b → frontOf ws a ≢ frontOf ws b
 different-entries-differ s ws book R a b A B marked differ same =
-    differ (same-entry s ws book R a b A B marked (subst (λ (z : List ℕ). take (length (frontOf ws a)) z ≡ frontOf ws a) same (take-length (frontOf ws a))))
+    differ (same-entry s ws book R a b A B marked
+    (subst (λ (z : List ℕ). take (length (frontOf ws a)) z ≡ frontOf ws a) same (take-length (frontOf ws a))))
 
 -- No packet's front is a proper prefix of another's in the same state with the same markers.
-pub no-proper-prefix : (s : ℕ) (ws : List ℕ) (book : List BlockEntry) → Reached s ws book → (a b : WriteCall) → Writes s ws book a → Writes s ws book b → a .markers ≡ b .markers
+pub no-proper-prefix : (s : ℕ) (ws : List ℕ) (book : List BlockEntry) → Reached s ws book → (a b : WriteCall) → Writes s ws book a
+    → Writes s ws book b → a .markers ≡ b .markers
     → (rest : List ℕ) → frontOf ws a ++ rest ≡ frontOf ws b → rest ≡ []
 no-proper-prefix s ws book R a b A B marked rest e =
     let l = same-length s ws book R a b A B marked (ap (take (length (frontOf ws a))) (sym e) ∙ take-append-seam (frontOf ws a) rest) in
-    empty rest (let n : length (frontOf ws a) + length rest ≡ length (frontOf ws b) = sym (length-append (frontOf ws a) rest) ∙ ap length e in omega arith)
+    empty rest (let n : length (frontOf ws a) + length rest ≡ length (frontOf ws b) = sym (length-append (frontOf ws a) rest)
+    ∙ ap length e in omega arith)
   where
     empty : (xs : List ℕ) → length xs ≡ 0 → xs ≡ []
     empty [] h = refl
@@ -251,29 +308,35 @@ unfolding reportOf
 report-passes e c =
     on-eq c 0
     (λ h. ap (λ (x : BlockReport). x .passes) (if-eq c 0 _ _ h) ∙ sym h)
-    (λ h. ap (λ (x : BlockReport). x .passes) (if-ne c 0 _ _ h) ∙ either (λ (x : BlockReport). x .passes ≡ c) (eqb (e .passes) 0) _ _ refl refl)
+    (λ h. ap (λ (x : BlockReport). x .passes) (if-ne c 0 _ _ h)
+    ∙ either (λ (x : BlockReport). x .passes ≡ c) (eqb (e .passes) 0) _ _ refl refl)
 
 counts-in : (s i : ℕ) (es : List BlockEntry) (cs ls : List ℕ) → length cs ≡ length es → passesIn (entryFrom s i es cs ls .reports) ≡ cs
 unfolding entryFrom
 counts-in s i [] [] ls h = refl
 counts-in s i [] (c ∷ cs) ls h = absurd (omega arith)
 counts-in s i (e ∷ es) [] ls h = absurd (omega arith)
-counts-in s i (e ∷ es) (c ∷ cs) ls h = ap₂ (λ (x : ℕ) (xs : List ℕ). x ∷ xs) (report-passes e c) (counts-in s (i + 1) es cs (drop c ls) (omega arith))
+counts-in s i (e ∷ es) (c ∷ cs) ls h =
+    ap₂ (λ (x : ℕ) (xs : List ℕ). x ∷ xs) (report-passes e c) (counts-in s (i + 1) es cs (drop c ls) (omega arith))
 
 counts-told : (s : ℕ) (es : List BlockEntry) (cs ls : List ℕ) → length cs ≡ length es → passesIn (entry s es cs ls .reports) ≡ cs
 unfolding entry
 counts-told s es cs ls h = counts-in s 0 es cs ls h
 
-pub different-counts-differ : (s : ℕ) (ws : List ℕ) (book : List BlockEntry) → Reached s ws book → (a b : WriteCall) → Writes s ws book a → Writes s ws book b → a .markers ≡ b .markers
+pub different-counts-differ : (s : ℕ) (ws : List ℕ) (book : List BlockEntry) → Reached s ws book → (a b : WriteCall)
+    → Writes s ws book a → Writes s ws book b → a .markers ≡ b .markers
     → a .contribution .counts ≢ b .contribution .counts → frontOf ws a ≢ frontOf ws b
 different-counts-differ s ws book R a b A B marked differ =
     different-entries-differ s ws book R a b A B marked
-    (λ e. differ (sym (counts-told s book (a .contribution .counts) (a .contribution .lengths) (as-many a A)) ∙ ap (λ (z : Entry). passesIn (z .reports)) e ∙ counts-told s book (b .contribution .counts) (b .contribution .lengths) (as-many b B)))
+    (λ e. differ (sym (counts-told s book (a .contribution .counts) (a .contribution .lengths) (as-many a A))
+    ∙ ap (λ (z : Entry). passesIn (z .reports)) e
+    ∙ counts-told s book (b .contribution .counts) (b .contribution .lengths) (as-many b B)))
   where
     as-many : (c : WriteCall) → Writes s ws book c → length (c .contribution .counts) ≡ length book
     as-many c C =
         let q = reader-in-step s ws book R in
-        acceptable (q .0) s (q .1) ws c (q .3 .writer-side) (C .accepts) .counts ∙ sym (entries-length ws (blocks (q .0)) book (q .3 .booked))
+        acceptable (q .0) s (q .1) ws c (q .3 .writer-side) (C .accepts) .counts
+        ∙ sym (entries-length ws (blocks (q .0)) book (q .3 .booked))
 
 -- ---- refusals of reads
 
@@ -281,7 +344,8 @@ different-counts-differ s ws book R a b A B marked differ =
 abbrev pub NeverBroken : List ℕ → Owed → Type 0
 NeverBroken rs o =
     (c : ReadCall) → c .markers ≡ o .markers → take (length (o .front)) (c .input) ≡ o .front
-    → (readOf rs c .answer .refusal ≢ 9) × (readOf rs c .answer .refusal ≢ 12) × (readOf rs c .answer .refusal ≡ 13 → length (c .records) < recordWidth * length (o .entry .records))
+    → (readOf rs c .answer .refusal ≢ 9) × (readOf rs c .answer .refusal ≢ 12)
+    × (readOf rs c .answer .refusal ≡ 13 → length (c .records) < recordWidth * length (o .entry .records))
 
 -- after any list of reads, refused ones and reads of the packets in order, the next packet is such
 unfoldable pub NextNeverBroken : List ℕ → List Owed → List ReaderCall → Type 0
@@ -294,7 +358,8 @@ no-packet : (rs : List ℕ) (os : List Owed) (cs : List ReaderCall) → os ≡ [
 unfolding NextNeverBroken
 no-packet rs os cs e = subst (λ (z : List Owed). NextNeverBroken rs z cs) (sym e) tt
 
-never-broken : (bs : List Band) (s t : ℕ) (ws rs : List ℕ) (es : List BlockEntry) (reads : List ReaderCall) (writes : List WriterCall) → Invariant bs s t ws rs es → T (allTerminatedAsStyle s ws es writes)
+never-broken : (bs : List Band) (s t : ℕ) (ws rs : List ℕ) (es : List BlockEntry) (reads : List ReaderCall)
+    (writes : List WriterCall) → Invariant bs s t ws rs es → T (allTerminatedAsStyle s ws es writes)
     → NextNeverBroken rs (owed s ws es writes) reads
 unfolding NextNeverBroken
 never-broken bs s t ws rs es [] writes y h = go (first-owed s ws es writes h)
@@ -303,23 +368,31 @@ never-broken bs s t ws rs es [] writes y h = go (first-owed s ws es writes h)
     go (inl e) = no-packet rs (owed s ws es writes) [] e
     go (inr f) =
         subst (λ (os : List Owed). NextNeverBroken rs os []) (sym (f .is))
-        (λ c marked begins. read-harmless bs s t ws rs es (f .call) y (f .accepts) (f .terminated) c (marked ∙ owed-markers s ws es (f .call)) begins)
-never-broken bs s t ws rs es (refusedRead c ∷ reads) writes y h = go (first-owed s ws es writes h) (never-broken bs s t ws rs es reads writes y h)
+        (λ c marked begins. read-harmless bs s t ws rs es (f .call) y (f .accepts) (f .terminated) c
+        (marked ∙ owed-markers s ws es (f .call)) begins)
+never-broken bs s t ws rs es (refusedRead c ∷ reads) writes y h =
+    go (first-owed s ws es writes h) (never-broken bs s t ws rs es reads writes y h)
   where
-    go : (owed s ws es writes ≡ []) ⊎ FirstOwed s ws es writes → NextNeverBroken rs (owed s ws es writes) reads → NextNeverBroken rs (owed s ws es writes) (refusedRead c ∷ reads)
+    go : (owed s ws es writes ≡ []) ⊎ FirstOwed s ws es writes → NextNeverBroken rs (owed s ws es writes) reads
+        → NextNeverBroken rs (owed s ws es writes) (refusedRead c ∷ reads)
     go (inl e) k = no-packet rs (owed s ws es writes) (refusedRead c ∷ reads) e
     go (inr f) k =
         subst (λ (os : List Owed). NextNeverBroken rs os (refusedRead c ∷ reads)) (sym (f .is))
-        (λ z. subst (λ (v : List ℕ). NextNeverBroken v (owedFor s ws es (f .call) ∷ owed s (writeOf ws (f .call) .state) (addCounts es (f .call .contribution .counts)) (f .rest)) reads) (sym (refused-read-keeps rs c z)) (subst (λ (os : List Owed). NextNeverBroken rs os reads) (f .is) k))
-never-broken bs s t ws rs es (packetRead c ∷ reads) writes y h = go (first-owed s ws es writes h) (λ v u es₂ later i k. never-broken bs s (t + 1) v u es₂ reads later i k)
+        (λ z. subst (λ (v : List ℕ). NextNeverBroken v
+        (owedFor s ws es (f .call) ∷ owed s (writeOf ws (f .call) .state) (addCounts es (f .call .contribution .counts)) (f .rest))
+        reads) (sym (refused-read-keeps rs c z)) (subst (λ (os : List Owed). NextNeverBroken rs os reads) (f .is) k))
+never-broken bs s t ws rs es (packetRead c ∷ reads) writes y h =
+    go (first-owed s ws es writes h) (λ v u es₂ later i k. never-broken bs s (t + 1) v u es₂ reads later i k)
   where
     go : (owed s ws es writes ≡ []) ⊎ FirstOwed s ws es writes
-        → ((v u : List ℕ) (es₂ : List BlockEntry) (later : List WriterCall) → Invariant bs s (t + 1) v u es₂ → T (allTerminatedAsStyle s v es₂ later) → NextNeverBroken u (owed s v es₂ later) reads)
+        → ((v u : List ℕ) (es₂ : List BlockEntry) (later : List WriterCall) → Invariant bs s (t + 1) v u es₂
+        → T (allTerminatedAsStyle s v es₂ later) → NextNeverBroken u (owed s v es₂ later) reads)
         → NextNeverBroken rs (owed s ws es writes) (packetRead c ∷ reads)
     go (inl e) k = no-packet rs (owed s ws es writes) (packetRead c ∷ reads) e
     go (inr f) k =
         subst (λ (os : List Owed). NextNeverBroken rs os (packetRead c ∷ reads)) (sym (f .is))
-        (λ ask. k (writeOf ws (f .call) .state) (readOf rs c .state) (addCounts es (f .call .contribution .counts)) (f .rest) (after-packet bs s t ws rs es (f .call) y (f .accepts) (f .terminated) c ask) (f .rest-terminated))
+        (λ ask. k (writeOf ws (f .call) .state) (readOf rs c .state) (addCounts es (f .call .contribution .counts)) (f .rest)
+        (after-packet bs s t ws rs es (f .call) y (f .accepts) (f .terminated) c ask) (f .rest-terminated))
 
 -- Reading a packet that the writer made never gives 9 or 12, and 13 only when fewer records are lent than the book's entry has.
 pub packets-never-broken : (n : ℕ) (given : List Band) (style : ℕ) (planes lent lent′ : List ℕ)
@@ -328,7 +401,9 @@ pub packets-never-broken : (n : ℕ) (given : List Band) (style : ℕ) (planes l
     → (ws : List WriterCall)
     → T (allTerminatedAsStyle style (start writer n given style planes lent .state) (newBook (take n given) planes) ws)
     → (rs : List ReaderCall)
-    → NextNeverBroken (start reader n given style [] lent′ .state) (owed style (start writer n given style planes lent .state) (newBook (take n given) planes) ws) rs
+    → NextNeverBroken (start reader n given style [] lent′ .state)
+    (owed style (start writer n given style planes lent .state) (newBook (take n given) planes) ws) rs
 packets-never-broken n given style planes lent lent′ ew er ws h rs =
-    never-broken (take n given) style 0 (start writer n given style planes lent .state) (start reader n given style [] lent′ .state) (newBook (take n given) planes) rs ws
+    never-broken (take n given) style 0 (start writer n given style planes lent .state) (start reader n given style [] lent′ .state)
+    (newBook (take n given) planes) rs ws
     (after-start n given style planes lent lent′ ew er) h

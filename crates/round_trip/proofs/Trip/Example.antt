@@ -11,7 +11,8 @@ use Rattle.t800.specs.declared.Markers.{Markers}
 use Rattle.t800.specs.State.{writer, reader}
 use Rattle.t800.specs.Start.{start}
 use Rattle.t800.specs.Book.{BlockEntry, newBook, terminatedAt, terminatedAsStyle}
-use Rattle.t800.specs.RoundTrip.{RoundTrip, WriteCall, WriterCall, measuring, writing, writeOf, owedFor, owed, allTerminatedAsStyle, ReaderCall, ReadsAsOwed}
+use Rattle.t800.specs.RoundTrip.{RoundTrip, WriteCall, WriterCall, measuring, writing, writeOf, owedFor, owed, allTerminatedAsStyle}
+use Rattle.t800.specs.RoundTrip.{ReaderCall, ReadsAsOwed}
 use Rattle.t800.proofs.Table.{rowHolds}
 use Rattle.round_trip.proofs.Trip.RoundTrip.{round-trip}
 

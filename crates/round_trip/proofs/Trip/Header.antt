@@ -25,19 +25,23 @@ use Rattle.round_trip.proofs.Trip.Blocks.{all-ready, blocks-read}
 use Rattle.t800.proofs.Laws.HeaderBits.{bits-blocks}
 
 -- the header's blocks read from place p on, with n bytes taken
-pub record HeaderReadBack (L : Layout) (s t : ℕ) (src : List ℕ) (room p n : ℕ) (ws rs vs : List ℕ) (ks : List Block) (es : List BlockEntry) (c : Contribution) : Type 0 where
+pub record HeaderReadBack (L : Layout) (s t : ℕ) (src : List ℕ) (room p n : ℕ) (ws rs vs : List ℕ) (ks : List Block)
+    (es : List BlockEntry) (c : Contribution) : Type 0 where
   pub words : List ℕ
   pub first-bit : nextBit src (bioAt p) ≡ 1
   pub end : Bio
-  pub is : readBlocks src room t 0 ks (readSoFar rs (bioAfter src (bioAt p)) [] []) ≡ readSoFar words end (entry s es (c .counts) (c .lengths) .reports) (entry s es (c .counts) (c .lengths) .records)
+  pub is : readBlocks src room t 0 ks (readSoFar rs (bioAfter src (bioAt p)) [] [])
+      ≡ readSoFar words end (entry s es (c .counts) (c .lengths) .reports) (entry s es (c .counts) (c .lengths) .records)
   pub whole : endsInFF src end ≡ false
   pub taken : bytesTaken src end ≡ p + n
   pub in-step : InStep L s vs words
   pub booked : AllBooked vs ks (addCounts es (c .counts))
   pub reader-first : (j : ℕ) → j < 13 → getD words j 0 ≡ getD rs j 0
 
-pub header-read : (L : Layout) (s t : ℕ) (ks : List Block) → AllPlaced L ks → t < notYetIncluded → (src tail : List ℕ) (room p : ℕ) (ws rs : List ℕ) (es : List BlockEntry) (c : Contribution)
-    → WriterState L t ws → InStep L s ws rs → AllBooked ws ks es → Acceptable ws ks c → T (terminatedAsStyle s es (c .counts) (c .marks)) → length (entry s es (c .counts) (c .lengths) .records) ≤ room
+pub header-read : (L : Layout) (s t : ℕ) (ks : List Block) → AllPlaced L ks → t < notYetIncluded
+    → (src tail : List ℕ) (room p : ℕ) (ws rs : List ℕ) (es : List BlockEntry) (c : Contribution)
+    → WriterState L t ws → InStep L s ws rs → AllBooked ws ks es → Acceptable ws ks c
+    → T (terminatedAsStyle s es (c .counts) (c .marks)) → length (entry s es (c .counts) (c .lengths) .records) ≤ room
     → drop p src ≡ pack (1 ∷ headerBlocks t ks c ws .bits) ++ tail
     → HeaderReadBack L s t src room p (length (pack (1 ∷ headerBlocks t ks c ws .bits))) ws rs (headerBlocks t ks c ws .words) ks es c
 unfolding entry
@@ -59,8 +63,10 @@ header-read L s t ks f ht src tail room p ws rs es c W y b q term enough e =
     } in
     let coded = blocks-coded L t ks cs (c .lengths) (c .marks) us f ul in
     let g = packed-bits-read src tail 1 (headerBlocks t ks c ws .bits) p (omega arith) (bits-blocks t ks cs (c .lengths) (c .marks) us) e in
-    let ready = all-ready L s t ws us ks es cs (c .lengths) (c .marks) ht f (N .only) b (n .1) (λ a m. W .blocks a m .most) (q .counts) (q .lengths) (q .marks) (q .few) (q .fits) term in
-    let z = blocks-read L s t src room (g .end) ks es cs (c .lengths) (c .marks) 0 us rs (bioAfter src (bioAt p)) [] [] ht f set ready (g .reads .2)
+    let ready = all-ready L s t ws us ks es cs (c .lengths) (c .marks) ht f (N .only) b (n .1) (λ a m. W .blocks a m .most)
+    (q .counts) (q .lengths) (q .marks) (q .few) (q .fits) term in
+    let z = blocks-read L s t src room (g .end) ks es cs (c .lengths) (c .marks) 0 us rs (bioAfter src (bioAt p)) [] [] ht f set
+    ready (g .reads .2)
     (le-trans (le-of-eq (zero-add (length (entryFrom s 0 es cs (c .lengths) .records)))) enough) in
     record {
       words = z .words;

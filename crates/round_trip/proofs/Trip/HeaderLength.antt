@@ -14,13 +14,16 @@ use Rattle.t800.specs.TagTree.{Coded, levels, pathFrom, pathToRoot, setValue, l
 use Rattle.t800.specs.PassCount.{passBits}
 use Rattle.t800.specs.Segments.{Segment, segmentsFrom, segmentsOf, width, increment, commaBits, lengthFields}
 use Rattle.t800.specs.State.{Block, notYetIncluded, notYetPlanes, blocksIn, bandLength, blocksFrom, blocksAt, blocks, passesSoFar}
-use Rattle.t800.specs.WriteHeader.{Contribution, isNew, lengthBitsBefore, setNewBlocks, codeInclusion, codeZeroPlanes, codePasses, codeBlock, codeBlocks}
+use Rattle.t800.specs.WriteHeader.{Contribution, isNew, lengthBitsBefore, setNewBlocks, codeInclusion, codeZeroPlanes, codePasses}
+use Rattle.t800.specs.WriteHeader.{codeBlock, codeBlocks}
 use Rattle.t800.proofs.Laws.Levels.{at-most-seven-levels}
 use Rattle.t800.proofs.Laws.Layout.{Layout, inclusion, Placed, AllPlaced}
 use Rattle.t800.proofs.Laws.Tests.{either, on-eq, if-eq, if-ne}
 use Rattle.round_trip.proofs.Trip.Segments.{tooWide, field-fits}
-use Rattle.round_trip.proofs.Trip.Changes.{ValuesOnly, no-values, values-then, leaf-set, nodes-only, block-stays, block-coded, paths-keep}
-use Rattle.round_trip.proofs.Trip.WriterState.{Codable, same-codable, AllCodable, still-codable, all-codable, Acceptable, some-segment, bits-fit, headerBlocks}
+use Rattle.round_trip.proofs.Trip.Changes.{ValuesOnly, no-values, values-then, leaf-set, nodes-only, block-stays}
+use Rattle.round_trip.proofs.Trip.Changes.{block-coded, paths-keep}
+use Rattle.round_trip.proofs.Trip.WriterState.{Codable, same-codable, AllCodable, still-codable, all-codable, Acceptable}
+use Rattle.round_trip.proofs.Trip.WriterState.{some-segment, bits-fit, headerBlocks}
 
 -- ---- bytes
 
@@ -78,7 +81,8 @@ passes-up-to n =
     either (λ (z : List ℕ). length z ≤ 16) (leb n 1) _ _ (omega arith)
     (either (λ (z : List ℕ). length z ≤ 16) (leb n 2) _ _ (omega arith)
     (either (λ (z : List ℕ). length z ≤ 16) (leb n 5) _ _ (omega (arith, bitsOf-length 2 (n - 3)))
-    (either (λ (z : List ℕ). length z ≤ 16) (leb n 36) _ _ (omega (arith, length-append (replicate 4 1) (bitsOf 5 (n - 6)), length-replicate {A = ℕ} 4 1, bitsOf-length 5 (n - 6)))
+    (either (λ (z : List ℕ). length z ≤ 16) (leb n 36) _ _
+    (omega (arith, length-append (replicate 4 1) (bitsOf 5 (n - 6)), length-replicate {A = ℕ} 4 1, bitsOf-length 5 (n - 6)))
     (omega (arith, length-append (replicate 9 1) (bitsOf 7 (n - 37)), length-replicate {A = ℕ} 9 1, bitsOf-length 7 (n - 37))))))
 
 comma-up-to : (n : ℕ) → length (commaBits n) ≡ n + 1
@@ -90,7 +94,13 @@ unfolding lengthFields
 fields-up-to lb [] h = omega arith
 fields-up-to lb (g ∷ gs) h =
     let f = field-fits lb g gs h in
-    omega (arith, length-append (bitsOf (width lb (g .passes)) (g .bytes)) (lengthFields lb gs), bitsOf-length (width lb (g .passes)) (g .bytes), f .0, fields-up-to lb gs (f .1))
+    omega (
+      arith,
+      length-append (bitsOf (width lb (g .passes)) (g .bytes)) (lengthFields lb gs),
+      bitsOf-length (width lb (g .passes)) (g .bytes),
+      f .0,
+      fields-up-to lb gs (f .1),
+    )
 
 segments-up-to : (n bytes : ℕ) (ls ms : List ℕ) → length (segmentsFrom n bytes ls ms) ≤ length ls
 unfolding segmentsFrom
@@ -103,14 +113,17 @@ segments-up-to n bytes (l ∷ ls) (m ∷ ms) =
 
 -- ---- a block
 
-module _ (L : Layout) (k : Block) (P : Placed L k) (short : length (k .path) ≤ 7) (t c : ℕ) (layer : t < notYetIncluded) (ls ms ws : List ℕ) where
+module _ (L : Layout) (k : Block) (P : Placed L k) (short : length (k .path) ≤ 7) (t c : ℕ) (layer : t < notYetIncluded)
+    (ls ms ws : List ℕ) where
   inclusion-up-to : length (codeInclusion t k c ws .bits) ≤ 7000
   unfolding codeInclusion
-  inclusion-up-to = either (λ (z : Coded). length (z .bits) ≤ 7000) (isNew ws k) _ _ (from-root (k .inclTree) (t + 1) (k .path) ws short (omega arith)) (omega arith)
+  inclusion-up-to = either (λ (z : Coded). length (z .bits) ≤ 7000) (isNew ws k) _ _
+      (from-root (k .inclTree) (t + 1) (k .path) ws short (omega arith)) (omega arith)
 
   planes-up-to : (vs : List ℕ) → length (codeZeroPlanes k vs .bits) ≤ 7000
   unfolding codeZeroPlanes
-  planes-up-to vs = either (λ (z : Coded). length (z .bits) ≤ 7000) (isNew vs k) _ _ (from-root (k .zeroTree) notYetPlanes (k .path) vs short (omega arith)) (omega arith)
+  planes-up-to vs = either (λ (z : Coded). length (z .bits) ≤ 7000) (isNew vs k) _ _
+      (from-root (k .zeroTree) notYetPlanes (k .path) vs short (omega arith)) (omega arith)
 
   counted-up-to : (vs : List ℕ) → 0 < c → Codable t vs k c ls ms → length (codePasses k c (segmentsOf ls ms) vs .bits) ≤ 5400
   unfolding codePasses segmentsOf
@@ -157,7 +170,8 @@ abbrev ShortPaths : List Block → Type 0
 ShortPaths [] = Unit {0}
 ShortPaths (k ∷ ks) = (length (k .path) ≤ 7) × ShortPaths ks
 
-blocks-up-to : (L : Layout) (t : ℕ) (ks : List Block) (cs ls ms ws : List ℕ) → t < notYetIncluded → AllPlaced L ks → ShortPaths ks → length ws ≡ L .size → AllCodable t ws ks cs ls ms
+blocks-up-to : (L : Layout) (t : ℕ) (ks : List Block) (cs ls ms ws : List ℕ) → t < notYetIncluded → AllPlaced L ks → ShortPaths ks
+    → length ws ≡ L .size → AllCodable t ws ks cs ls ms
     → length (codeBlocks t ks cs ls ms ws .bits) ≤ 20000 * length ks
 unfolding codeBlocks
 blocks-up-to L t [] cs ls ms ws h f s long d = omega arith
@@ -171,7 +185,8 @@ blocks-up-to L t (k ∷ ks) (c ∷ cs) ls ms ws h f s long d =
       arith,
       length-append (b .bits) (r .bits),
       block-up-to L k P (s .0) t c h (take c ls) (take c ms) ws long (d .0),
-      blocks-up-to L t ks cs (drop c ls) (drop c ms) (b .words) h (f .1) (s .1) (o .long ∙ long) (still-codable L t ws (b .words) k c ks cs (drop c ls) (drop c ms) o (f .0 .1) (f .1) (d .1)),
+      blocks-up-to L t ks cs (drop c ls) (drop c ms) (b .words) h (f .1) (s .1) (o .long ∙ long)
+          (still-codable L t ws (b .words) k c ks cs (drop c ls) (drop c ms) o (f .0 .1) (f .1) (d .1)),
     )
 
 path-length : (ls : List Level) (n x y : ℕ) → length (pathFrom ls n x y) ≡ length ls
@@ -205,7 +220,8 @@ new-values L t (k ∷ ks) (c ∷ cs) ws f =
     (either (ValuesOnly L inclusion ws) (isNew ws k && ltb 0 c) _ _ (leaf-set L inclusion k (f .0 .0) t ws) (no-values L inclusion ws))
     (new-values L t ks cs vs (f .1))
 
-pub header-up-to : (L : Layout) (t : ℕ) (bs : List Band) (p : Contribution) (ws : List ℕ) → t < notYetIncluded → AllPlaced L (blocks bs) → length ws ≡ L .size → ((q : ℕ) → L .BlockAt q → passesSoFar ws q ≤ 164 * t)
+pub header-up-to : (L : Layout) (t : ℕ) (bs : List Band) (p : Contribution) (ws : List ℕ) → t < notYetIncluded
+    → AllPlaced L (blocks bs) → length ws ≡ L .size → ((q : ℕ) → L .BlockAt q → passesSoFar ws q ≤ 164 * t)
     → Acceptable ws (blocks bs) p → length (headerBlocks t (blocks bs) p ws .bits) ≤ 20000 * length (blocks bs)
 unfolding blocks
 header-up-to L t bs p ws h f long most q =
@@ -213,4 +229,5 @@ header-up-to L t bs p ws h f long most q =
     let us : List ℕ = setNewBlocks t ks (p .counts) ws in
     let o = new-values L t ks (p .counts) ws f in
     blocks-up-to L t ks (p .counts) (p .lengths) (p .marks) us h f (short-paths 13 bs) (o .long ∙ long)
-    (all-codable L t ws us ks (p .counts) (p .lengths) (p .marks) f (nodes-only L inclusion ws us o) most (q .lengths) (q .marks) (q .few) (q .fits))
+    (all-codable L t ws us ks (p .counts) (p .lengths) (p .marks) f (nodes-only L inclusion ws us o) most (q .lengths) (q .marks)
+    (q .few) (q .fits))

@@ -41,7 +41,8 @@ use Rattle.t800.proofs.Laws.Tests.{either}
 use Rattle.round_trip.proofs.Trip.Calls.{is-accepted}
 use Rattle.t800.proofs.Laws.Accepted.{start-accepted, few-bands}
 use Rattle.round_trip.proofs.Trip.Start.{started-in-step, started-booked}
-use Rattle.round_trip.proofs.Trip.WriterInRange.{WriterInvariant, writer-after-start, header-coded, blocks-are, layer-left, acceptable, state-is, writer-after}
+use Rattle.round_trip.proofs.Trip.WriterInRange.{WriterInvariant, writer-after-start, header-coded, blocks-are, layer-left}
+use Rattle.round_trip.proofs.Trip.WriterInRange.{acceptable, state-is, writer-after}
 
 -- with bands bs, style s and next layer t: writer's words, reader's words, and the book
 pub record Invariant (bs : List Band) (s t : ℕ) (ws rs : List ℕ) (es : List BlockEntry) : Type 0 where
@@ -51,13 +52,17 @@ pub record Invariant (bs : List Band) (s t : ℕ) (ws rs : List ℕ) (es : List 
   pub reader-first : FirstWords 2 bs s t rs
 
 -- the reader isn't refused with 5
-pub reader-in-range : (bs : List Band) (s t : ℕ) (ws rs : List ℕ) (es : List BlockEntry) (n : ℕ) → Invariant bs s t ws rs es → n ≡ length rs → validState reader rs n ≡ true
-reader-in-range bs s t ws rs es n y e = let w = y .writer-side in reader-valid bs s t ws rs n (y .reader-first) (w .startable) (w .layers) (w .state) (y .in-step) e
+pub reader-in-range : (bs : List Band) (s t : ℕ) (ws rs : List ℕ) (es : List BlockEntry) (n : ℕ) → Invariant bs s t ws rs es → n
+    ≡ length rs → validState reader rs n ≡ true
+reader-in-range bs s t ws rs es n y e = let w = y .writer-side in
+    reader-valid bs s t ws rs n (y .reader-first) (w .startable) (w .layers) (w .state) (y .in-step) e
 
 -- ---- after a start
 
-pub after-start : (n : ℕ) (given : List Band) (s : ℕ) (planes lent lent′ : List ℕ) → start writer n given s planes lent .answer ≡ 0 → start reader n given s [] lent′ .answer ≡ 0
-    → Invariant (take n given) s 0 (start writer n given s planes lent .state) (start reader n given s [] lent′ .state) (newBook (take n given) planes)
+pub after-start : (n : ℕ) (given : List Band) (s : ℕ) (planes lent lent′ : List ℕ) → start writer n given s planes lent .answer ≡ 0
+    → start reader n given s [] lent′ .answer ≡ 0
+    → Invariant (take n given) s 0 (start writer n given s planes lent .state) (start reader n given s [] lent′ .state)
+    (newBook (take n given) planes)
 unfolding writer reader
 after-start n given s planes lent lent′ ew er =
     let bs : List Band = take n given in
@@ -69,13 +74,15 @@ after-start n given s planes lent lent′ ew er =
     (record {
       writer-side = writer-after-start n given s planes lent ew;
       in-step = subst (λ (v : List ℕ). InStep (layoutOf bs) s v (freshState 2 s bs)) (sym (w .state)) (started-in-step bs s planes);
-      booked = subst (λ (v : List ℕ). AllBooked v ks (newBook bs planes)) (sym (w .state)) (started-booked bs s planes (w .planes-length) (w .bands-in) (w .blocks-in));
+      booked = subst (λ (v : List ℕ). AllBooked v ks (newBook bs planes)) (sym (w .state))
+          (started-booked bs s planes (w .planes-length) (w .bands-in) (w .blocks-in));
       reader-first = fresh-first-words 2 s bs (few-bands n given (w .shape));
     })
 
 -- ---- a packet
 
-reports-length : (s i : ℕ) (es : List BlockEntry) (cs ls : List ℕ) → length cs ≡ length es → length (entryFrom s i es cs ls .reports) ≡ length es
+reports-length : (s i : ℕ) (es : List BlockEntry) (cs ls : List ℕ) → length cs ≡ length es
+    → length (entryFrom s i es cs ls .reports) ≡ length es
 unfolding entryFrom
 reports-length s i [] cs ls h = refl
 reports-length s i (e ∷ es) [] ls h = absurd (omega arith)
@@ -85,11 +92,14 @@ entry-reports : (s : ℕ) (es : List BlockEntry) (cs ls : List ℕ) → length c
 unfolding entry
 entry-reports s es cs ls h = reports-length s 0 es cs ls h
 
-read-not-refused : (rs scratch reports : List ℕ) → validState reader rs (length scratch) ≡ true → layer rs ≢ notYetIncluded → length reports ≡ reportWidth * length (blocks (bands rs)) → readRefusal rs scratch reports ≡ 0
+read-not-refused : (rs scratch reports : List ℕ) → validState reader rs (length scratch) ≡ true → layer rs ≢ notYetIncluded
+    → length reports ≡ reportWidth * length (blocks (bands rs)) → readRefusal rs scratch reports ≡ 0
 unfolding readRefusal
-read-not-refused rs scratch reports v l r = rw (v, ne-eqb (layer rs) notYetIncluded l, eq-eqb (length reports) (reportWidth * length (blocks (bands rs))) r)
+read-not-refused rs scratch reports v l r =
+    rw (v, ne-eqb (layer rs) notYetIncluded l, eq-eqb (length reports) (reportWidth * length (blocks (bands rs))) r)
 
-front-coded : (ws : List ℕ) (c : Contribution) (m : Markers) (number t : ℕ) (ks : List Block) → layer ws ≡ t → blocks (bands ws) ≡ ks → front ws c m number ≡ withMarkers m number (pack (1 ∷ headerBlocks t ks c ws .bits))
+front-coded : (ws : List ℕ) (c : Contribution) (m : Markers) (number t : ℕ) (ks : List Block) → layer ws ≡ t → blocks (bands ws)
+    ≡ ks → front ws c m number ≡ withMarkers m number (pack (1 ∷ headerBlocks t ks c ws .bits))
 unfolding front
 front-coded ws c m number t ks l k = ap (λ (x : Coded). withMarkers m number (pack (x .bits))) (header-coded c ws t ks l k)
 
@@ -98,7 +108,8 @@ reads-with-more : (rs : List ℕ) (o : Owed) (r : ReadCall) (more : List ℕ) �
 reads-with-more rs o r more a =
     record {
       same-markers = a .same-markers;
-      begins = take-append-le (length (o .front)) (r .input) more (long (length (o .front)) (r .input) (o .front) refl (a .begins)) ∙ a .begins;
+      begins = take-append-le (length (o .front)) (r .input) more (long (length (o .front)) (r .input) (o .front) refl (a .begins))
+          ∙ a .begins;
       scratch-length = a .scratch-length;
       reports-length = a .reports-length;
       records-enough = a .records-enough;
@@ -108,7 +119,8 @@ reads-with-more rs o r more a =
     long n input fr e h = let l : length (take n input) ≡ n = ap length h ∙ e in omega (arith, l, length-take n input)
 
 -- an accepted call of the writer, in a state that meets the invariant
-module _ (bs : List Band) (s t : ℕ) (ws rs : List ℕ) (es : List BlockEntry) (w : WriteCall) (y : Invariant bs s t ws rs es) (a : accepted ws w ≡ true)
+module _ (bs : List Band) (s t : ℕ) (ws rs : List ℕ) (es : List BlockEntry) (w : WriteCall) (y : Invariant bs s t ws rs es)
+    (a : accepted ws w ≡ true)
     (term : T (terminatedAsStyle s es (w .contribution .counts) (w .contribution .marks))) where
   abbrev c : Contribution
   c = w .contribution
@@ -124,11 +136,13 @@ module _ (bs : List Band) (s t : ℕ) (ws rs : List ℕ) (es : List BlockEntry) 
 
   pub front-is : owedFor s ws es w .front ≡ fr
   unfolding owedFor
-  front-is = is-accepted ws w a .front-is ∙ front-coded ws c (w .markers) (w .number) t ks (W .first-words .layer-is) (blocks-are bs s t ws w W a)
+  front-is = is-accepted ws w a .front-is
+      ∙ front-coded ws c (w .markers) (w .number) t ks (W .first-words .layer-is) (blocks-are bs s t ws w W a)
 
   pub reports-are : length (owedFor s ws es w .entry .reports) ≡ length ks
   unfolding owedFor
-  reports-are = let l = entries-length ws ks es (y .booked) in entry-reports s es (c .counts) (c .lengths) (acceptable bs s t ws w W a .counts ∙ sym l) ∙ l
+  reports-are = let l = entries-length ws ks es (y .booked) in
+      entry-reports s es (c .counts) (c .lengths) (acceptable bs s t ws w W a .counts ∙ sym l) ∙ l
 
   -- the call r reads the packet
   module _ (r : ReadCall) (ask : ReadsPacket rs (owedFor s ws es w) r) where
@@ -139,15 +153,19 @@ module _ (bs : List Band) (s t : ℕ) (ws rs : List ℕ) (es : List BlockEntry) 
         (ask .reports-length ∙ ap (λ (n : ℕ). reportWidth * n) (reports-are ∙ ap length (sym (ap blocks (y .reader-first .bands-are)))))
 
     abbrev Reads : List ℕ → Markers → Type 0
-    Reads src m = PacketRead (layoutOf bs) s t ks (blocks-placed bs) (layer-left bs s t ws w W a) ws rs es c (W .state) (y .in-step) (y .booked) (acceptable bs s t ws w W a) term (y .reader-first .layer-is)
-        (ap blocks (y .reader-first .bands-are)) (w .markers) (w .number) src (r .records) (read rs (r .scratch) m src (r .reports) (r .records))
+    Reads src m = PacketRead (layoutOf bs) s t ks (blocks-placed bs) (layer-left bs s t ws w W a) ws rs es c (W .state) (y .in-step)
+        (y .booked) (acceptable bs s t ws w W a) term (y .reader-first .layer-is)
+        (ap blocks (y .reader-first .bands-are)) (w .markers) (w .number) src (r .records)
+        (read rs (r .scratch) m src (r .reports) (r .records))
 
     reads : Reads (r .input) (r .markers)
     unfolding owedFor
     reads =
         subst (Reads (r .input)) (sym (ask .same-markers))
-        (packet-read (layoutOf bs) s t ks (blocks-placed bs) (layer-left bs s t ws w W a) ws rs es c (W .state) (y .in-step) (y .booked) (acceptable bs s t ws w W a) term (y .reader-first .layer-is)
-        (ap blocks (y .reader-first .bands-are)) (w .markers) (w .number) (r .input) (r .scratch) (r .reports) (r .records) not-refused-yet (ask .records-enough)
+        (packet-read (layoutOf bs) s t ks (blocks-placed bs) (layer-left bs s t ws w W a) ws rs es c (W .state) (y .in-step)
+        (y .booked) (acceptable bs s t ws w W a) term (y .reader-first .layer-is)
+        (ap blocks (y .reader-first .bands-are)) (w .markers) (w .number) (r .input) (r .scratch) (r .reports) (r .records)
+        not-refused-yet (ask .records-enough)
         (subst (λ (x : List ℕ). take (length x) (r .input) ≡ x) front-is (ask .begins)))
 
     pub packet-gives : GivesEntry (owedFor s ws es w) r (readOf rs r)
@@ -175,22 +193,35 @@ module _ (bs : List Band) (s t : ℕ) (ws rs : List ℕ) (es : List BlockEntry) 
         subst (λ (v : List ℕ). Invariant bs s (t + 1) (writeOf ws w .state) v (addCounts es (c .counts))) (sym (q .state))
         (record {
           writer-side = writer-after bs s t ws w W a;
-          in-step = subst (λ (v : List ℕ). InStep L s v (set (q .words) 3 (t + 1))) (sym state) (layer-in-step L s vs (q .words) (t + 1) (q .in-step));
-          booked = subst (λ (v : List ℕ). AllBooked v ks (addCounts es (c .counts))) (sym state) (layer-booked L vs (t + 1) ks (addCounts es (c .counts)) (blocks-placed bs) (q .booked-after));
+          in-step = subst (λ (v : List ℕ). InStep L s v (set (q .words) 3 (t + 1))) (sym state)
+              (layer-in-step L s vs (q .words) (t + 1) (q .in-step));
+          booked = subst (λ (v : List ℕ). AllBooked v ks (addCounts es (c .counts))) (sym state)
+              (layer-booked L vs (t + 1) ks (addCounts es (c .counts)) (blocks-placed bs) (q .booked-after));
           reader-first = next-layer 2 bs s t (t + 1) rs (q .words) l (q .reader-first) (y .reader-first);
         })
 
   -- more input doesn't change what is given
-  pub more-gives : (r : ReadCall) → ReadsPacket rs (owedFor s ws es w) r → (more : List ℕ) → GivesEntry (owedFor s ws es w) r (readOf rs (withMore r more))
+  pub more-gives : (r : ReadCall) → ReadsPacket rs (owedFor s ws es w) r → (more : List ℕ)
+      → GivesEntry (owedFor s ws es w) r (readOf rs (withMore r more))
   more-gives r ask more =
       let g = packet-gives (withMore r more) (reads-with-more rs (owedFor s ws es w) r more ask) in
-      record { accepts = g .accepts; present = g .present; taken = g .taken; segments = g .segments; sop-mark = g .sop-mark; eph-mark = g .eph-mark; reports = g .reports; records = g .records }
+      record {
+        accepts = g .accepts;
+        present = g .present;
+        taken = g .taken;
+        segments = g .segments;
+        sop-mark = g .sop-mark;
+        eph-mark = g .eph-mark;
+        reports = g .reports;
+        records = g .records;
+      }
 
   -- a read of the packet, whatever else is lent: never 9 or 12, and 13 only for want of records
   abbrev pub Harmless : ReadCall → ℕ → Type 0
   Harmless r x = (x ≢ 9) × (x ≢ 12) × (x ≡ 13 → length (r .records) < recordWidth * length (owedFor s ws es w .entry .records))
 
-  pub read-harmless : (r : ReadCall) → r .markers ≡ w .markers → take (length (owedFor s ws es w .front)) (r .input) ≡ owedFor s ws es w .front → Harmless r (readOf rs r .answer .refusal)
+  pub read-harmless : (r : ReadCall) → r .markers ≡ w .markers → take (length (owedFor s ws es w .front)) (r .input)
+      ≡ owedFor s ws es w .front → Harmless r (readOf rs r .answer .refusal)
   unfolding read readAbsent readPresent readRefusal owedFor
   read-harmless r marked begins =
       let room : ℕ = length (r .records) / recordWidth in
@@ -201,17 +232,24 @@ module _ (bs : List Band) (s t : ℕ) (ws rs : List ℕ) (es : List BlockEntry) 
       let early : P (readRefusal rs (r .scratch) (r .reports))
       = either P (not (validState reader rs (length (r .scratch)))) 5 _ (omega arith, omega arith, λ e. absurd (omega arith))
       (either P (eqb (layer rs) notYetIncluded) 6 _ (omega arith, omega arith, λ e. absurd (omega arith))
-      (either P (not (eqb (length (r .reports)) (reportWidth * length (blocks (bands rs))))) 3 0 (omega arith, omega arith, λ e. absurd (omega arith)) zero-is)) in
+      (either P (not (eqb (length (r .reports)) (reportWidth * length (blocks (bands rs))))) 3 0
+      (omega arith, omega arith, λ e. absurd (omega arith)) zero-is)) in
       let begins₂ : take (length fr) src ≡ fr = subst (λ (x : List ℕ). take (length x) src ≡ x) front-is begins in
-      let h = header-refusal (layoutOf bs) s t ks (blocks-placed bs) (layer-left bs s t ws w W a) ws rs es c (W .state) (y .in-step) (y .booked) (acceptable bs s t ws w W a) term (y .reader-first .layer-is)
+      let h = header-refusal (layoutOf bs) s t ks (blocks-placed bs) (layer-left bs s t ws w W a) ws rs es c (W .state) (y .in-step)
+      (y .booked) (acceptable bs s t ws w W a) term (y .reader-first .layer-is)
       (ap blocks (y .reader-first .bands-are)) (w .markers) (w .number) src room begins₂ in
-      let place : bioAt (readSop (r .markers) src .skip) ≡ bioAt (h .0) = ap (λ (m : Markers). bioAt (readSop m src .skip)) marked ∙ ap (λ (x : MarkerRead). bioAt (x .skip)) (h .1) in
+      let place : bioAt (readSop (r .markers) src .skip) ≡ bioAt (h .0) = ap (λ (m : Markers). bioAt (readSop m src .skip)) marked
+      ∙ ap (λ (x : MarkerRead). bioAt (x .skip)) (h .1) in
       let late : P (readHeader src room rs (bioAfter src (bioAt (readSop (r .markers) src .skip))) .refusal)
-      = subst (λ (b : Bio). P (readHeader src room rs (bioAfter src b) .refusal)) (sym place) (by-refusal r (readHeader src room rs (bioAfter src (bioAt (h .0))) .refusal) (h .3)) in
+      = subst (λ (b : Bio). P (readHeader src room rs (bioAfter src b) .refusal)) (sym place)
+      (by-refusal r (readHeader src room rs (bioAfter src (bioAt (h .0))) .refusal) (h .3)) in
       either Q (not (eqb (readRefusal rs (r .scratch) (r .reports)) 0)) _ _ early
       (either Q (eqb (nextBit src (bioAt (readSop (r .markers) src .skip))) 0) _ _ zero-is
       (either Q (eqb (readHeader src room rs (bioAfter src (bioAt (readSop (r .markers) src .skip))) .refusal) 0) _ _ zero-is late))
     where
-      by-refusal : (r : ReadCall) (x : ℕ) → (x ≡ 0) ⊎ ((x ≡ 13) × (length (r .records) / recordWidth < length (entry s es (c .counts) (c .lengths) .records))) → (x ≢ 9) × (x ≢ 12) × (x ≡ 13 → length (r .records) < recordWidth * length (entry s es (c .counts) (c .lengths) .records))
+      by-refusal : (r : ReadCall) (x : ℕ)
+          → (x ≡ 0) ⊎ ((x ≡ 13) × (length (r .records) / recordWidth < length (entry s es (c .counts) (c .lengths) .records)))
+          → (x ≢ 9) × (x ≢ 12)
+          × (x ≡ 13 → length (r .records) < recordWidth * length (entry s es (c .counts) (c .lengths) .records))
       by-refusal r x (inl e) = (omega arith, omega arith, λ z. absurd (omega arith))
       by-refusal r x (inr e) = (omega (arith, e .0), omega (arith, e .0), λ z. omega (arith, e .1))

@@ -34,11 +34,13 @@ limitAfter s p = limitIn (termAll s) (bypass s) p
 unfoldable pub passesAfter : ℕ → ℕ → ℕ
 passesAfter s p = passesIn (termAll s) (bypass s) p
 
--- the segment that the next pass goes into: its limit, the passes that it has, where it opens, and the closed form after n more passes in it
+-- the segment that the next pass goes into: its limit, the passes that it has, where it opens, and the closed form after n more
+-- passes in it
 pub record NextSegment (t b : Bool) (p : ℕ) : Type 0 where
   pub limit : ℕ
   pub has : ℕ
-  pub limit-is : cond (eqb (limitIn t b p) (passesIn t b p)) (cond (eqb (limitIn t b p) 0) (firstIn t b) (nextIn t b (limitIn t b p))) (limitIn t b p) ≡ limit
+  pub limit-is : cond (eqb (limitIn t b p) (passesIn t b p))
+      (cond (eqb (limitIn t b p) 0) (firstIn t b) (nextIn t b (limitIn t b p))) (limitIn t b p) ≡ limit
   pub has-is : cond (eqb (limitIn t b p) (passesIn t b p)) 0 (passesIn t b p) ≡ has
   pub opens-here : opensIn t b p ≡ eqb (limitIn t b p) (passesIn t b p)
   pub room : has < limit
@@ -118,7 +120,8 @@ module _ (t b : Bool) (p m u : ℕ) (q : (limitIn t b p ≡ m) × (passesIn t b 
         passes-after = λ n h g. lu n h (omega arith) .1 ∙ omega arith;
       }
 
-  goes-on : m ≢ u → opensIn t b p ≡ false → u < m → ((j : ℕ) → 1 ≤ j → u + j < m → opensIn t b (p + j) ≡ false) → opensIn t b (p + (m - u)) ≡ true
+  goes-on : m ≢ u → opensIn t b p ≡ false → u < m → ((j : ℕ) → 1 ≤ j → u + j < m → opensIn t b (p + j) ≡ false)
+      → opensIn t b (p + (m - u)) ≡ true
       → ((n : ℕ) → 1 ≤ n → u + n ≤ m → (limitIn t b (p + n) ≡ m) × (passesIn t b (p + n) ≡ u + n)) → NextSegment t b p
   goes-on e o r qt en lu =
       let same : eqb (limitIn t b p) (passesIn t b p) ≡ false = ne-eqb _ _ (λ z. e (sym (q .0) ∙ z ∙ q .1)) in
@@ -136,14 +139,17 @@ module _ (t b : Bool) (p m u : ℕ) (q : (limitIn t b p ≡ m) × (passesIn t b 
       }
 
 -- the two equations, along equal numbers
-same-as : (t b : Bool) (p m u m′ u′ : ℕ) → m ≡ m′ → u ≡ u′ → (limitIn t b p ≡ m) × (passesIn t b p ≡ u) → (limitIn t b p ≡ m′) × (passesIn t b p ≡ u′)
+same-as : (t b : Bool) (p m u m′ u′ : ℕ) → m ≡ m′ → u ≡ u′ → (limitIn t b p ≡ m) × (passesIn t b p ≡ u) → (limitIn t b p ≡ m′)
+    × (passesIn t b p ≡ u′)
 same-as t b p m u m′ u′ e f q = (q .0 ∙ e, q .1 ∙ f)
 
 next-each : (b : Bool) (p : ℕ) → NextSegment true b p
 next-each b p =
     on-eq p 0
-    (λ h. opens-now true b p 0 0 (none-yet true b p h) refl 1 refl refl (omega arith) (λ j h g. absurd (omega arith)) refl (λ n h g. same-as true b (p + n) 1 1 1 n refl (omega arith) (each-pass b (p + n) (omega arith))))
-    (λ h. opens-now true b p 1 1 (each-pass b p (omega arith)) refl 1 refl refl (omega arith) (λ j h g. absurd (omega arith)) refl (λ n h g. same-as true b (p + n) 1 1 1 n refl (omega arith) (each-pass b (p + n) (omega arith))))
+    (λ h. opens-now true b p 0 0 (none-yet true b p h) refl 1 refl refl (omega arith) (λ j h g. absurd (omega arith)) refl
+    (λ n h g. same-as true b (p + n) 1 1 1 n refl (omega arith) (each-pass b (p + n) (omega arith))))
+    (λ h. opens-now true b p 1 1 (each-pass b p (omega arith)) refl 1 refl refl (omega arith) (λ j h g. absurd (omega arith)) refl
+    (λ n h g. same-as true b (p + n) 1 1 1 n refl (omega arith) (each-pass b (p + n) (omega arith))))
 
 plain-opened : (p n : ℕ) → p % 109 ≡ 0 → 1 ≤ n → n ≤ 109 → (p + n - 1) % 109 + 1 ≡ n
 plain-opened p n e h g = omega arith
@@ -157,17 +163,24 @@ next-plain p =
     (λ e. on-eq p 0
     (λ h. opens-now false false p 0 0 (none-yet false false p h) refl 109 refl (eq-eqb (p % 109) 0 e) (omega arith)
     (λ j h g. ne-eqb ((p + j) % 109) 0 (omega arith)) (eq-eqb ((p + 109) % 109) 0 (omega arith))
-    (λ n h g. same-as false false (p + n) 109 ((p + n - 1) % 109 + 1) 109 n refl (plain-opened p n e h g) (plain-passes (p + n) (omega arith))))
-    (λ h. opens-now false false p 109 109 (same-as false false p 109 ((p - 1) % 109 + 1) 109 109 refl (omega arith) (plain-passes p (omega arith))) refl 109 refl (eq-eqb (p % 109) 0 e) (omega arith)
+    (λ n h g. same-as false false (p + n) 109 ((p + n - 1) % 109 + 1) 109 n refl (plain-opened p n e h g)
+    (plain-passes (p + n) (omega arith))))
+    (λ h. opens-now false false p 109 109
+    (same-as false false p 109 ((p - 1) % 109 + 1) 109 109 refl (omega arith) (plain-passes p (omega arith))) refl 109 refl
+    (eq-eqb (p % 109) 0 e) (omega arith)
     (λ j h g. ne-eqb ((p + j) % 109) 0 (omega arith)) (eq-eqb ((p + 109) % 109) 0 (omega arith))
-    (λ n h g. same-as false false (p + n) 109 ((p + n - 1) % 109 + 1) 109 n refl (plain-opened p n e h g) (plain-passes (p + n) (omega arith)))))
-    (λ e. goes-on false false p 109 (p % 109) (same-as false false p 109 ((p - 1) % 109 + 1) 109 (p % 109) refl (omega arith) (plain-passes p (omega arith)))
+    (λ n h g. same-as false false (p + n) 109 ((p + n - 1) % 109 + 1) 109 n refl (plain-opened p n e h g)
+    (plain-passes (p + n) (omega arith)))))
+    (λ e. goes-on false false p 109 (p % 109)
+    (same-as false false p 109 ((p - 1) % 109 + 1) 109 (p % 109) refl (omega arith) (plain-passes p (omega arith)))
     (omega arith) (ne-eqb (p % 109) 0 e) (omega arith)
     (λ j h g. ne-eqb ((p + j) % 109) 0 (omega arith)) (eq-eqb ((p + (109 - p % 109)) % 109) 0 (omega arith))
-    (λ n h g. same-as false false (p + n) 109 ((p + n - 1) % 109 + 1) 109 (p % 109 + n) refl (plain-goes-on p n h g) (plain-passes (p + n) (omega arith))))
+    (λ n h g. same-as false false (p + n) 109 ((p + n - 1) % 109 + 1) 109 (p % 109 + n) refl (plain-goes-on p n h g)
+    (plain-passes (p + n) (omega arith))))
 
 -- from pass 10 on
-two-later : (p : ℕ) → 10 ≤ p → (p - 10) % 3 ≡ 0 → (n : ℕ) → 1 ≤ n → n ≤ 2 → (limitIn false true (p + n) ≡ 2) × (passesIn false true (p + n) ≡ n)
+two-later : (p : ℕ) → 10 ≤ p → (p - 10) % 3 ≡ 0 → (n : ℕ) → 1 ≤ n → n ≤ 2 → (limitIn false true (p + n) ≡ 2)
+    × (passesIn false true (p + n) ≡ n)
 two-later p h e n lo hi =
     on-eq n 1
     (λ z. same-as false true (p + n) 2 1 2 n refl (omega arith) (bypass-two-begun (p + n) (omega arith) (omega arith)))
@@ -176,7 +189,8 @@ two-later p h e n lo hi =
 next-late : (p : ℕ) → 10 ≤ p → NextSegment false true p
 next-late p h =
     on-eq ((p - 10) % 3) 0
-    (λ e. let rest : (m u : ℕ) → (limitIn false true p ≡ m) × (passesIn false true p ≡ u) → m ≡ u → cond (eqb m 0) (firstIn false true) (nextIn false true m) ≡ 2 → NextSegment false true p
+    (λ e. let rest : (m u : ℕ) → (limitIn false true p ≡ m) × (passesIn false true p ≡ u) → m ≡ u
+    → cond (eqb m 0) (firstIn false true) (nextIn false true m) ≡ 2 → NextSegment false true p
     = λ m u q z l. opens-now false true p m u q z 2 l (later-opens p h (omega arith)) (omega arith)
     (λ j lo hi. later-stays-open (p + j) (omega arith) (omega arith)) (later-opens (p + 2) (omega arith) (omega arith)) (two-later p h e) in
     on-eq p 10

@@ -12,7 +12,9 @@ use Rattle.t800.specs.TagTree.{NodeRead, readNode}
 use borrow.Author.Tests.{lt-ltb, le-ltb, eq-eqb, ne-eqb}
 use Rattle.t800.proofs.Laws.Tests.{if-eq, if-ne, if-lt, if-ge, on-lt}
 use Rattle.round_trip.proofs.Trip.Bits.{nextBit, bioAfter, Reads, reads-split}
-use Rattle.round_trip.proofs.Trip.Nodes.{Node, node, lowOut, putsOne, bitsOfNode, nodeAfter, bitsOfPath, nodesAfter, nodeRead, readOne, readInto, NodesRead, readAll, Sync, not-known, is-known, AllSync, nil, cons, Increasing}
+use Rattle.round_trip.proofs.Trip.Nodes.{Node, node, lowOut, putsOne, bitsOfNode, nodeAfter, bitsOfPath, nodesAfter}
+use Rattle.round_trip.proofs.Trip.Nodes.{nodeRead, readOne, readInto, NodesRead, readAll, Sync, not-known, is-known, AllSync}
+use Rattle.round_trip.proofs.Trip.Nodes.{nil, cons, Increasing}
 
 zero-read : (s : List ℕ) (d v l : ℕ) (b : Bio) → l < v → nextBit s b ≡ 0 → readNode s (suc d) v l b ≡ readNode s d v (l + 1) (bioAfter s b)
 unfolding readNode
@@ -34,7 +36,8 @@ zeros-raise-low : (s : List ℕ) (n d : ℕ) (b e : Bio) (l v : ℕ) (rest : Lis
 zeros-raise-low s zero d b e l v rest w h = (b, rw (zero-add, add-zero), h)
 zeros-raise-low s (suc n) d b e l v rest w h =
     let i = zeros-raise-low s n d (bioAfter s b) e (l + 1) v rest (omega arith) (h .2) in
-    let step : readNode s (suc n + d) v l b ≡ readNode s (n + d) v (l + 1) (bioAfter s b) = rw suc-add (zero-read s (n + d) v l b (omega arith) (h .1)) in
+    let step : readNode s (suc n + d) v l b
+    ≡ readNode s (n + d) v (l + 1) (bioAfter s b) = rw suc-add (zero-read s (n + d) v l b (omega arith) (h .1)) in
     (i .0, step ∙ i .1 ∙ ap (λ (z : ℕ). readNode s d v z (i .0)) (omega arith), i .2)
 
 -- a one ends it
@@ -77,13 +80,15 @@ ge-sum t a = omega arith
 
 step-by : (mark : ℕ) (s : List ℕ) (t l : ℕ) (b e : Bio) (n m : Node) (L v : ℕ) → readOne s t l b m ≡ nodeRead v L e → L ≡ lowOut t l n
     → Sync mark (nodeAfter t l n) (node v L (m .known)) → NodeStep mark s t l b n m e
-step-by mark s t l b e n m L v q h y = record { after = ap (λ (g : NodeRead). g .bio) q; low = ap (λ (g : NodeRead). g .low) q ∙ h; sync = rw q y }
+step-by mark s t l b e n m L v q h y =
+    record { after = ap (λ (g : NodeRead). g .bio) q; low = ap (λ (g : NodeRead). g .low) q ∙ h; sync = rw q y }
 
 one-or : (b : Bool) (k : ℕ) → k ≡ 1 → cond b 1 k ≡ 1
 one-or true k e = refl
 one-or false k e = e
 
-pub node-sync : (mark : ℕ) (s : List ℕ) (t l : ℕ) (b e : Bio) (n m : Node) → t ≤ mark → l ≤ n .value → Sync mark n m → Reads s b (bitsOfNode t l n) e
+pub node-sync : (mark : ℕ) (s : List ℕ) (t l : ℕ) (b e : Bio) (n m : Node) → t ≤ mark → l ≤ n .value → Sync mark n m
+    → Reads s b (bitsOfNode t l n) e
     → NodeStep mark s t l b n m e
 unfolding readOne nodeAfter bitsOfNode
 node-sync mark s t l b e n m ht hl (is-known k mv ml nl nv mk) r =
@@ -93,7 +98,9 @@ node-sync mark s t l b e n m ht hl (is-known k mv ml nl nv mk) r =
     let z : lowOut t l n - max l (n .low) ≡ 0 = omega arith in
     let y : putsOne t l n ≡ false = known-puts-none t l n k in
     let r₁ : Reads s b [] e = rw (z, y) at r in
-    step-by mark s t l b e n m L (m .value) (nothing-read s (t - L) (m .value) L b (le-of-eq (mv ∙ sym lv)) ∙ ap (λ (c : Bio). nodeRead (m .value) L c) (r₁ .1)) (lv ∙ sym w)
+    step-by mark s t l b e n m L (m .value)
+    (nothing-read s (t - L) (m .value) L b (le-of-eq (mv ∙ sym lv)) ∙ ap (λ (c : Bio). nodeRead (m .value) L c) (r₁ .1))
+    (lv ∙ sym w)
     (is-known (one-or (ltb (lowOut t l n) t) (n .known) k) mv lv w nv mk)
 node-sync mark s t l b e n m ht hl (not-known k mv ml nl nv mk) r =
     let L : ℕ = max l (m .low) in
@@ -108,9 +115,11 @@ node-sync mark s t l b e n m ht hl (not-known k mv ml nl nv mk) r =
     let yy : ltb (lowOut t l n) t ≡ true = lt-ltb (lowOut t l n) t (omega arith) in
     let r₁ : Reads s b (replicate Z 0 ++ (1 ∷ [])) e = rw y at r in
     let g : L + Z ≡ n .value = cc (lt-sum (n .value) A a≤) in
-    let i = zeros-raise-low s Z (suc (t - n .value - 1)) b e L (m .value) (1 ∷ []) (le-trans (le-of-eq g) (le-trans nv (le-of-eq (sym mv)))) r₁ in
+    let i = zeros-raise-low s Z (suc (t - n .value - 1)) b e L (m .value) (1 ∷ [])
+    (le-trans (le-of-eq g) (le-trans nv (le-of-eq (sym mv)))) r₁ in
     step-by mark s t l b e n m (L + Z) (L + Z)
-    (ap (λ (z : ℕ). readNode s z (m .value) L b) d ∙ i .1 ∙ one-ends s (t - n .value - 1) (i .0) e (L + Z) (m .value) (rw (g, mv) (le-trans h ht)) (i .2)) (g ∙ sym w)
+    (ap (λ (z : ℕ). readNode s z (m .value) L b) d ∙ i .1
+    ∙ one-ends s (t - n .value - 1) (i .0) e (L + Z) (m .value) (rw (g, mv) (le-trans h ht)) (i .2)) (g ∙ sym w)
     (is-known (rw yy refl) g g w nv mk))
     (λ h. let w : lowOut t l n ≡ max A t = ap (max A) (min-eq-right h) in
     let d : t - L ≡ Z + 0 = cc (ge-gap t A) in
@@ -120,7 +129,8 @@ node-sync mark s t l b e n m ht hl (not-known k mv ml nl nv mk) r =
     let g : L + Z ≡ lowOut t l n = cc (ge-sum t A) in
     let i = zeros-raise-low s Z 0 b e L (m .value) [] (rw (g, w, mv) (max-le (le-trans a≤ nv) ht)) r₁ in
     step-by mark s t l b e n m (L + Z) (m .value)
-    (ap (λ (z : ℕ). readNode s z (m .value) L b) d ∙ i .1 ∙ at-threshold s (m .value) (L + Z) (i .0) ∙ ap (λ (c : Bio). nodeRead (m .value) (L + Z) c) (i .2 .1)) g
+    (ap (λ (z : ℕ). readNode s z (m .value) L b) d ∙ i .1 ∙ at-threshold s (m .value) (L + Z) (i .0)
+    ∙ ap (λ (c : Bio). nodeRead (m .value) (L + Z) c) (i .2 .1)) g
     (not-known (rw yy k) mv g (max-le a≤ (min-le-left (n .value) t)) nv mk))
 
 -- ---- a path
@@ -136,7 +146,8 @@ pub increasing-from : {k l : ℕ} (ns : List Node) → k ≤ l → Increasing l 
 increasing-from [] h c = c
 increasing-from (n ∷ ns) h c = (le-trans h (c .0), c .1)
 
-pub path-sync : (mark : ℕ) (s : List ℕ) (t l : ℕ) (b e : Bio) {ns ms : List Node} → t ≤ mark → Increasing l ns → AllSync mark ns ms → Reads s b (bitsOfPath t l ns) e
+pub path-sync : (mark : ℕ) (s : List ℕ) (t l : ℕ) (b e : Bio) {ns ms : List Node} → t ≤ mark → Increasing l ns → AllSync mark ns ms
+    → Reads s b (bitsOfPath t l ns) e
     → (readAll s t l b ms .bio ≡ e) × AllSync mark (nodesAfter t l ns) (readAll s t l b ms .nodes)
 unfolding bitsOfPath nodesAfter readAll
 path-sync mark s t l b e ht c nil r = (r .1, nil)
@@ -144,5 +155,6 @@ path-sync mark s t l b e ht c (cons {n = n} {m = m} {ns = ns} {ms = ms} y ys) r 
     let p = reads-split s b e (bitsOfNode t l n) (bitsOfPath t (lowOut t l n) ns) r in
     let q = node-sync mark s t l b (p .0) n m ht (c .0) y (p .1) in
     let i = path-sync mark s t (lowOut t l n) (p .0) e ht (increasing-from ns (low-out-le t l n (c .0) (sync-low y)) (c .1)) ys (p .2) in
-    let g : readAll s t (readOne s t l b m .low) (readOne s t l b m .bio) ms ≡ readAll s t (lowOut t l n) (p .0) ms = cc (q .low, q .after) in
+    let g : readAll s t (readOne s t l b m .low) (readOne s t l b m .bio) ms
+    ≡ readAll s t (lowOut t l n) (p .0) ms = cc (q .low, q .after) in
     (ap (λ (z : NodesRead). z .bio) g ∙ i .0, cons (q .sync) (rw (← g) at (i .1)))

@@ -1,4 +1,5 @@
--- Nodes in words: the writer's and the reader's pass over a path of node addresses are the passes over the nodes there, and every other word
+-- Nodes in words: the writer's and the reader's pass over a path of node addresses are the passes over the nodes there, and every
+-- other word
 -- stays.
 use mathlib.Core.Path.{_≡_, refl, ap, ap₂, _∙_, subst}
 use mathlib.Core.List.{List, [], _∷_, _++_}
@@ -9,7 +10,8 @@ use lib.Seq.{getD-set-same, getD-set-other}
 use Rattle.t800.specs.declared.Bio.{Bio}
 use Rattle.t800.specs.TagTree.{NodeRead, lowAfter, nodeBits, knownAfter, codePath, readPath}
 use Rattle.t800.proofs.Laws.Paths.{All, addresses, Clear, Apart, ApartFromAll, AllApart}
-use Rattle.round_trip.proofs.Trip.Nodes.{Node, node, lowOut, bitsOfNode, nodeAfter, bitsOfPath, nodesAfter, readOne, readInto, readAll}
+use Rattle.round_trip.proofs.Trip.Nodes.{Node, node, lowOut, bitsOfNode, nodeAfter, bitsOfPath, nodesAfter, readOne}
+use Rattle.round_trip.proofs.Trip.Nodes.{readInto, readAll}
 
 abbrev pub nodeAt : List ℕ → ℕ → Node
 nodeAt ws a = node (getD ws a 0) (getD ws (a + 1) 0) (getD ws (a + 2) 0)
@@ -34,10 +36,12 @@ other-node ws vs a n b c h =
 
 other-nodes : (ws vs : List ℕ) (a : ℕ) (n : Node) (bs : List ℕ) → OneChanged ws vs a n → ApartFromAll a bs → nodesAt vs bs ≡ nodesAt ws bs
 other-nodes ws vs a n [] c h = refl
-other-nodes ws vs a n (b ∷ bs) c h = ap₂ (λ (x : Node) (y : List Node). x ∷ y) (other-node ws vs a n b c (omega (arith, h .0))) (other-nodes ws vs a n bs c (h .1))
+other-nodes ws vs a n (b ∷ bs) c h =
+    ap₂ (λ (x : Node) (y : List Node). x ∷ y) (other-node ws vs a n b c (omega (arith, h .0))) (other-nodes ws vs a n bs c (h .1))
 
 -- the writer's store: low and known
-low-known-stored : (ws : List ℕ) (a l k : ℕ) → a + 3 ≤ length ws → OneChanged ws (set (set ws (a + 1) l) (a + 2) k) a (node (getD ws a 0) l k)
+low-known-stored : (ws : List ℕ) (a l k : ℕ) → a + 3 ≤ length ws
+    → OneChanged ws (set (set ws (a + 1) l) (a + 2) k) a (node (getD ws a 0) l k)
 low-known-stored ws a l k h =
     record {
       here = λ i. record {
@@ -50,7 +54,8 @@ low-known-stored ws a l k h =
     }
 
 -- the reader's: value and low
-value-low-stored : (ws : List ℕ) (a v l : ℕ) → a + 3 ≤ length ws → OneChanged ws (set (set ws a v) (a + 1) l) a (node v l (getD ws (a + 2) 0))
+value-low-stored : (ws : List ℕ) (a v l : ℕ) → a + 3 ≤ length ws
+    → OneChanged ws (set (set ws a v) (a + 1) l) a (node v l (getD ws (a + 2) 0))
 value-low-stored ws a v l h =
     record {
       here = λ i. record {
@@ -69,7 +74,8 @@ pub record PathChanged (ws vs xs : List ℕ) (ns : List Node) : Type 0 where
   pub clear : (i : ℕ) → All (Clear i) xs → getD vs i 0 ≡ getD ws i 0
   pub long : length vs ≡ length ws
 
-path-changed-cons : (ws vs us : List ℕ) (a : ℕ) (xs : List ℕ) (n : Node) (ns : List Node) → ApartFromAll a xs → OneChanged ws vs a n → PathChanged vs us xs ns → PathChanged ws us (a ∷ xs) (n ∷ ns)
+path-changed-cons : (ws vs us : List ℕ) (a : ℕ) (xs : List ℕ) (n : Node) (ns : List Node) → ApartFromAll a xs → OneChanged ws vs a n
+    → PathChanged vs us xs ns → PathChanged ws us (a ∷ xs) (n ∷ ns)
 path-changed-cons ws vs us a xs n ns o b p =
     record {
       nodes = ap₂ (λ (x : Node) (y : List Node). x ∷ y) (p .off a o ∙ b .here) (p .nodes);
@@ -99,7 +105,8 @@ low-after : (v l t : ℕ) → lowAfter v l t ≡ max l (min v t)
 unfolding lowAfter
 low-after v l t = refl
 
-pub coded-as : (base t : ℕ) (ns : List ℕ) (l : ℕ) (ws : List ℕ) → AllApart (addresses base ns) → All (λ a. a + 3 ≤ length ws) (addresses base ns) → CodedAs base t ns l ws
+pub coded-as : (base t : ℕ) (ns : List ℕ) (l : ℕ) (ws : List ℕ) → AllApart (addresses base ns)
+    → All (λ a. a + 3 ≤ length ws) (addresses base ns) → CodedAs base t ns l ws
 unfolding codePath bitsOfPath nodesAfter
 coded-as base t [] l ws d h = record { bits = refl; words = record { nodes = refl; off = λ a o. refl; clear = λ i c. refl; long = refl } }
 coded-as base t (n ∷ ns) l ws d h =
@@ -111,13 +118,17 @@ coded-as base t (n ∷ ns) l ws d h =
     let vs : List ℕ = set (set ws (a + 1) to) (a + 2) k in
     let s = low-known-stored ws a to k (h .0) in
     let i = coded-as base t ns to vs (d .1) (inside-longer (length ws) (length vs) (addresses base ns) (s .long) (h .1)) in
-    let e : nodesAt vs (addresses base ns) ≡ nodesAt ws (addresses base ns) = other-nodes ws vs a (node v to k) (addresses base ns) s (d .0) in
+    let e : nodesAt vs (addresses base ns)
+    ≡ nodesAt ws (addresses base ns) = other-nodes ws vs a (node v to k) (addresses base ns) s (d .0) in
     let o : to ≡ lowOut t l (nodeAt ws a) = low-after v from t in
-    let nx : bitsOfPath t to (nodesAt vs (addresses base ns)) ≡ bitsOfPath t (lowOut t l (nodeAt ws a)) (nodesAt ws (addresses base ns)) = ap₂ (bitsOfPath t) o e in
-    let ny : nodesAfter t to (nodesAt vs (addresses base ns)) ≡ nodesAfter t (lowOut t l (nodeAt ws a)) (nodesAt ws (addresses base ns)) = ap₂ (nodesAfter t) o e in
+    let nx : bitsOfPath t to (nodesAt vs (addresses base ns))
+    ≡ bitsOfPath t (lowOut t l (nodeAt ws a)) (nodesAt ws (addresses base ns)) = ap₂ (bitsOfPath t) o e in
+    let ny : nodesAfter t to (nodesAt vs (addresses base ns))
+    ≡ nodesAfter t (lowOut t l (nodeAt ws a)) (nodesAt ws (addresses base ns)) = ap₂ (nodesAfter t) o e in
     record {
       bits = ap₂ (λ (x y : List ℕ). x ++ y) (node-bits v (getD ws (a + 1) 0) (getD ws (a + 2) 0) t l) (i .bits ∙ nx);
-      words = path-changed-cons ws vs (codePath base t ns to vs .words) a (addresses base ns) (nodeAfter t l (nodeAt ws a)) (nodesAfter t (lowOut t l (nodeAt ws a)) (nodesAt ws (addresses base ns))) (d .0)
+      words = path-changed-cons ws vs (codePath base t ns to vs .words) a (addresses base ns) (nodeAfter t l (nodeAt ws a))
+          (nodesAfter t (lowOut t l (nodeAt ws a)) (nodesAt ws (addresses base ns))) (d .0)
           (subst (OneChanged ws vs a) (node-after v (getD ws (a + 1) 0) (getD ws (a + 2) 0) t l) s)
           (subst (PathChanged vs (codePath base t ns to vs .words) (addresses base ns)) ny (i .words));
     }
@@ -126,9 +137,11 @@ coded-as base t (n ∷ ns) l ws d h =
 
 pub record ReadAs (s : List ℕ) (base t : ℕ) (ns : List ℕ) (l : ℕ) (rs : List ℕ) (b : Bio) : Type 0 where
   pub bio : readPath s base t ns l rs b .bio ≡ readAll s t l b (nodesAt rs (addresses base ns)) .bio
-  pub words : PathChanged rs (readPath s base t ns l rs b .words) (addresses base ns) (readAll s t l b (nodesAt rs (addresses base ns)) .nodes)
+  pub words : PathChanged rs (readPath s base t ns l rs b .words) (addresses base ns)
+      (readAll s t l b (nodesAt rs (addresses base ns)) .nodes)
 
-pub read-as : (s : List ℕ) (base t : ℕ) (ns : List ℕ) (l : ℕ) (rs : List ℕ) (b : Bio) → AllApart (addresses base ns) → All (λ a. a + 3 ≤ length rs) (addresses base ns) → ReadAs s base t ns l rs b
+pub read-as : (s : List ℕ) (base t : ℕ) (ns : List ℕ) (l : ℕ) (rs : List ℕ) (b : Bio) → AllApart (addresses base ns)
+    → All (λ a. a + 3 ≤ length rs) (addresses base ns) → ReadAs s base t ns l rs b
 unfolding readPath readAll readOne
 read-as s base t [] l rs b d h = record { bio = refl; words = record { nodes = refl; off = λ a o. refl; clear = λ i c. refl; long = refl } }
 read-as s base t (n ∷ ns) l rs b d h =
@@ -137,9 +150,12 @@ read-as s base t (n ∷ ns) l rs b d h =
     let vs : List ℕ = set (set rs a (g .value)) (a + 1) (g .low) in
     let st = value-low-stored rs a (g .value) (g .low) (h .0) in
     let i = read-as s base t ns (g .low) vs (g .bio) (d .1) (inside-longer (length rs) (length vs) (addresses base ns) (st .long) (h .1)) in
-    let e : nodesAt vs (addresses base ns) ≡ nodesAt rs (addresses base ns) = other-nodes rs vs a (readInto g (nodeAt rs a)) (addresses base ns) st (d .0) in
+    let e : nodesAt vs (addresses base ns)
+    ≡ nodesAt rs (addresses base ns) = other-nodes rs vs a (readInto g (nodeAt rs a)) (addresses base ns) st (d .0) in
     record {
       bio = i .bio ∙ ap (λ (z : List Node). readAll s t (g .low) (g .bio) z .bio) e;
-      words = path-changed-cons rs vs (readPath s base t ns (g .low) vs (g .bio) .words) a (addresses base ns) (readInto g (nodeAt rs a)) (readAll s t (g .low) (g .bio) (nodesAt rs (addresses base ns)) .nodes) (d .0) st
-          (subst (PathChanged vs (readPath s base t ns (g .low) vs (g .bio) .words) (addresses base ns)) (ap (λ (z : List Node). readAll s t (g .low) (g .bio) z .nodes) e) (i .words));
+      words = path-changed-cons rs vs (readPath s base t ns (g .low) vs (g .bio) .words) a (addresses base ns)
+          (readInto g (nodeAt rs a)) (readAll s t (g .low) (g .bio) (nodesAt rs (addresses base ns)) .nodes) (d .0) st
+          (subst (PathChanged vs (readPath s base t ns (g .low) vs (g .bio) .words) (addresses base ns))
+          (ap (λ (z : List Node). readAll s t (g .low) (g .bio) z .nodes) e) (i .words));
     }

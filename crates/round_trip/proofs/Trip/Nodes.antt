@@ -1,4 +1,5 @@
--- A node of a tag tree as one thing, the writer's and the reader's pass over a path of nodes, and what the two sides share at each node. The
+-- A node of a tag tree as one thing, the writer's and the reader's pass over a path of nodes, and what the two sides share at each
+-- node. The
 -- mark is the tree's "not yet".
 use mathlib.Core.Path.{_≡_}
 use mathlib.Core.Bool.{Bool, cond, _&&_}

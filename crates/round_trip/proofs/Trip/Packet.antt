@@ -41,41 +41,51 @@ both : {x y : Bool} → x ≡ true → y ≡ true → (x && y) ≡ true
 both p q = rw (p, q)
 
 -- a marker that stands there if it is used
-marker-read : (used : Bool) (n second : ℕ) (rest src : List ℕ) (p : ℕ) (t : List ℕ) → suc (suc (length rest)) ≡ n → drop p src ≡ cond used (255 ∷ second ∷ rest) [] ++ t
+marker-read : (used : Bool) (n second : ℕ) (rest src : List ℕ) (p : ℕ) (t : List ℕ) → suc (suc (length rest)) ≡ n → drop p src
+    ≡ cond used (255 ∷ second ∷ rest) [] ++ t
     → readMarker used n second src p ≡ found (length (cond used (255 ∷ second ∷ rest) []))
 unfolding readMarker
 marker-read false n second rest src p t l e = refl
 marker-read true n second rest src p t l e =
     let a = drop-head src p 255 (second ∷ rest ++ t) 0 e in
     let b = drop-head src (suc p) second (rest ++ t) 0 (a .2) in
-    let len : length src - p ≡ suc (suc (length rest + length t)) = sym (length-drop p src) ∙ ap length e ∙ ap (λ (z : ℕ). suc (suc z)) (length-append rest t) in
+    let len : length src - p ≡ suc (suc (length rest + length t)) = sym (length-drop p src) ∙ ap length e
+    ∙ ap (λ (z : ℕ). suc (suc z)) (length-append rest t) in
     let q : getD src (p + 1) 0 ≡ second = ap (λ (z : ℕ). getD src z 0) (add-one p) ∙ b .1 in
     if-ge (length src - p) n _ _ (omega arith)
-    ∙ if-true (eqb (getD src p 0) 255 && eqb (getD src (p + 1) 0) second) _ _ (both (eq-eqb (getD src p 0) 255 (a .1)) (eq-eqb (getD src (p + 1) 0) second q))
+    ∙ if-true (eqb (getD src p 0) 255 && eqb (getD src (p + 1) 0) second) _ _
+    (both (eq-eqb (getD src p 0) 255 (a .1)) (eq-eqb (getD src (p + 1) 0) second q))
     ∙ ap found (sym l)
 
-sop-read : (m : Markers) (number : ℕ) (src t : List ℕ) → src ≡ cond (m .sop) (sopBytes number) [] ++ t → readSop m src ≡ found (length (cond (m .sop) (sopBytes number) []))
+sop-read : (m : Markers) (number : ℕ) (src t : List ℕ) → src ≡ cond (m .sop) (sopBytes number) [] ++ t → readSop m src
+    ≡ found (length (cond (m .sop) (sopBytes number) []))
 unfolding readSop sopBytes
 sop-read m number src t e = marker-read (m .sop) 6 0x91 (0 ∷ 4 ∷ number / 256 % 256 ∷ number % 256 ∷ []) src 0 t refl e
 
-eph-read : (m : Markers) (src : List ℕ) (p : ℕ) (t : List ℕ) → drop p src ≡ cond (m .eph) ephBytes [] ++ t → readEph m src p ≡ found (length (cond (m .eph) ephBytes []))
+eph-read : (m : Markers) (src : List ℕ) (p : ℕ) (t : List ℕ) → drop p src ≡ cond (m .eph) ephBytes [] ++ t → readEph m src p
+    ≡ found (length (cond (m .eph) ephBytes []))
 unfolding readEph ephBytes
 eph-read m src p t e = marker-read (m .eph) 2 0x92 [] src p t refl e
 
 -- ---- the call
 
-header-is : (src : List ℕ) (room : ℕ) (rs : List ℕ) (h : Bio) (t : ℕ) (ks : List Block) (us : List ℕ) (end : Bio) (reps : List BlockReport) (recs : List SegmentRecord) → layer rs ≡ t → blocks (bands rs) ≡ ks
-    → readBlocks src room t 0 ks (readSoFar rs h [] []) ≡ readSoFar us end reps recs → endsInFF src end ≡ false → readHeader src room rs h ≡ readSoFar us end reps recs
+header-is : (src : List ℕ) (room : ℕ) (rs : List ℕ) (h : Bio) (t : ℕ) (ks : List Block) (us : List ℕ) (end : Bio)
+    (reps : List BlockReport) (recs : List SegmentRecord) → layer rs ≡ t → blocks (bands rs) ≡ ks
+    → readBlocks src room t 0 ks (readSoFar rs h [] []) ≡ readSoFar us end reps recs → endsInFF src end ≡ false
+    → readHeader src room rs h ≡ readSoFar us end reps recs
 unfolding readHeader
 header-is src room rs h t ks us end reps recs l k e w = rw (l, k, e, w)
 
-read-is : (rs scratch : List ℕ) (m : Markers) (src reports records : List ℕ) (n : ℕ) (us : List ℕ) (end : Bio) (reps : List BlockReport) (recs : List SegmentRecord) → readRefusal rs scratch reports ≡ 0
-    → readSop m src ≡ found n → nextBit src (bioAt n) ≡ 1 → readHeader src (length records / recordWidth) rs (bioAfter src (bioAt n)) ≡ readSoFar us end reps recs
+read-is : (rs scratch : List ℕ) (m : Markers) (src reports records : List ℕ) (n : ℕ) (us : List ℕ) (end : Bio)
+    (reps : List BlockReport) (recs : List SegmentRecord) → readRefusal rs scratch reports ≡ 0
+    → readSop m src ≡ found n → nextBit src (bioAt n) ≡ 1
+    → readHeader src (length records / recordWidth) rs (bioAfter src (bioAt n)) ≡ readSoFar us end reps recs
     → read rs scratch m src reports records ≡ readPresent rs m src records (found n) (readSoFar us end reps recs)
 unfolding read
 read-is rs scratch m src reports records n us end reps recs e₁ e₂ e₃ e₄ = rw (e₁, e₂, e₃, e₄)
 
-present-is : (rs : List ℕ) (t : ℕ) (m : Markers) (src records : List ℕ) (n : ℕ) (us : List ℕ) (end : Bio) (reps : List BlockReport) (recs : List SegmentRecord) (at skip : ℕ) → layer rs ≡ t → bytesTaken src end ≡ at
+present-is : (rs : List ℕ) (t : ℕ) (m : Markers) (src records : List ℕ) (n : ℕ) (us : List ℕ) (end : Bio) (reps : List BlockReport)
+    (recs : List SegmentRecord) (at skip : ℕ) → layer rs ≡ t → bytesTaken src end ≡ at
     → readEph m src at ≡ found skip
     → readPresent rs m src records (found n) (readSoFar us end reps recs)
     ≡ record {
@@ -90,8 +100,10 @@ present-is rs t m src records n us end reps recs at skip l a e = rw (a, e, l)
 
 -- ---- the packet
 
-module _ (L : Layout) (s t : ℕ) (ks : List Block) (f : AllPlaced L ks) (ht : t < notYetIncluded) (ws rs : List ℕ) (es : List BlockEntry) (c : Contribution) (W : WriterState L t ws) (y : InStep L s ws rs)
-    (booked : AllBooked ws ks es) (q : Acceptable ws ks c) (term : T (terminatedAsStyle s es (c .counts) (c .marks))) (l : layer rs ≡ t) (kb : blocks (bands rs) ≡ ks) (m : Markers) (number : ℕ) (src : List ℕ) where
+module _ (L : Layout) (s t : ℕ) (ks : List Block) (f : AllPlaced L ks) (ht : t < notYetIncluded) (ws rs : List ℕ)
+    (es : List BlockEntry) (c : Contribution) (W : WriterState L t ws) (y : InStep L s ws rs)
+    (booked : AllBooked ws ks es) (q : Acceptable ws ks c) (term : T (terminatedAsStyle s es (c .counts) (c .marks)))
+    (l : layer rs ≡ t) (kb : blocks (bands rs) ≡ ks) (m : Markers) (number : ℕ) (src : List ℕ) where
   abbrev header : List ℕ
   header = pack (1 ∷ headerBlocks t ks c ws .bits)
 
@@ -103,12 +115,14 @@ module _ (L : Layout) (s t : ℕ) (ks : List Block) (f : AllPlaced L ks) (ht : t
     pub before : ℕ
     pub sop-is : readSop m src ≡ found before
     pub back : HeaderReadBack L s t src room before (length header) ws rs (headerBlocks t ks c ws .words) ks es c
-    pub header-back : readHeader src room rs (bioAfter src (bioAt before)) ≡ readSoFar (back .words) (back .end) (owedEntry .reports) (owedEntry .records)
+    pub header-back : readHeader src room rs (bioAfter src (bioAt before))
+        ≡ readSoFar (back .words) (back .end) (owedEntry .reports) (owedEntry .records)
     pub after : ℕ
     pub eph-is : readEph m src (before + length header) ≡ found after
     pub all : before + length header + after ≡ length (withMarkers m number header)
 
-  pub front-read : (room : ℕ) → length (owedEntry .records) ≤ room → take (length (withMarkers m number header)) src ≡ withMarkers m number header → FrontRead room
+  pub front-read : (room : ℕ) → length (owedEntry .records) ≤ room → take (length (withMarkers m number header)) src
+      ≡ withMarkers m number header → FrontRead room
   unfolding withMarkers
   front-read room enough e =
       let A : List ℕ = cond (m .sop) (sopBytes number) [] in
@@ -116,16 +130,21 @@ module _ (L : Layout) (s t : ℕ) (ks : List Block) (f : AllPlaced L ks) (ht : t
       let fr : List ℕ = A ++ header ++ C in
       let tail : List ℕ = drop (length fr) src in
       let whole : src ≡ A ++ header ++ C ++ tail = sym (take-append-drop (length fr) src) ∙ ap (λ (z : List ℕ). z ++ tail) e in
-      let from-header : src ≡ A ++ (header ++ (C ++ tail)) = whole ∙ append-assoc (A ++ header) C tail ∙ append-assoc A header (C ++ tail) in
+      let from-header : src ≡ A ++ (header ++ (C ++ tail)) = whole ∙ append-assoc (A ++ header) C tail
+      ∙ append-assoc A header (C ++ tail) in
       let from-eph : src ≡ A ++ header ++ (C ++ tail) = whole ∙ append-assoc (A ++ header) C tail in
-      let at-header : drop (length A) src ≡ header ++ (C ++ tail) = ap (drop (length A)) from-header ∙ drop-append-seam A (header ++ (C ++ tail)) in
-      let at-eph : drop (length A + length header) src ≡ C ++ tail = ap₂ (λ (n : ℕ) (z : List ℕ). drop n z) (sym (length-append A header)) from-eph ∙ drop-append-seam (A ++ header) (C ++ tail) in
+      let at-header : drop (length A) src ≡ header ++ (C ++ tail) = ap (drop (length A)) from-header
+      ∙ drop-append-seam A (header ++ (C ++ tail)) in
+      let at-eph : drop (length A + length header) src
+      ≡ C ++ tail = ap₂ (λ (n : ℕ) (z : List ℕ). drop n z) (sym (length-append A header)) from-eph
+      ∙ drop-append-seam (A ++ header) (C ++ tail) in
       let h = header-read L s t ks f ht src (C ++ tail) room (length A) ws rs es c W y booked q term enough at-header in
       record {
         before = length A;
         sop-is = sop-read m number src (header ++ (C ++ tail)) from-header;
         back = h;
-        header-back = header-is src room rs (bioAfter src (bioAt (length A))) t ks (h .words) (h .end) (owedEntry .reports) (owedEntry .records) l kb (h .is) (h .whole);
+        header-back = header-is src room rs (bioAfter src (bioAt (length A))) t ks (h .words) (h .end) (owedEntry .reports)
+            (owedEntry .records) l kb (h .is) (h .whole);
         after = length C;
         eph-is = eph-read m src (length A + length header) tail at-eph;
         all = sym (length-append (A ++ header) C ∙ ap (λ (z : ℕ). z + length C) (length-append A header));
@@ -133,7 +152,15 @@ module _ (L : Layout) (s t : ℕ) (ks : List Block) (f : AllPlaced L ks) (ht : t
 
   pub record PacketRead (records : List ℕ) (r : ReadResult) : Type 0 where
     pub words : List ℕ
-    pub answer : r .answer ≡ record { refusal = 0; present = 1; taken = length (withMarkers m number header); segments = length (owedEntry .records); sop = 0; eph = 0 }
+    pub answer : r .answer
+        ≡ record {
+          refusal = 0;
+          present = 1;
+          taken = length (withMarkers m number header);
+          segments = length (owedEntry .records);
+          sop = 0;
+          eph = 0;
+        }
     pub reports : r .reports ≡ reportWords (owedEntry .reports)
     pub records-are : r .records ≡ overwrite records (recordWords (owedEntry .records))
     pub state : r .state ≡ set words 3 (t + 1)
@@ -141,16 +168,22 @@ module _ (L : Layout) (s t : ℕ) (ks : List Block) (f : AllPlaced L ks) (ht : t
     pub booked-after : AllBooked (headerBlocks t ks c ws .words) ks (addCounts es (c .counts))
     pub reader-first : (j : ℕ) → j < 13 → getD words j 0 ≡ getD rs j 0
 
-  pub packet-read : (scratch reports records : List ℕ) → readRefusal rs scratch reports ≡ 0 → recordWidth * length (owedEntry .records) ≤ length records
-      → take (length (withMarkers m number header)) src ≡ withMarkers m number header → PacketRead records (read rs scratch m src reports records)
+  pub packet-read : (scratch reports records : List ℕ) → readRefusal rs scratch reports ≡ 0
+      → recordWidth * length (owedEntry .records) ≤ length records
+      → take (length (withMarkers m number header)) src ≡ withMarkers m number header
+      → PacketRead records (read rs scratch m src reports records)
   packet-read scratch reports records why enough e =
       let F = front-read (length records / recordWidth) (omega arith) e in
       let h = F .back in
-      let is = read-is rs scratch m src reports records (F .before) (h .words) (h .end) (owedEntry .reports) (owedEntry .records) why (F .sop-is) (h .first-bit) (F .header-back)
-      ∙ present-is rs t m src records (F .before) (h .words) (h .end) (owedEntry .reports) (owedEntry .records) (F .before + length header) (F .after) l (h .taken) (F .eph-is) in
+      let is = read-is rs scratch m src reports records (F .before) (h .words) (h .end) (owedEntry .reports) (owedEntry .records)
+      why (F .sop-is) (h .first-bit) (F .header-back)
+      ∙ present-is rs t m src records (F .before) (h .words) (h .end) (owedEntry .reports) (owedEntry .records)
+      (F .before + length header) (F .after) l (h .taken) (F .eph-is) in
       record {
         words = h .words;
-        answer = ap (λ (r : ReadResult). r .answer) is ∙ ap (λ (z : ℕ). record { refusal = 0; present = 1; taken = z; segments = length (owedEntry .records); sop = 0; eph = 0 }) (F .all);
+        answer = ap (λ (r : ReadResult). r .answer) is
+            ∙ ap (λ (z : ℕ). record { refusal = 0; present = 1; taken = z; segments = length (owedEntry .records); sop = 0; eph = 0 })
+            (F .all);
         reports = ap (λ (r : ReadResult). r .reports) is;
         records-are = ap (λ (r : ReadResult). r .records) is;
         state = ap (λ (r : ReadResult). r .state) is;
@@ -162,18 +195,26 @@ module _ (L : Layout) (s t : ℕ) (ks : List Block) (f : AllPlaced L ks) (ht : t
   -- however few records are lent, reading the header ends in no refusal or in 13
   pub header-refusal : (room : ℕ) → take (length (withMarkers m number header)) src ≡ withMarkers m number header
       → (before : ℕ) × (readSop m src ≡ found before) × (nextBit src (bioAt before) ≡ 1)
-      × ((readHeader src room rs (bioAfter src (bioAt before)) .refusal ≡ 0) ⊎ ((readHeader src room rs (bioAfter src (bioAt before)) .refusal ≡ 13) × (room < length (owedEntry .records))))
+      × ((readHeader src room rs (bioAfter src (bioAt before)) .refusal ≡ 0) ⊎
+      ((readHeader src room rs (bioAfter src (bioAt before)) .refusal ≡ 13) × (room < length (owedEntry .records))))
   header-refusal room e =
       on-lt room n
-      (λ h. let F = front-read n (le-refl n) e in
-      (F .before, F .sop-is, F .back .first-bit, fewer h (F .before) (ap (λ (x : HeaderRead). x .refusal) (F .header-back)) (fewer-records src room n (omega arith) rs (bioAfter src (bioAt (F .before))))))
-      (λ h. let F = front-read room h e in (F .before, F .sop-is, F .back .first-bit, inl (ap (λ (x : HeaderRead). x .refusal) (F .header-back))))
+      (λ h. let F = front-read n (le-refl n) e in (
+        F .before,
+        F .sop-is,
+        F .back .first-bit,
+        fewer h (F .before) (ap (λ (x : HeaderRead). x .refusal) (F .header-back))
+            (fewer-records src room n (omega arith) rs (bioAfter src (bioAt (F .before)))),
+      ))
+      (λ h. let F = front-read room h e in
+      (F .before, F .sop-is, F .back .first-bit, inl (ap (λ (x : HeaderRead). x .refusal) (F .header-back))))
     where
       n : ℕ
       n = length (owedEntry .records)
 
       fewer : room < n → (before : ℕ) → readHeader src n rs (bioAfter src (bioAt before)) .refusal ≡ 0
           → SameOr13 (readHeader src room rs (bioAfter src (bioAt before))) (readHeader src n rs (bioAfter src (bioAt before)))
-          → (readHeader src room rs (bioAfter src (bioAt before)) .refusal ≡ 0) ⊎ ((readHeader src room rs (bioAfter src (bioAt before)) .refusal ≡ 13) × (room < n))
+          → (readHeader src room rs (bioAfter src (bioAt before)) .refusal ≡ 0) ⊎
+          ((readHeader src room rs (bioAfter src (bioAt before)) .refusal ≡ 13) × (room < n))
       fewer h before z (inl e) = inl (ap (λ (x : HeaderRead). x .refusal) e ∙ z)
       fewer h before z (inr e) = inr (e, h)

@@ -1,4 +1,5 @@
--- The codewords of 1 to 164 passes are prefix-free (T.800, Table B.4): none begins another, since a reader of the longer one reads the shorter.
+-- The codewords of 1 to 164 passes are prefix-free (T.800, Table B.4): none begins another, since a reader of the longer one reads
+-- the shorter.
 use mathlib.Core.Path.{_≡_, sym, ap, _∙_, subst}
 use mathlib.Core.List.{List, [], _∷_, append-nil, IsPrefix}
 use Prim.Native.Nat.{ℕ, _≤_}

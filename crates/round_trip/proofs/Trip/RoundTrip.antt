@@ -1,4 +1,5 @@
--- The round trip over whole lists of calls: after an accepted start each packet owed is read as the book has it, and the reader's state stays
+-- The round trip over whole lists of calls: after an accepted start each packet owed is read as the book has it, and the reader's
+-- state stays
 -- valid.
 use mathlib.Core.Path.{_≡_, refl, sym, subst}
 use mathlib.Core.Logic.{_⊎_, inl, inr}
@@ -10,21 +11,25 @@ use Rattle.t800.specs.declared.Band.{Band}
 use Rattle.t800.specs.State.{writer, reader}
 use Rattle.t800.specs.Start.{start}
 use Rattle.t800.specs.Book.{BlockEntry, newBook, addCounts}
-use Rattle.t800.specs.RoundTrip.{WriterCall, writeOf, Owed, owed, allTerminatedAsStyle, ReaderCall, refusedRead, packetRead, readOf, ReadsAsOwed, RoundTrip}
+use Rattle.t800.specs.RoundTrip.{WriterCall, writeOf, Owed, owed, allTerminatedAsStyle, ReaderCall, refusedRead, packetRead, readOf}
+use Rattle.t800.specs.RoundTrip.{ReadsAsOwed, RoundTrip}
 use Rattle.round_trip.proofs.Trip.Calls.{FirstOwed, first-owed, refused-read-keeps}
 use Rattle.round_trip.proofs.Trip.Invariant.{Invariant, reader-in-range, after-start, packet-gives, more-gives, after-packet}
 
-pub all-read : (bs : List Band) (s t : ℕ) (ws rs : List ℕ) (es : List BlockEntry) (reads : List ReaderCall) (writes : List WriterCall) → Invariant bs s t ws rs es → T (allTerminatedAsStyle s ws es writes)
+pub all-read : (bs : List Band) (s t : ℕ) (ws rs : List ℕ) (es : List BlockEntry) (reads : List ReaderCall)
+    (writes : List WriterCall) → Invariant bs s t ws rs es → T (allTerminatedAsStyle s ws es writes)
     → ReadsAsOwed rs (owed s ws es writes) reads
 unfolding ReadsAsOwed
 all-read bs s t ws rs es [] writes y h = reader-in-range bs s t ws rs es (length rs) y refl
 all-read bs s t ws rs es (refusedRead c ∷ reads) writes y h =
-    λ z. subst (λ (v : List ℕ). ReadsAsOwed v (owed s ws es writes) reads) (sym (refused-read-keeps rs c z)) (all-read bs s t ws rs es reads writes y h)
+    λ z. subst (λ (v : List ℕ). ReadsAsOwed v (owed s ws es writes) reads) (sym (refused-read-keeps rs c z))
+    (all-read bs s t ws rs es reads writes y h)
 all-read bs s t ws rs es (packetRead c ∷ reads) writes y h =
     go (first-owed s ws es writes h) (λ v u es₂ later i k. all-read bs s (t + 1) v u es₂ reads later i k)
   where
     go : (owed s ws es writes ≡ []) ⊎ FirstOwed s ws es writes
-        → ((v u : List ℕ) (es₂ : List BlockEntry) (later : List WriterCall) → Invariant bs s (t + 1) v u es₂ → T (allTerminatedAsStyle s v es₂ later) → ReadsAsOwed u (owed s v es₂ later) reads)
+        → ((v u : List ℕ) (es₂ : List BlockEntry) (later : List WriterCall) → Invariant bs s (t + 1) v u es₂
+        → T (allTerminatedAsStyle s v es₂ later) → ReadsAsOwed u (owed s v es₂ later) reads)
         → ReadsAsOwed rs (owed s ws es writes) (packetRead c ∷ reads)
     go (inl e) k = subst (λ (os : List Owed). ReadsAsOwed rs os (packetRead c ∷ reads)) (sym e) tt
     go (inr f) k =
@@ -32,12 +37,14 @@ all-read bs s t ws rs es (packetRead c ∷ reads) writes y h =
         (λ ask. (
           packet-gives bs s t ws rs es (f .call) y (f .accepts) (f .terminated) c ask,
           more-gives bs s t ws rs es (f .call) y (f .accepts) (f .terminated) c ask,
-          k (writeOf ws (f .call) .state) (readOf rs c .state) (addCounts es (f .call .contribution .counts)) (f .rest) (after-packet bs s t ws rs es (f .call) y (f .accepts) (f .terminated) c ask) (f .rest-terminated),
+          k (writeOf ws (f .call) .state) (readOf rs c .state) (addCounts es (f .call .contribution .counts)) (f .rest)
+              (after-packet bs s t ws rs es (f .call) y (f .accepts) (f .terminated) c ask) (f .rest-terminated),
         ))
 
 -- DEMAND 3
 pub round-trip : RoundTrip
 unfolding RoundTrip
 round-trip n given style planes lent lent′ ew er ws h rs =
-    all-read (take n given) style 0 (start writer n given style planes lent .state) (start reader n given style [] lent′ .state) (newBook (take n given) planes) rs ws
+    all-read (take n given) style 0 (start writer n given style planes lent .state) (start reader n given style [] lent′ .state)
+    (newBook (take n given) planes) rs ws
     (after-start n given style planes lent lent′ ew er) h

@@ -1,4 +1,5 @@
--- A block's segments: by marks that terminate as the style does, the writer's are the book's records; by the limits in its state the reader's
+-- A block's segments: by marks that terminate as the style does, the writer's are the book's records; by the limits in its state
+-- the reader's
 -- are the book's records too, with their lengths.
 use mathlib.Core.Path.{_≡_, refl, sym, ap, ap₂, _∙_, subst}
 use mathlib.Core.Logic.{_≢_}
@@ -65,7 +66,8 @@ module _ (s i : ℕ) where
   unfolding segmentsFrom
   pass-goes-on n len l ls m ms x y e = if-false (not (eqb m 0) || false) _ _ (or-false (not (eqb m 0)) ∙ e)
 
-  pass-opens : (p : ℕ) (now : SegmentRecord) (l : ℕ) (ls : List ℕ) → opensAt s p ≡ true → recordsFrom s p now (l ∷ ls) ≡ now ∷ recordsFrom s (p + 1) (recordWith (now .block) 1 1 l) ls
+  pass-opens : (p : ℕ) (now : SegmentRecord) (l : ℕ) (ls : List ℕ) → opensAt s p ≡ true → recordsFrom s p now (l ∷ ls)
+      ≡ now ∷ recordsFrom s (p + 1) (recordWith (now .block) 1 1 l) ls
   unfolding recordsFrom
   pass-opens p now l ls e = if-true (opensAt s p) _ _ e
 
@@ -82,22 +84,27 @@ module _ (s i : ℕ) where
   segments-from f p n len l [] m (y ∷ ms) e h = absurd (omega arith)
   segments-from f p n len l (x ∷ ls) m [] e h = absurd (omega arith)
   segments-from f p n len l (x ∷ ls) m (y ∷ ms) e h =
-      let a : not (eqb m 0) ≡ opensAt s (p + 1) = agrees (opensAt s (p + 1)) (not (eqb m 0)) (and-l (Bool·beq (opensAt s (p + 1)) (not (eqb m 0))) _ h) in
+      let a : not (eqb m 0)
+      ≡ opensAt s (p + 1) = agrees (opensAt s (p + 1)) (not (eqb m 0)) (and-l (Bool·beq (opensAt s (p + 1)) (not (eqb m 0))) _ h) in
       let h₂ = and-r (Bool·beq (opensAt s (p + 1)) (not (eqb m 0))) (terminatedAt s (p + 1) (y ∷ ms)) h in
-      go (opensAt s (p + 1)) refl a (segments-from 1 (p + 1) 0 0 x ls y ms (omega arith) h₂) (segments-from f (p + 1) (n + 1) (len + l) x ls y ms (omega arith) h₂)
+      go (opensAt s (p + 1)) refl a (segments-from 1 (p + 1) 0 0 x ls y ms (omega arith) h₂)
+      (segments-from f (p + 1) (n + 1) (len + l) x ls y ms (omega arith) h₂)
     where
       go : (o : Bool) → opensAt s (p + 1) ≡ o → not (eqb m 0) ≡ opensAt s (p + 1)
           → segmentsFrom 0 0 (x ∷ ls) (y ∷ ms) ≡ segmentsIn (recordsFrom s (p + 1 + 1) (recordWith i 1 (0 + 1) (0 + x)) ls)
-          → segmentsFrom (n + 1) (len + l) (x ∷ ls) (y ∷ ms) ≡ segmentsIn (recordsFrom s (p + 1 + 1) (recordWith i f (n + 1 + 1) (len + l + x)) ls)
+          → segmentsFrom (n + 1) (len + l) (x ∷ ls) (y ∷ ms)
+          ≡ segmentsIn (recordsFrom s (p + 1 + 1) (recordWith i f (n + 1 + 1) (len + l + x)) ls)
           → segmentsFrom n len (l ∷ x ∷ ls) (m ∷ y ∷ ms) ≡ segmentsIn (recordsFrom s (p + 1) (recordWith i f (n + 1) (len + l)) (x ∷ ls))
       go true o a u w =
           pass-ends n len l ls m ms x y (a ∙ o)
-          ∙ ap (λ (z : List Segment). segment (n + 1) (len + l) ∷ z) (u ∙ ap (λ (z : ℕ). segmentsIn (recordsFrom s (p + 1 + 1) (recordWith i 1 1 z) ls)) (zero-add x))
+          ∙ ap (λ (z : List Segment). segment (n + 1) (len + l) ∷ z)
+          (u ∙ ap (λ (z : ℕ). segmentsIn (recordsFrom s (p + 1 + 1) (recordWith i 1 1 z) ls)) (zero-add x))
           ∙ sym (ap segmentsIn (pass-opens (p + 1) (recordWith i f (n + 1) (len + l)) x ls o))
       go false o a u w =
           pass-goes-on n len l ls m ms x y (a ∙ o) ∙ w ∙ sym (ap segmentsIn (pass-stays (p + 1) (recordWith i f (n + 1) (len + l)) x ls o))
 
-  pub segments-are-records : (p : ℕ) (ls ms : List ℕ) → length ls ≡ length ms → T (terminatedAt s p ms) → segmentsOf ls ms ≡ segmentsIn (recordsOf s i p ls)
+  pub segments-are-records : (p : ℕ) (ls ms : List ℕ) → length ls ≡ length ms → T (terminatedAt s p ms) → segmentsOf ls ms
+      ≡ segmentsIn (recordsOf s i p ls)
   unfolding segmentsOf recordsOf segmentsFrom
   segments-are-records p [] ms e h = refl
   segments-are-records p (l ∷ ls) [] e h = absurd (omega arith)
@@ -109,7 +116,8 @@ module _ (s i : ℕ) where
 
   -- passes that open nothing go into the record that is being made
   no-opening-run : (d p : ℕ) (f n len : ℕ) (ls : List ℕ) → ((j : ℕ) → j < d → opensAt s (p + j) ≡ false) → opensAt s (p + d) ≡ true
-      → (v : ℕ) × (recordsFrom s p (recordWith i f n len) ls ≡ recordWith i f (n + min d (length ls)) v ∷ recordsOf s i (p + min d (length ls)) (drop d ls))
+      → (v : ℕ) × (recordsFrom s p (recordWith i f n len) ls
+      ≡ recordWith i f (n + min d (length ls)) v ∷ recordsOf s i (p + min d (length ls)) (drop d ls))
   unfolding recordsFrom recordsOf
   no-opening-run zero p f n len [] q o = (len, ap (λ (z : ℕ). recordWith i f z len ∷ []) (omega arith))
   no-opening-run (suc d) p f n len [] q o = (len, ap (λ (z : ℕ). recordWith i f z len ∷ []) (omega arith))
@@ -119,7 +127,8 @@ module _ (s i : ℕ) where
       let z : opensAt s p ≡ true = ap (opensAt s) (sym (add-zero p)) ∙ o in
       (len, pass-opens p (recordWith i f n len) l ls z ∙ rw (e, g, z))
   no-opening-run (suc d) p f n len (l ∷ ls) q o =
-      let r = no-opening-run d (p + 1) f (n + 1) (len + l) ls (λ j h. ap (opensAt s) (omega arith) ∙ q (suc j) (omega arith)) (ap (opensAt s) (omega arith) ∙ o) in
+      let r = no-opening-run d (p + 1) f (n + 1) (len + l) ls (λ j h. ap (opensAt s) (omega arith) ∙ q (suc j) (omega arith))
+      (ap (opensAt s) (omega arith) ∙ o) in
       let e : n + 1 + min d (length ls) ≡ n + min (suc d) (suc (length ls)) = omega arith in
       let g : p + 1 + min d (length ls) ≡ p + min (suc d) (suc (length ls)) = omega arith in (
         r .0,
@@ -128,13 +137,17 @@ module _ (s i : ℕ) where
       )
 
   -- the first record has as many passes as its segment has room for
-  pub first-record : (p d : ℕ) (ls : List ℕ) → 1 ≤ length ls → 1 ≤ d → ((j : ℕ) → 1 ≤ j → j < d → opensAt s (p + j) ≡ false) → opensAt s (p + d) ≡ true
-      → (v : ℕ) × (recordsOf s i p ls ≡ recordWith i (cond (opensAt s p) 1 0) (min d (length ls)) v ∷ recordsOf s i (p + min d (length ls)) (drop (min d (length ls)) ls))
+  pub first-record : (p d : ℕ) (ls : List ℕ) → 1 ≤ length ls → 1 ≤ d → ((j : ℕ) → 1 ≤ j → j < d → opensAt s (p + j) ≡ false)
+      → opensAt s (p + d) ≡ true
+      → (v : ℕ) × (recordsOf s i p ls
+      ≡ recordWith i (cond (opensAt s p) 1 0) (min d (length ls)) v ∷ recordsOf s i (p + min d (length ls))
+      (drop (min d (length ls)) ls))
   unfolding recordsOf
   first-record p d [] h g q o = absurd (omega arith)
   first-record p zero (l ∷ ls) h g q o = absurd (omega arith)
   first-record p (suc d) (l ∷ ls) h g q o =
-      let r = no-opening-run d (p + 1) (cond (opensAt s p) 1 0) 1 l ls (λ j k. ap (opensAt s) (omega arith) ∙ q (suc j) (omega arith) (omega arith)) (ap (opensAt s) (omega arith) ∙ o) in
+      let r = no-opening-run d (p + 1) (cond (opensAt s p) 1 0) 1 l ls
+      (λ j k. ap (opensAt s) (omega arith) ∙ q (suc j) (omega arith) (omega arith)) (ap (opensAt s) (omega arith) ∙ o) in
       let m : ℕ = min d (length ls) in
       let e : 1 + m ≡ min (suc d) (suc (length ls)) = omega arith in
       let g : p + 1 + m ≡ p + min (suc d) (suc (length ls)) = omega arith in
@@ -142,7 +155,8 @@ module _ (s i : ℕ) where
       let k : drop d ls ≡ drop (min (suc d) (suc (length ls))) (l ∷ ls) = drop-min d ls ∙ ap (λ (z : ℕ). drop z (l ∷ ls)) em in (
         r .0,
         r .1 ∙ ap₂ (λ (x y : ℕ). recordWith i (cond (opensAt s p) 1 0) x (r .0) ∷ recordsOf s i y (drop d ls)) e g
-            ∙ ap (λ (z : List ℕ). recordWith i (cond (opensAt s p) 1 0) (min (suc d) (suc (length ls))) (r .0) ∷ recordsOf s i (p + min (suc d) (suc (length ls))) z) k,
+            ∙ ap (λ (z : List ℕ). recordWith i (cond (opensAt s p) 1 0) (min (suc d) (suc (length ls))) (r .0) ∷ recordsOf s i
+            (p + min (suc d) (suc (length ls))) z) k,
       )
 
 -- ---- reading
@@ -158,7 +172,8 @@ pub record SegmentNow (rs us : List ℕ) (s at p : ℕ) : Type 0 where
   pub long : length us ≡ length rs
 
 -- the reader's words tell the segment that the next passes go into
-module _ (s : ℕ) (k : Block) (rs : List ℕ) (p : ℕ) (st : getD rs 2 0 ≡ s) (l : getD rs (k .at + 2) 0 ≡ limitAfter s p) (u : getD rs (k .at + 3) 0 ≡ passesAfter s p) where
+module _ (s : ℕ) (k : Block) (rs : List ℕ) (p : ℕ) (st : getD rs 2 0 ≡ s) (l : getD rs (k .at + 2) 0 ≡ limitAfter s p)
+    (u : getD rs (k .at + 3) 0 ≡ passesAfter s p) where
   now-opens : opensSegment rs k ≡ opensAt s p
   unfolding opensSegment opensAt limitAfter passesAfter
   now-opens = ap₂ eqb l u ∙ sym (next-segment s p .opens-here)
@@ -176,15 +191,18 @@ module _ (s : ℕ) (k : Block) (rs : List ℕ) (p : ℕ) (st : getD rs 2 0 ≡ s
   now-takes left = ap₂ (λ (x y : ℕ). min (x - y) left) now-limit now-used
 
 -- one segment
-segment-read : (src : List ℕ) (room i : ℕ) (k : Block) (n : ℕ) (rs : List ℕ) (b e : Bio) (reps : List BlockReport) (recs : List SegmentRecord) (lb v : ℕ)
+segment-read : (src : List ℕ) (room i : ℕ) (k : Block) (n : ℕ) (rs : List ℕ) (b e : Bio) (reps : List BlockReport)
+    (recs : List SegmentRecord) (lb v : ℕ)
     → getD rs (k .at + 1) 0 ≡ lb → width lb n ≤ 32 → v < 2 ^ width lb n → length recs < room → Reads src b (bitsOf (width lb n) v) e
     → readSegment src room i k n (readSoFar rs b reps recs)
-    ≡ readSoFar (set (set rs (k .at + 2) (currentLimit rs k)) (k .at + 3) (currentPasses rs k + n)) e reps (recs ++ recordWith i (cond (opensSegment rs k) 1 0) n v ∷ [])
+    ≡ readSoFar (set (set rs (k .at + 2) (currentLimit rs k)) (k .at + 3) (currentPasses rs k + n)) e reps
+    (recs ++ recordWith i (cond (opensSegment rs k) 1 0) n v ∷ [])
 unfolding readSegment
 segment-read src room i k n rs b e reps recs lb v l w f r h =
     rw (l, if-ge 32 (width lb n) _ _ w, if-gt room (length recs) _ _ r, number-read src (width lb n) v b e f h)
 
-pub field-fits : (lb : ℕ) (g : Segment) (gs : List Segment) → tooWide lb (g ∷ gs) ≡ false → (width lb (g .passes) ≤ 32) × (tooWide lb gs ≡ false)
+pub field-fits : (lb : ℕ) (g : Segment) (gs : List Segment) → tooWide lb (g ∷ gs) ≡ false → (width lb (g .passes) ≤ 32)
+    × (tooWide lb gs ≡ false)
 unfolding any
 field-fits lb g gs h =
     on-lt 32 (width lb (g .passes))
@@ -209,17 +227,21 @@ module _ (src : List ℕ) (room i : ℕ) (k : Block) (s lb : ℕ) (e : Bio) (rep
   unfolding passesAfter
   used-is q = refl
 
-  segment-now : (rs : List ℕ) (m u p : ℕ) → k .at + 4 ≤ length rs → m ≡ limitAfter s p → u ≡ passesAfter s p → SegmentNow rs (set (set rs (k .at + 2) m) (k .at + 3) u) s (k .at) p
+  segment-now : (rs : List ℕ) (m u p : ℕ) → k .at + 4 ≤ length rs → m ≡ limitAfter s p → u ≡ passesAfter s p
+      → SegmentNow rs (set (set rs (k .at + 2) m) (k .at + 3) u) s (k .at) p
   segment-now rs m u p h l w =
       record {
-        limit = getD-set-other (set rs (k .at + 2) m) (k .at + 3) (k .at + 2) u 0 (omega arith) ∙ getD-set-same rs (k .at + 2) m 0 (omega arith) ∙ l;
+        limit = getD-set-other (set rs (k .at + 2) m) (k .at + 3) (k .at + 2) u 0 (omega arith)
+            ∙ getD-set-same rs (k .at + 2) m 0 (omega arith) ∙ l;
         used = getD-set-same (set rs (k .at + 2) m) (k .at + 3) u 0 (omega (arith, length-set rs (k .at + 2) m)) ∙ w;
         others = λ j a b. getD-set-other (set rs (k .at + 2) m) (k .at + 3) j u 0 b ∙ getD-set-other rs (k .at + 2) j m 0 a;
         long = length-set (set rs (k .at + 2) m) (k .at + 3) u ∙ length-set rs (k .at + 2) m;
       }
 
-  segment-now-twice : (rs us vs : List ℕ) (p q : ℕ) → SegmentNow rs us s (k .at) p → SegmentNow us vs s (k .at) q → SegmentNow rs vs s (k .at) q
-  segment-now-twice rs us vs p q a b = record { limit = b .limit; used = b .used; others = λ j x y. b .others j x y ∙ a .others j x y; long = b .long ∙ a .long }
+  segment-now-twice : (rs us vs : List ℕ) (p q : ℕ) → SegmentNow rs us s (k .at) p → SegmentNow us vs s (k .at) q
+      → SegmentNow rs vs s (k .at) q
+  segment-now-twice rs us vs p q a b =
+      record { limit = b .limit; used = b .used; others = λ j x y. b .others j x y ∙ a .others j x y; long = b .long ∙ a .long }
 
   pub record SegmentsRead (f : ℕ) (ls : List ℕ) (p : ℕ) (rs : List ℕ) (b : Bio) (recs : List SegmentRecord) : Type 0 where
     pub words : List ℕ
@@ -239,7 +261,8 @@ module _ (src : List ℕ) (room i : ℕ) (k : Block) (s lb : ℕ) (e : Bio) (rep
     pub room-enough : length recs + length (recordsOf s i p ls) ≤ room
     pub ahead : Reads src b (lengthFields lb (segmentsIn (recordsOf s i p ls))) e
 
-  one-turn : (f n : ℕ) (ls : List ℕ) (rs : List ℕ) (b : Bio) (recs : List SegmentRecord) (us : List ℕ) (c : Bio) (recs₂ : List SegmentRecord) → passesTaken rs k (length ls) ≡ n
+  one-turn : (f n : ℕ) (ls : List ℕ) (rs : List ℕ) (b : Bio) (recs : List SegmentRecord) (us : List ℕ) (c : Bio)
+      (recs₂ : List SegmentRecord) → passesTaken rs k (length ls) ≡ n
       → readSegment src room i k n (readSoFar rs b reps recs) ≡ readSoFar us c reps recs₂
       → readSegments src room i k (suc f) (length ls) (readSoFar rs b reps recs)
       ≡ cond (ltb 0 (length ls - n)) (readSegments src room i k f (length ls - n) (readSoFar us c reps recs₂)) (readSoFar us c reps recs₂)
@@ -265,7 +288,8 @@ module _ (src : List ℕ) (room i : ℕ) (k : Block) (s lb : ℕ) (e : Bio) (rep
       let h : 1 ≤ d = omega (arith, t .room) in
       let one : 1 ≤ n = omega (arith, y .some) in
       let all : t .has + n ≤ t .limit = omega (arith, t .room) in
-      let c = first-record s i p d ls (y .some) h (λ j lo hi. opens-is (p + j) ∙ t .stays-open j lo (omega (arith, t .room))) (opens-is (p + d) ∙ t .opens-next) in
+      let c = first-record s i p d ls (y .some) h (λ j lo hi. opens-is (p + j) ∙ t .stays-open j lo (omega (arith, t .room)))
+      (opens-is (p + d) ∙ t .opens-next) in
       record {
         passes = n;
         bytes = c .0;
@@ -274,10 +298,12 @@ module _ (src : List ℕ) (room i : ℕ) (k : Block) (s lb : ℕ) (e : Bio) (rep
         first = c .1;
         taken = now-takes s k rs p (y .style-is) (y .limit) (y .used) (length ls);
         limit = now-limit s k rs p (y .style-is) (y .limit) (y .used) ∙ sym (limit-is (p + n) ∙ t .limit-after n one all);
-        used = ap (λ (z : ℕ). z + n) (now-used s k rs p (y .style-is) (y .limit) (y .used)) ∙ sym (used-is (p + n) ∙ t .passes-after n one all);
+        used = ap (λ (z : ℕ). z + n) (now-used s k rs p (y .style-is) (y .limit) (y .used))
+            ∙ sym (used-is (p + n) ∙ t .passes-after n one all);
       }
 
-  pub segments-read : (f : ℕ) (ls : List ℕ) (p : ℕ) (rs : List ℕ) (b : Bio) (recs : List SegmentRecord) → length ls ≤ f → BeforeSegment ls p rs b recs → SegmentsRead f ls p rs b recs
+  pub segments-read : (f : ℕ) (ls : List ℕ) (p : ℕ) (rs : List ℕ) (b : Bio) (recs : List SegmentRecord) → length ls ≤ f
+      → BeforeSegment ls p rs b recs → SegmentsRead f ls p rs b recs
   unfolding lengthFields
   segments-read zero ls p rs b recs h y = absurd (omega (arith, y .some))
   segments-read (suc f) ls p rs b recs h y =
@@ -288,17 +314,22 @@ module _ (src : List ℕ) (room i : ℕ) (k : Block) (s lb : ℕ) (e : Bio) (rep
       let fit₂ : (v < 2 ^ width lb n) × LengthsFit lb (segmentsIn rest) = rw (x .first) at (y .fits) in
       let nw = field-fits lb (segment n v) (segmentsIn rest) (rw (x .first) at (y .widths)) in
       let en : length recs + suc (length rest) ≤ room = rw (x .first) at (y .room-enough) in
-      let ah : Reads src b (bitsOf (width lb n) v ++ lengthFields lb (segmentsIn rest)) e = subst (λ (z : List SegmentRecord). Reads src b (lengthFields lb (segmentsIn z)) e) (x .first) (y .ahead) in
+      let ah : Reads src b (bitsOf (width lb n) v ++ lengthFields lb (segmentsIn rest)) e =
+      subst (λ (z : List SegmentRecord). Reads src b (lengthFields lb (segmentsIn z)) e) (x .first) (y .ahead) in
       let sp = reads-split src b e (bitsOf (width lb n) v) (lengthFields lb (segmentsIn rest)) ah in
       let us : List ℕ = set (set rs (k .at + 2) (currentLimit rs k)) (k .at + 3) (currentPasses rs k + n) in
-      let one : readSegment src room i k n (readSoFar rs b reps recs) ≡ readSoFar us (sp .0) reps (recs ++ recordWith i (cond (opensSegment rs k) 1 0) n v ∷ [])
+      let one : readSegment src room i k n (readSoFar rs b reps recs)
+      ≡ readSoFar us (sp .0) reps (recs ++ recordWith i (cond (opensSegment rs k) 1 0) n v ∷ [])
       = segment-read src room i k n rs b (sp .0) reps recs lb v (y .bits) (nw .0) (fit₂ .0) (omega arith) (sp .1) in
       let recs₂ : List SegmentRecord = recs ++ recordWith i (cond (opensAt s p) 1 0) n v ∷ [] in
       let one₂ : readSegment src room i k n (readSoFar rs b reps recs) ≡ readSoFar us (sp .0) reps recs₂
-      = one ∙ ap (λ (z : Bool). readSoFar us (sp .0) reps (recs ++ recordWith i (cond z 1 0) n v ∷ [])) (now-opens s k rs p (y .style-is) (y .limit) (y .used)) in
-      let all : recs₂ ++ rest ≡ recs ++ recordsOf s i p ls = append-assoc recs (recordWith i (cond (opensAt s p) 1 0) n v ∷ []) rest ∙ ap (λ (z : List SegmentRecord). recs ++ z) (sym (x .first)) in
+      = one ∙ ap (λ (z : Bool). readSoFar us (sp .0) reps (recs ++ recordWith i (cond z 1 0) n v ∷ []))
+      (now-opens s k rs p (y .style-is) (y .limit) (y .used)) in
+      let all : recs₂ ++ rest ≡ recs ++ recordsOf s i p ls = append-assoc recs (recordWith i (cond (opensAt s p) 1 0) n v ∷ []) rest
+      ∙ ap (λ (z : List SegmentRecord). recs ++ z) (sym (x .first)) in
       let tu = one-turn f n ls rs b recs us (sp .0) recs₂ (x .taken) one₂ in
-      let sg : SegmentNow rs us s (k .at) (p + n) = segment-now rs (currentLimit rs k) (currentPasses rs k + n) (p + n) (y .inside) (x .limit) (x .used) in
+      let sg : SegmentNow rs us s (k .at) (p + n) =
+      segment-now rs (currentLimit rs k) (currentPasses rs k + n) (p + n) (y .inside) (x .limit) (x .used) in
       let ld : length (drop n ls) ≡ length ls - n = length-drop n ls in
       on-lt 0 (length ls - n)
       (λ z. let ih = segments-read f (drop n ls) (p + n) us (sp .0) recs₂ (omega (arith, x .some)) (record {
@@ -316,14 +347,20 @@ module _ (src : List ℕ) (room i : ℕ) (k : Block) (s lb : ℕ) (e : Bio) (rep
       let pe : p + n + length (drop n ls) ≡ p + length ls = omega arith in
       record {
         words = ih .words;
-        reads = tu ∙ if-lt 0 (length ls - n) _ _ z ∙ ap (λ (x : ℕ). readSegments src room i k f x (readSoFar us (sp .0) reps recs₂)) (sym ld) ∙ ih .reads ∙ ap (readSoFar (ih .words) e reps) all;
-        segment-now = segment-now-twice rs us (ih .words) (p + n) (p + length ls) sg (subst (SegmentNow us (ih .words) s (k .at)) pe (ih .segment-now));
+        reads = tu ∙ if-lt 0 (length ls - n) _ _ z
+            ∙ ap (λ (x : ℕ). readSegments src room i k f x (readSoFar us (sp .0) reps recs₂)) (sym ld) ∙ ih .reads
+            ∙ ap (readSoFar (ih .words) e reps) all;
+        segment-now = segment-now-twice rs us (ih .words) (p + n) (p + length ls) sg
+            (subst (SegmentNow us (ih .words) s (k .at)) pe (ih .segment-now));
       })
       (λ z. let nil-rest : rest ≡ [] = no-records s i (p + n) (drop n ls) (omega arith) in
-      let ee : Reads src (sp .0) [] e = subst (λ (z : List SegmentRecord). Reads src (sp .0) (lengthFields lb (segmentsIn z)) e) nil-rest (sp .2) in
+      let ee : Reads src (sp .0) [] e =
+      subst (λ (z : List SegmentRecord). Reads src (sp .0) (lengthFields lb (segmentsIn z)) e) nil-rest (sp .2) in
       let pe : p + n ≡ p + length ls = omega (arith, x .within) in
       record {
         words = us;
-        reads = tu ∙ if-ge 0 (length ls - n) _ _ z ∙ ap₂ (λ (x : Bio) (q : List SegmentRecord). readSoFar us x reps q) (ee .1) (sym (append-nil recs₂) ∙ ap (λ (q : List SegmentRecord). recs₂ ++ q) (sym nil-rest) ∙ all);
+        reads = tu ∙ if-ge 0 (length ls - n) _ _ z
+            ∙ ap₂ (λ (x : Bio) (q : List SegmentRecord). readSoFar us x reps q) (ee .1)
+            (sym (append-nil recs₂) ∙ ap (λ (q : List SegmentRecord). recs₂ ++ q) (sym nil-rest) ∙ all);
         segment-now = subst (SegmentNow rs us s (k .at)) pe sg;
       })

@@ -1,4 +1,5 @@
--- Leaves are set block by block, layers in the inclusion trees and zero planes in the zero-plane trees: one argument for both. The trees stay
+-- Leaves are set block by block, layers in the inclusion trees and zero planes in the zero-plane trees: one argument for both. The
+-- trees stay
 -- in sync with a reader's and in order, nothing else changes, and each block's leaf holds what was set.
 use mathlib.Core.Path.{_≡_, refl, sym, ap, _∙_, subst}
 use mathlib.Core.Bool.{Bool, true, false, cond, _&&_, true≢false}
@@ -16,7 +17,8 @@ use Rattle.t800.specs.Start.{setZeroPlanes}
 use Rattle.t800.specs.WriteHeader.{isNew, setNewBlocks}
 use Rattle.t800.proofs.Laws.Tests.{on-eq, on-lt}
 use Rattle.t800.proofs.Laws.Paths.{All, NotIn, addresses}
-use Rattle.t800.proofs.Laws.Layout.{Tree, inclusion, zeroPlanes, notYet, treeOf, leafOf, Layout, Placed, SeparateFromAll, AllPlaced, leafToRoot, leaf-node, path-nodes, second-no-node}
+use Rattle.t800.proofs.Laws.Layout.{Tree, inclusion, zeroPlanes, notYet, treeOf, leafOf, Layout, Placed, SeparateFromAll, AllPlaced}
+use Rattle.t800.proofs.Laws.Layout.{leafToRoot, leaf-node, path-nodes, second-no-node}
 use Rattle.t800.proofs.Laws.SetLeaf.{lowers, ends, off-path-stays, leaf-is-set, Ordered, setValue-ordered}
 use Rattle.round_trip.proofs.Trip.Nodes.{Node, Sync, not-known, is-known}
 use Rattle.round_trip.proofs.Trip.NodeWords.{nodeAt}
@@ -26,12 +28,14 @@ use Rattle.round_trip.proofs.Trip.Changes.{ValuesOnly, no-values, value
 -- ---- one leaf
 
 -- a value that isn't told yet is lowered, not below low
-lowered-sync : {mark : ℕ} {n m : Node} (v : ℕ) (o : Node) → o .value ≡ v → o .low ≡ n .low → o .known ≡ n .known → v < n .value → n .low ≤ v → Sync mark n m → Sync mark o m
+lowered-sync : {mark : ℕ} {n m : Node} (v : ℕ) (o : Node) → o .value ≡ v → o .low ≡ n .low → o .known ≡ n .known → v < n .value
+    → n .low ≤ v → Sync mark n m → Sync mark o m
 lowered-sync v o e l k h b (is-known nk mv ml nl nv mk) = absurd (omega arith)
 lowered-sync v o e l k h b (not-known nk mv ml nl nv mk) = not-known (k ∙ nk) mv (ml ∙ sym l) (omega arith) (omega arith) mk
 
 module _ (L : Layout) (v : ℕ) (rs : List ℕ) (u : Tree) where
-  store-sync : (ws : List ℕ) (a : ℕ) → length ws ≡ L .size → L .Node u a → v < value ws a → low ws a ≤ v → SyncAll L ws rs → SyncAll L (set ws a v) rs
+  store-sync : (ws : List ℕ) (a : ℕ) → length ws ≡ L .size → L .Node u a → v < value ws a → low ws a ≤ v → SyncAll L ws rs
+      → SyncAll L (set ws a v) rs
   store-sync ws a wl n h lo y t b m =
       on-eq b a
       (λ e. let n₂ : L .Node t a = subst (L .Node t) e m in
@@ -45,14 +49,16 @@ module _ (L : Layout) (v : ℕ) (rs : List ℕ) (u : Tree) where
       } in
       subst (λ (o : Node). Sync (notYet t) o (nodeAt rs b)) (sym same) (y t b m))
 
-  setValue-sync : (base : ℕ) (ns ws : List ℕ) → length ws ≡ L .size → All (L .Node u) (addresses base ns) → ((a : ℕ) → L .Node u a → low ws a ≤ v) → SyncAll L ws rs → SyncAll L (setValue base ns v ws) rs
+  setValue-sync : (base : ℕ) (ns ws : List ℕ) → length ws ≡ L .size → All (L .Node u) (addresses base ns)
+      → ((a : ℕ) → L .Node u a → low ws a ≤ v) → SyncAll L ws rs → SyncAll L (setValue base ns v ws) rs
   unfolding setValue
   setValue-sync base [] ws wl h lo y = y
   setValue-sync base (n ∷ ns) ws wl h lo y =
       let a : ℕ = base + 3 * n in
       on-lt v (value ws a)
       (λ z. rw (lowers base n ns v ws z)
-      (setValue-sync base ns (set ws a v) (length-set ws a v ∙ wl) (h .1) (λ b p. le-trans (le-of-eq (getD-set-other ws a (b + 1) v 0 (second-no-node L u u b a p (h .0)))) (lo b p))
+      (setValue-sync base ns (set ws a v) (length-set ws a v ∙ wl) (h .1)
+      (λ b p. le-trans (le-of-eq (getD-set-other ws a (b + 1) v 0 (second-no-node L u u b a p (h .0)))) (lo b p))
       (store-sync ws a wl (h .0) z (lo a (h .0)) y)))
       (λ z. rw (ends base n ns v ws z) y)
 
@@ -77,7 +83,8 @@ module _ (L : Layout) (u : Tree) where
   none-set : (ws : List ℕ) (ks : List Block) → LeavesSet L u ws ws ks
   none-set ws ks = record { only = no-values L u ws; order = λ o. o; sync = λ rs y. y; off = λ a n. refl }
 
-  set-then : (ws vs us : List ℕ) (k : Block) (ks : List Block) → LeavesSet L u ws vs (k ∷ []) → LeavesSet L u vs us ks → LeavesSet L u ws us (k ∷ ks)
+  set-then : (ws vs us : List ℕ) (k : Block) (ks : List Block) → LeavesSet L u ws vs (k ∷ []) → LeavesSet L u vs us ks
+      → LeavesSet L u ws us (k ∷ ks)
   set-then ws vs us k ks a b =
       record {
         only = values-then L u ws vs us (a .only) (b .only);
@@ -86,7 +93,8 @@ module _ (L : Layout) (u : Tree) where
         off = λ x n. b .off x (n .1) ∙ a .off x (n .0, tt);
       }
 
-  one-set : (k : Block) (P : Placed L k) (v : ℕ) (ws : List ℕ) → length ws ≡ L .size → ((a : ℕ) → L .Node u a → low ws a ≤ v) → LeavesSet L u ws (setValue (treeOf u k) (k .path) v ws) (k ∷ [])
+  one-set : (k : Block) (P : Placed L k) (v : ℕ) (ws : List ℕ) → length ws ≡ L .size → ((a : ℕ) → L .Node u a → low ws a ≤ v)
+      → LeavesSet L u ws (setValue (treeOf u k) (k .path) v ws) (k ∷ [])
   one-set k P v ws wl lo =
       record {
         only = leaf-set L u k P v ws;
@@ -99,10 +107,12 @@ module _ (L : Layout) (u : Tree) where
       off : (a : ℕ) → OffPaths u a (k ∷ []) → value (setValue (treeOf u k) (k .path) v ws) a ≡ value ws a
       off a n = off-path-stays (treeOf u k) (k .path) v ws a (n .0)
 
-  leaf-holds : (k : Block) (P : Placed L k) (v : ℕ) (ws : List ℕ) → length ws ≡ L .size → v < value ws (leafOf u k) → value (setValue (treeOf u k) (k .path) v ws) (leafOf u k) ≡ v
+  leaf-holds : (k : Block) (P : Placed L k) (v : ℕ) (ws : List ℕ) → length ws ≡ L .size → v < value ws (leafOf u k)
+      → value (setValue (treeOf u k) (k .path) v ws) (leafOf u k) ≡ v
   leaf-holds k P v ws wl h =
       subst (λ (z : List ℕ). value (setValue (treeOf u k) z v ws) (leafOf u k) ≡ v) (sym (P .path-is))
-      (leaf-is-set (treeOf u k) (k .leaf) (P .above) v ws (omega (arith, L .node-in u (leafOf u k) (leaf-node L u k P) .1)) (P .path u .leaf-once) h)
+      (leaf-is-set (treeOf u k) (k .leaf) (P .above) v ws (omega (arith, L .node-in u (leafOf u k) (leaf-node L u k P) .1))
+      (P .path u .leaf-once) h)
 
 -- a step for each block and its number
 unfoldable eachBlock : (Block → ℕ → List ℕ → List ℕ) → List Block → List ℕ → List ℕ → List ℕ
@@ -118,16 +128,21 @@ Leaves u R ws vs (k ∷ ks) (x ∷ xs) = R k x (passesSoFar ws (k .at)) (value w
 
 module _ (L : Layout) (u : Tree) (bound : ℕ) (step : Block → ℕ → List ℕ → List ℕ) (R : Block → ℕ → ℕ → ℕ → ℕ → Type 0)
     (one : (k : Block) (x : ℕ) (ws : List ℕ) → Placed L k → length ws ≡ L .size → ((a : ℕ) → L .Node u a → low ws a ≤ bound)
-    → LeavesSet L u ws (step k x ws) (k ∷ []) × R k x (passesSoFar ws (k .at)) (value ws (leafOf u k)) (value (step k x ws) (leafOf u k))) where
+    → LeavesSet L u ws (step k x ws) (k ∷ [])
+    × R k x (passesSoFar ws (k .at)) (value ws (leafOf u k)) (value (step k x ws) (leafOf u k))) where
   -- a block that was set before changes nothing of it
-  leaves-after : (ws vs us : List ℕ) (k : Block) (ks : List Block) (xs : List ℕ) → LeavesSet L u ws vs (k ∷ []) → SeparateFromAll k ks → AllPlaced L ks → Leaves u R vs us ks xs → Leaves u R ws us ks xs
+  leaves-after : (ws vs us : List ℕ) (k : Block) (ks : List Block) (xs : List ℕ) → LeavesSet L u ws vs (k ∷ [])
+      → SeparateFromAll k ks → AllPlaced L ks → Leaves u R vs us ks xs → Leaves u R ws us ks xs
   leaves-after ws vs us k [] xs s o f h = tt
   leaves-after ws vs us k (j ∷ js) [] s o f h = tt
   leaves-after ws vs us k (j ∷ js) (x ∷ xs) s o f h =
       let p = block-stays L ws vs (nodes-only L u ws vs (s .only)) (j .at) (f .0 .0 .block) .0 in
       let v = s .off (leafOf u j) (o .0 .1 .leaf u, tt) in
-      let after : ℕ = value us (leafOf u j) in
-      (subst (λ (z : ℕ). R j x (passesSoFar ws (j .at)) z after) v (subst (λ (z : ℕ). R j x z (value vs (leafOf u j)) after) p (h .0)), leaves-after ws vs us k js xs s (o .1) (f .1) (h .1))
+      let after : ℕ = value us (leafOf u j) in (
+        subst (λ (z : ℕ). R j x (passesSoFar ws (j .at)) z after) v
+            (subst (λ (z : ℕ). R j x z (value vs (leafOf u j)) after) p (h .0)),
+        leaves-after ws vs us k js xs s (o .1) (f .1) (h .1),
+      )
 
   each-set : (ks : List Block) (xs ws : List ℕ) → AllPlaced L ks → length ws ≡ L .size → ((a : ℕ) → L .Node u a → low ws a ≤ bound)
       → LeavesSet L u ws (eachBlock step ks xs ws) ks × Leaves u R ws (eachBlock step ks xs ws) ks xs
@@ -139,10 +154,14 @@ module _ (L : Layout) (u : Tree) (bound : ℕ) (step : Block → ℕ → List �
       let q = one k x ws P wl lo in
       let vs : List ℕ = step k x ws in
       let us : List ℕ = eachBlock step ks xs vs in
-      let r = each-set ks xs vs (f .1) (q .0 .only .long ∙ wl) (λ a n. le-trans (le-of-eq (low-stays L u ws vs (q .0 .only) u a n)) (lo a n)) in
+      let r = each-set ks xs vs (f .1) (q .0 .only .long ∙ wl)
+      (λ a n. le-trans (le-of-eq (low-stays L u ws vs (q .0 .only) u a n)) (lo a n)) in
       let last = r .0 .off (leafOf u k) (off-paths u k ks (f .0 .1)) in (
         set-then L u ws vs us k ks (q .0) (r .0),
-        (subst (R k x (passesSoFar ws (k .at)) (value ws (leafOf u k))) (sym last) (q .1), leaves-after ws vs us k ks xs (q .0) (f .0 .1) (f .1) (r .1)),
+        (
+          subst (R k x (passesSoFar ws (k .at)) (value ws (leafOf u k))) (sym last) (q .1),
+          leaves-after ws vs us k ks xs (q .0) (f .0 .1) (f .1) (r .1),
+        ),
       )
 
 -- ---- zero planes
@@ -160,12 +179,16 @@ planes-each [] ps ws = refl
 planes-each (k ∷ ks) [] ws = refl
 planes-each (k ∷ ks) (p ∷ ps) ws = planes-each ks ps (planesStep k p ws)
 
-pub planes-set : (L : Layout) (ks : List Block) (ps ws : List ℕ) → AllPlaced L ks → length ws ≡ L .size → ((a : ℕ) → L .Node zeroPlanes a → low ws a ≤ 0)
+pub planes-set : (L : Layout) (ks : List Block) (ps ws : List ℕ) → AllPlaced L ks → length ws ≡ L .size
+    → ((a : ℕ) → L .Node zeroPlanes a → low ws a ≤ 0)
     → LeavesSet L zeroPlanes ws (setZeroPlanes ks ps ws) ks × Leaves zeroPlanes PlanesSet ws (setZeroPlanes ks ps ws) ks ps
 planes-set L ks ps ws f wl lo =
     rw (planes-each ks ps ws)
     (each-set L zeroPlanes 0 planesStep PlanesSet
-    (λ k p vs P vl vo. (one-set L zeroPlanes k P (k .planes - p) vs vl (λ a n. le-trans (vo a n) (omega arith)), λ h. leaf-holds L zeroPlanes k P (k .planes - p) vs vl h))
+    (λ k p vs P vl vo. (
+      one-set L zeroPlanes k P (k .planes - p) vs vl (λ a n. le-trans (vo a n) (omega arith)),
+      λ h. leaf-holds L zeroPlanes k P (k .planes - p) vs vl h,
+    ))
     ks ps ws f wl lo)
 
 -- ---- blocks that are new in layer t
@@ -187,14 +210,19 @@ new-by-passes : (ws : List ℕ) (k : Block) → isNew ws k ≡ eqb (passesSoFar 
 unfolding isNew
 new-by-passes ws k = refl
 
-new-step : (L : Layout) (t : ℕ) (k : Block) (c : ℕ) (ws : List ℕ) → Placed L k → length ws ≡ L .size → ((a : ℕ) → L .Node inclusion a → low ws a ≤ t)
-    → LeavesSet L inclusion ws (layerStep t k c ws) (k ∷ []) × LayerSet t k c (passesSoFar ws (k .at)) (value ws (leafOf inclusion k)) (value (layerStep t k c ws) (leafOf inclusion k))
+new-step : (L : Layout) (t : ℕ) (k : Block) (c : ℕ) (ws : List ℕ) → Placed L k → length ws ≡ L .size
+    → ((a : ℕ) → L .Node inclusion a → low ws a ≤ t)
+    → LeavesSet L inclusion ws (layerStep t k c ws) (k ∷ [])
+    × LayerSet t k c (passesSoFar ws (k .at)) (value ws (leafOf inclusion k)) (value (layerStep t k c ws) (leafOf inclusion k))
 new-step L t k c ws P wl lo = go (isNew ws k) refl (ltb 0 c) refl
   where
     go : (n : Bool) → isNew ws k ≡ n → (b : Bool) → ltb 0 c ≡ b
         → LeavesSet L inclusion ws (cond (n && b) (setValue (k .inclTree) (k .path) t ws) ws) (k ∷ [])
-        × ((passesSoFar ws (k .at) ≡ 0 → t < value ws (leafOf inclusion k) → ltb (value (cond (n && b) (setValue (k .inclTree) (k .path) t ws) ws) (leafOf inclusion k)) (t + 1) ≡ b)
-        × (passesSoFar ws (k .at) ≡ 0 → c ≡ 0 → value (cond (n && b) (setValue (k .inclTree) (k .path) t ws) ws) (leafOf inclusion k) ≡ value ws (leafOf inclusion k)))
+        ×
+        ((passesSoFar ws (k .at) ≡ 0 → t < value ws (leafOf inclusion k)
+        → ltb (value (cond (n && b) (setValue (k .inclTree) (k .path) t ws) ws) (leafOf inclusion k)) (t + 1) ≡ b)
+        × (passesSoFar ws (k .at) ≡ 0 → c ≡ 0
+        → value (cond (n && b) (setValue (k .inclTree) (k .path) t ws) ws) (leafOf inclusion k) ≡ value ws (leafOf inclusion k)))
     go true e true f = (
       one-set L inclusion k P t ws wl lo,
       (
@@ -208,6 +236,8 @@ new-step L t k c ws P wl lo = go (isNew ws k) refl (ltb 0 c) refl
       ((λ z h. absurd (true≢false (sym (new-by-passes ws k ∙ eq-eqb (passesSoFar ws (k .at)) 0 z) ∙ e))), (λ z y. refl)),
     )
 
-pub new-blocks-set : (L : Layout) (t : ℕ) (ks : List Block) (cs ws : List ℕ) → AllPlaced L ks → length ws ≡ L .size → ((a : ℕ) → L .Node inclusion a → low ws a ≤ t)
+pub new-blocks-set : (L : Layout) (t : ℕ) (ks : List Block) (cs ws : List ℕ) → AllPlaced L ks → length ws ≡ L .size
+    → ((a : ℕ) → L .Node inclusion a → low ws a ≤ t)
     → LeavesSet L inclusion ws (setNewBlocks t ks cs ws) ks × Leaves inclusion (LayerSet t) ws (setNewBlocks t ks cs ws) ks cs
-new-blocks-set L t ks cs ws f wl lo = rw (new-each t ks cs ws) (each-set L inclusion t (layerStep t) (LayerSet t) (new-step L t) ks cs ws f wl lo)
+new-blocks-set L t ks cs ws f wl lo =
+    rw (new-each t ks cs ws) (each-set L inclusion t (layerStep t) (LayerSet t) (new-step L t) ks cs ws f wl lo)

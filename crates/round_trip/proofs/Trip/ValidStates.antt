@@ -12,7 +12,8 @@ use borrow.Author.Tests.{eq-eqb, ne-eqb, le-leb}
 use Rattle.t800.specs.declared.Band.{Band}
 use Rattle.t800.specs.Base.{every}
 use Rattle.t800.specs.TagTree.{value, low, known}
-use Rattle.t800.specs.State.{notYetIncluded, notYetPlanes, bandNodes, blocksIn, bandLength, stateLength, endOf, writer, reader, role, style, layer, passesSoFar, lengthBits}
+use Rattle.t800.specs.State.{notYetIncluded, notYetPlanes, bandNodes, blocksIn, bandLength, stateLength, endOf, writer, reader}
+use Rattle.t800.specs.State.{role, style, layer, passesSoFar, lengthBits}
 use Rattle.t800.specs.Ranges.{badShape, badStyle, bandTooDeep, nodeInRange, blockInRange, bandInRange, bandsInRange, validState}
 use Rattle.t800.proofs.Laws.Tests.{on-eq, if-true, if-false}
 use Rattle.t800.proofs.Laws.Layout.{Tree, inclusion, zeroPlanes, notYet, NodeFrom, BlockFrom, layoutOf}
@@ -38,7 +39,8 @@ low-bound-in : (t : ℕ) (u : Tree) → t ≤ notYetIncluded → lowBound t u �
 low-bound-in t inclusion h = h
 low-bound-in t zeroPlanes h = le-refl notYetPlanes
 
-writer-node : (ws : List ℕ) (t : ℕ) (u : Tree) (a : ℕ) → t ≤ notYetIncluded → NodeRange (notYet u) (lowBound t u) (nodeAt ws a) → nodeInRange ws (notYet u) a ≡ true
+writer-node : (ws : List ℕ) (t : ℕ) (u : Tree) (a : ℕ) → t ≤ notYetIncluded → NodeRange (notYet u) (lowBound t u) (nodeAt ws a)
+    → nodeInRange ws (notYet u) a ≡ true
 writer-node ws t u a ht r = node-valid ws (notYet u) a (r .value-in) (le-trans (r .low-in) (low-bound-in t u ht)) (r .known-in)
 
 reader-node : (ws rs : List ℕ) (mark a : ℕ) → Sync mark (nodeAt ws a) (nodeAt rs a) → nodeInRange rs mark a ≡ true
@@ -55,9 +57,18 @@ writer-block : (ws : List ℕ) (t p : ℕ) → role ws ≡ 1 → layer ws ≡ t 
 unfolding blockInRange writer
 writer-block ws t p r l b =
     let n : ℕ = passesSoFar ws p in
-    rw (r, l, le-leb n (164 * t) (b .most), bits-valid n (lengthBits ws p) (b .no-bits) (b .some-bits) (b .most-bits), or-true (eqb n 0), b .no-limit, b .no-passes)
+    rw (
+      r,
+      l,
+      le-leb n (164 * t) (b .most),
+      bits-valid n (lengthBits ws p) (b .no-bits) (b .some-bits) (b .most-bits),
+      or-true (eqb n 0),
+      b .no-limit,
+      b .no-passes,
+    )
 
-reader-block : (ws rs : List ℕ) (s t p : ℕ) → role rs ≡ 2 → layer rs ≡ t → style rs ≡ s → WriterBlock t ws p → BlockInStep s ws rs p → blockInRange rs p ≡ true
+reader-block : (ws rs : List ℕ) (s t p : ℕ) → role rs ≡ 2 → layer rs ≡ t → style rs ≡ s → WriterBlock t ws p → BlockInStep s ws rs p
+    → blockInRange rs p ≡ true
 unfolding blockInRange writer
 reader-block ws rs s t p r l st w b =
     let n : ℕ = passesSoFar ws p in
@@ -74,11 +85,19 @@ reader-block ws rs s t p r l st w b =
     )
     (on-eq n 0
     (λ h. rw (eq-eqb n 0 h, none-after-0 s n h .0, none-after-0 s n h .1))
-    (λ h. let q = passes-in-range s n (omega arith) in rw (ne-eqb n 0 h, limit-in-range s n (omega arith), le-leb 1 (passesAfter s n) (q .0), le-leb (passesAfter s n) (limitAfter s n) (q .1))))
+    (λ h. let q = passes-in-range s n (omega arith) in
+    rw (
+      ne-eqb n 0 h,
+      limit-in-range s n (omega arith),
+      le-leb 1 (passesAfter s n) (q .0),
+      le-leb (passesAfter s n) (limitAfter s n) (q .1),
+    )))
 
 -- ---- all bands
 
-bands-valid : (ws : List ℕ) (at : ℕ) (bs : List Band) → ((u : Tree) (a : ℕ) → NodeFrom u at bs a → nodeInRange ws (notYet u) a ≡ true) → ((p : ℕ) → BlockFrom at bs p → blockInRange ws p ≡ true)
+bands-valid : (ws : List ℕ) (at : ℕ) (bs : List Band)
+    → ((u : Tree) (a : ℕ) → NodeFrom u at bs a → nodeInRange ws (notYet u) a ≡ true)
+    → ((p : ℕ) → BlockFrom at bs p → blockInRange ws p ≡ true)
     → bandsInRange ws at bs ≡ true
 unfolding bandsInRange bandInRange
 bands-valid ws at [] f g = refl
@@ -99,7 +118,8 @@ pub record Startable (bs : List Band) (s : ℕ) : Type 0 where
   pub style-in : badStyle s ≡ false
   pub planes-in : bandTooDeep bs ≡ false
 
-state-valid : (r : ℕ) (bs : List Band) (s t : ℕ) (ws : List ℕ) (n : ℕ) → FirstWords r bs s t ws → Startable bs s → t ≤ notYetIncluded → length ws ≡ endOf 13 bs → n ≡ length ws → bandsInRange ws 13 bs ≡ true
+state-valid : (r : ℕ) (bs : List Band) (s t : ℕ) (ws : List ℕ) (n : ℕ) → FirstWords r bs s t ws → Startable bs s
+    → t ≤ notYetIncluded → length ws ≡ endOf 13 bs → n ≡ length ws → bandsInRange ws 13 bs ≡ true
     → validState r ws n ≡ true
 unfolding validState stateLength
 state-valid r bs s t ws n h a ht l m g =
@@ -120,14 +140,19 @@ state-valid r bs s t ws n h a ht l m g =
       g,
     )
 
-pub writer-valid : (bs : List Band) (s t : ℕ) (ws : List ℕ) (n : ℕ) → FirstWords 1 bs s t ws → Startable bs s → t ≤ notYetIncluded → WriterState (layoutOf bs) t ws → n ≡ length ws → validState writer ws n ≡ true
+pub writer-valid : (bs : List Band) (s t : ℕ) (ws : List ℕ) (n : ℕ) → FirstWords 1 bs s t ws → Startable bs s → t ≤ notYetIncluded
+    → WriterState (layoutOf bs) t ws → n ≡ length ws → validState writer ws n ≡ true
 unfolding writer
 writer-valid bs s t ws n h a ht y e =
-    state-valid 1 bs s t ws n h a ht (y .long) e (bands-valid ws 13 bs (λ u b m. writer-node ws t u b ht (y .nodes u b m)) (λ p b. writer-block ws t p (h .role-is) (h .layer-is) (y .blocks p b)))
+    state-valid 1 bs s t ws n h a ht (y .long) e
+    (bands-valid ws 13 bs (λ u b m. writer-node ws t u b ht (y .nodes u b m))
+    (λ p b. writer-block ws t p (h .role-is) (h .layer-is) (y .blocks p b)))
 
-pub reader-valid : (bs : List Band) (s t : ℕ) (ws rs : List ℕ) (n : ℕ) → FirstWords 2 bs s t rs → Startable bs s → t ≤ notYetIncluded → WriterState (layoutOf bs) t ws → InStep (layoutOf bs) s ws rs → n ≡ length rs
+pub reader-valid : (bs : List Band) (s t : ℕ) (ws rs : List ℕ) (n : ℕ) → FirstWords 2 bs s t rs → Startable bs s
+    → t ≤ notYetIncluded → WriterState (layoutOf bs) t ws → InStep (layoutOf bs) s ws rs → n ≡ length rs
     → validState reader rs n ≡ true
 unfolding reader
 reader-valid bs s t ws rs n h a ht w y e =
     state-valid 2 bs s t rs n h a ht (y .reader-length) e
-    (bands-valid rs 13 bs (λ u b m. reader-node ws rs (notYet u) b (y .sync u b m)) (λ p b. reader-block ws rs s t p (h .role-is) (h .layer-is) (h .style-is) (w .blocks p b) (y .blocks p b)))
+    (bands-valid rs 13 bs (λ u b m. reader-node ws rs (notYet u) b (y .sync u b m))
+    (λ p b. reader-block ws rs s t p (h .role-is) (h .layer-is) (h .style-is) (w .blocks p b) (y .blocks p b)))

@@ -1,4 +1,5 @@
--- A writer's state stays in the ranges of refusal 5: after an accepted start and any list of calls, whatever the marks, so that no later call is
+-- A writer's state stays in the ranges of refusal 5: after an accepted start and any list of calls, whatever the marks, so that no
+-- later call is
 -- refused with 5.
 use mathlib.Core.Path.{_≡_, refl, sym, ap, _∙_, subst}
 use mathlib.Core.Logic.{_≢_}
@@ -38,7 +39,12 @@ writer-after-start n given s planes lent e =
     let bs : List Band = take n given in
     let w = start-accepted writer n given s planes lent e in
     subst (WriterInvariant bs s 0) (sym (w .state))
-    (record { startable = startable writer n given s planes lent w; state = started-writer bs s planes; first-words = started-first-words bs s planes (few-bands n given (w .shape)); layers = omega arith })
+    (record {
+      startable = startable writer n given s planes lent w;
+      state = started-writer bs s planes;
+      first-words = started-first-words bs s planes (few-bands n given (w .shape));
+      layers = omega arith;
+    })
 
 -- ---- an accepted call
 
@@ -88,20 +94,23 @@ module _ (bs : List Band) (s t : ℕ) (ws : List ℕ) (w : WriteCall) (y : Write
       (record {
         startable = y .startable;
         state = layer-word L (t + 1) (t + 1) vs W;
-        first-words = next-layer 1 bs s t (t + 1) ws vs l (λ j h. coded .first j h ∙ first-stays L ws us (nodes-only L inclusion ws us o) j h) (y .first-words);
+        first-words = next-layer 1 bs s t (t + 1) ws vs l
+            (λ j h. coded .first j h ∙ first-stays L ws us (nodes-only L inclusion ws us o) j h) (y .first-words);
         layers = omega (arith, layer-left);
       })
 
 -- ---- any list of calls
 
-after-call : (bs : List Band) (s t : ℕ) (ws : List ℕ) (c : WriteCall) → WriterInvariant bs s t ws → (u : ℕ) × WriterInvariant bs s u (writeOf ws c .state)
+after-call : (bs : List Band) (s t : ℕ) (ws : List ℕ) (c : WriteCall) → WriterInvariant bs s t ws → (u : ℕ)
+    × WriterInvariant bs s u (writeOf ws c .state)
 after-call bs s t ws c y = go (accepted ws c) refl
   where
     go : (b : Bool) → accepted ws c ≡ b → (u : ℕ) × WriterInvariant bs s u (writeOf ws c .state)
     go true a = (t + 1, writer-after bs s t ws c y a)
     go false a = (t, subst (WriterInvariant bs s t) (sym (refused-keeps ws c a)) y)
 
-after-calls : (bs : List Band) (s t : ℕ) (ws : List ℕ) (cs : List WriterCall) → WriterInvariant bs s t ws → (u : ℕ) × WriterInvariant bs s u (stateAfter ws cs)
+after-calls : (bs : List Band) (s t : ℕ) (ws : List ℕ) (cs : List WriterCall) → WriterInvariant bs s t ws → (u : ℕ)
+    × WriterInvariant bs s u (stateAfter ws cs)
 unfolding stateAfter
 after-calls bs s t ws [] y = (t, y)
 after-calls bs s t ws (measuring c ∷ cs) y = after-calls bs s t ws cs y
@@ -117,4 +126,5 @@ writer-in-range n given style planes lent e ws =
     let bs : List Band = take n given in
     let y = after-calls bs style 0 (start writer n given style planes lent .state) ws (writer-after-start n given style planes lent e) in
     let l : length lent ≡ endOf 13 bs = start-accepted writer n given style planes lent e .lent-length ∙ length-is bs in
-    writer-valid bs style (y .0) _ (length lent) (y .1 .first-words) (y .1 .startable) (y .1 .layers) (y .1 .state) (l ∙ sym (y .1 .state .long))
+    writer-valid bs style (y .0) _ (length lent) (y .1 .first-words) (y .1 .startable) (y .1 .layers) (y .1 .state)
+    (l ∙ sym (y .1 .state .long))

@@ -14,15 +14,19 @@ use Rattle.t800.specs.Base.{any, sum}
 use Rattle.t800.specs.TagTree.{Coded, codePath}
 use Rattle.t800.specs.Segments.{Segment, segmentsFrom, segmentsOf, width, increment}
 use Rattle.t800.specs.State.{Block, notYetPlanes, passesSoFar, lengthBits, segmentLimit, segmentPasses}
-use Rattle.t800.specs.WriteHeader.{Contribution, isNew, lengthBitsBefore, setNewBlocks, codeInclusion, codeZeroPlanes, codePasses, codeBlock, codeBlocks, fieldTooWide}
+use Rattle.t800.specs.WriteHeader.{Contribution, isNew, lengthBitsBefore, setNewBlocks, codeInclusion, codeZeroPlanes, codePasses}
+use Rattle.t800.specs.WriteHeader.{codeBlock, codeBlocks, fieldTooWide}
 use Rattle.t800.proofs.Laws.Tests.{on-eq, if-eq, if-ne, either, or-left, or-right}
 use Rattle.t800.proofs.Laws.Paths.{All, ApartFromAll}
-use Rattle.t800.proofs.Laws.Layout.{Tree, inclusion, zeroPlanes, notYet, treeOf, Layout, Placed, SeparateFromAll, AllPlaced, on-tree, rootToLeaf, from-root-nodes}
+use Rattle.t800.proofs.Laws.Layout.{Tree, inclusion, zeroPlanes, notYet, treeOf, Layout, Placed, SeparateFromAll, AllPlaced}
+use Rattle.t800.proofs.Laws.Layout.{on-tree, rootToLeaf, from-root-nodes}
 use Rattle.round_trip.proofs.Trip.Nodes.{Node, lowOut, nodeAfter, nodesAfter}
 use Rattle.round_trip.proofs.Trip.NodeWords.{nodeAt, nodesAt}
 use Rattle.round_trip.proofs.Trip.Trees.{NodesOnly, all-apart, path-coded, coding-keeps}
 use Rattle.round_trip.proofs.Trip.Segments.{tooWide, field-fits}
-use Rattle.round_trip.proofs.Trip.Changes.{SameBlock, block-stays, BlockOnly, node-stays, other-block-stays, stored, stored-passes, stored-bits, stored-others, stored-length, ValuesOnly, nodes-only, low-stays, known-stays, BlockCoded, block-coded, paths-keep}
+use Rattle.round_trip.proofs.Trip.Changes.{SameBlock, block-stays, BlockOnly, node-stays, other-block-stays, stored}
+use Rattle.round_trip.proofs.Trip.Changes.{stored-passes, stored-bits, stored-others, stored-length, ValuesOnly, nodes-only}
+use Rattle.round_trip.proofs.Trip.Changes.{low-stays, known-stays, BlockCoded, block-coded, paths-keep}
 use Rattle.round_trip.proofs.Trip.SetLeaves.{new-blocks-set}
 
 -- ---- the ranges
@@ -70,7 +74,8 @@ later : (L : Layout) (t : ℕ) (ws : List ℕ) → WriterState L t ws → Writer
 later L t ws y =
     record {
       long = y .long;
-      nodes = λ u a n. let r = y .nodes u a n in record { value-in = r .value-in; low-in = le-trans (r .low-in) (low-bound-up t u); known-in = r .known-in };
+      nodes = λ u a n. let r = y .nodes u a n in
+          record { value-in = r .value-in; low-in = le-trans (r .low-in) (low-bound-up t u); known-in = r .known-in };
       blocks = λ p b. let z = y .blocks p b in record {
         most = omega (arith, z .most);
         no-bits = z .no-bits;
@@ -110,19 +115,22 @@ node-after-range mark bound t l n hl ht r =
       known-in = either (λ (k : ℕ). k ≤ 1) (ltb (lowOut t l n) t) 1 (n .known) (omega arith) (r .known-in);
     }
 
-nodes-after-range : (mark bound t l : ℕ) (ns : List Node) → l ≤ bound → t ≤ bound → NodeRanges mark bound ns → NodeRanges mark bound (nodesAfter t l ns)
+nodes-after-range : (mark bound t l : ℕ) (ns : List Node) → l ≤ bound → t ≤ bound → NodeRanges mark bound ns
+    → NodeRanges mark bound (nodesAfter t l ns)
 unfolding nodesAfter
 nodes-after-range mark bound t l [] hl ht r = tt
 nodes-after-range mark bound t l (n ∷ ns) hl ht r =
     let o : lowOut t l n ≤ bound = max-le (max-le hl (r .0 .low-in)) (le-trans (min-le-right (n .value) t) ht) in
     (node-after-range mark bound t l n hl ht (r .0), nodes-after-range mark bound t (lowOut t l n) ns o ht (r .1))
 
-path-ranges : (L : Layout) (t : ℕ) (u : Tree) (ws xs : List ℕ) → All (L .Node u) xs → WriterState L t ws → NodeRanges (notYet u) (lowBound t u) (nodesAt ws xs)
+path-ranges : (L : Layout) (t : ℕ) (u : Tree) (ws xs : List ℕ) → All (L .Node u) xs → WriterState L t ws
+    → NodeRanges (notYet u) (lowBound t u) (nodesAt ws xs)
 path-ranges L t u ws [] h y = tt
 path-ranges L t u ws (a ∷ xs) h y = (y .nodes u a (h .0), path-ranges L t u ws xs (h .1) y)
 
 -- a node of the tree is on the path or apart from it
-on-or-apart : (L : Layout) (u : Tree) (mark bound a : ℕ) (vs xs : List ℕ) → L .Node u a → All (L .Node u) xs → NodeRanges mark bound (nodesAt vs xs)
+on-or-apart : (L : Layout) (u : Tree) (mark bound a : ℕ) (vs xs : List ℕ) → L .Node u a → All (L .Node u) xs
+    → NodeRanges mark bound (nodesAt vs xs)
     → (ApartFromAll a xs → NodeRange mark bound (nodeAt vs a)) → NodeRange mark bound (nodeAt vs a)
 on-or-apart L u mark bound a vs [] n h r f = f tt
 on-or-apart L u mark bound a vs (b ∷ xs) n h r f =
@@ -139,13 +147,22 @@ module _ (L : Layout) (u : Tree) (k : Block) (P : Placed L k) where
       let xs : List ℕ = rootToLeaf u k in
       let ns = from-root-nodes L u k P in
       let c = path-coded L u k P t ws (y .long) in
-      let after : NodeRanges (notYet u) (lowBound m u) (nodesAt vs xs) = subst (NodeRanges (notYet u) (lowBound m u)) (sym (c .words .nodes)) (nodes-after-range (notYet u) (lowBound m u) t 0 (nodesAt ws xs) zero-le ht (path-ranges L m u ws xs ns y)) in
+      let after : NodeRanges (notYet u) (lowBound m u) (nodesAt vs xs) =
+      subst (NodeRanges (notYet u) (lowBound m u)) (sym (c .words .nodes))
+      (nodes-after-range (notYet u) (lowBound m u) t 0 (nodesAt ws xs) zero-le ht (path-ranges L m u ws xs ns y)) in
       let node-in : (x : Tree) (a : ℕ) → L .Node x a → NodeRange (notYet x) (lowBound m x) (nodeAt vs a)
-      = λ x a n. let apart : ApartFromAll a xs → NodeRange (notYet x) (lowBound m x) (nodeAt vs a) = λ f. subst (NodeRange (notYet x) (lowBound m x)) (sym (c .words .off a f)) (y .nodes x a n) in
+      = λ x a n. let apart : ApartFromAll a xs
+      → NodeRange (notYet x) (lowBound m x) (nodeAt vs a) =
+      λ f. subst (NodeRange (notYet x) (lowBound m x)) (sym (c .words .off a f)) (y .nodes x a n) in
       on-tree L x u
-      (λ e. on-or-apart L x (notYet x) (lowBound m x) a vs xs n (subst (λ (w : Tree). All (L .Node w) xs) (sym e) ns) (subst (λ (w : Tree). NodeRanges (notYet w) (lowBound m w) (nodesAt vs xs)) (sym e) after) apart)
+      (λ e. on-or-apart L x (notYet x) (lowBound m x) a vs xs n (subst (λ (w : Tree). All (L .Node w) xs) (sym e) ns)
+      (subst (λ (w : Tree). NodeRanges (notYet w) (lowBound m w) (nodesAt vs xs)) (sym e) after) apart)
       (λ f. apart (all-apart L x u a xs n ns f)) in
-      record { long = o .long ∙ y .long; nodes = node-in; blocks = λ p b. same-block m ws vs p (block-stays L ws vs (o .off) p b) (y .blocks p b) }
+      record {
+        long = o .long ∙ y .long;
+        nodes = node-in;
+        blocks = λ p b. same-block m ws vs p (block-stays L ws vs (o .off) p b) (y .blocks p b);
+      }
 
 -- ---- a block is coded
 
@@ -158,13 +175,21 @@ pub record Codable (t : ℕ) (ws : List ℕ) (k : Block) (c : ℕ) (ls ms : List
   pub fits : tooWide (lengthBitsBefore ws k + increment (lengthBitsBefore ws k) (segmentsOf ls ms)) (segmentsOf ls ms) ≡ false
 
 -- passes and length bits decide it
-pub same-bits-before : (ws vs : List ℕ) (k : Block) → passesSoFar vs (k .at) ≡ passesSoFar ws (k .at) → lengthBits vs (k .at) ≡ lengthBits ws (k .at) → lengthBitsBefore vs k ≡ lengthBitsBefore ws k
+pub same-bits-before : (ws vs : List ℕ) (k : Block) → passesSoFar vs (k .at) ≡ passesSoFar ws (k .at) → lengthBits vs (k .at)
+    ≡ lengthBits ws (k .at) → lengthBitsBefore vs k ≡ lengthBitsBefore ws k
 unfolding lengthBitsBefore isNew
 same-bits-before ws vs k p l = ap₂ (λ (x y : ℕ). cond (eqb x 0) 3 y) p l
 
-pub same-codable : (t : ℕ) (ws vs : List ℕ) (k : Block) (c : ℕ) (ls ms : List ℕ) → SameBlock ws vs (k .at) → Codable t ws k c ls ms → Codable t vs k c ls ms
+pub same-codable : (t : ℕ) (ws vs : List ℕ) (k : Block) (c : ℕ) (ls ms : List ℕ) → SameBlock ws vs (k .at) → Codable t ws k c ls ms
+    → Codable t vs k c ls ms
 same-codable t ws vs k c ls ms s d =
-    record { few = d .few; most = rw (s .0) (d .most); lengths = d .lengths; marks = d .marks; fits = rw (same-bits-before ws vs k (s .0) (s .1)) (d .fits) }
+    record {
+      few = d .few;
+      most = rw (s .0) (d .most);
+      lengths = d .lengths;
+      marks = d .marks;
+      fits = rw (same-bits-before ws vs k (s .0) (s .1)) (d .fits);
+    }
 
 three-bits-before : (ws : List ℕ) (k : Block) (t : ℕ) → WriterBlock t ws (k .at) → 3 ≤ lengthBitsBefore ws k
 unfolding lengthBitsBefore isNew
@@ -177,13 +202,16 @@ three-bits-before ws k t b =
 abbrev pub SomeSegment : List Segment → Type 0
 SomeSegment gs = (g : Segment) × (more : List Segment) × (gs ≡ g ∷ more)
 
-some-from : (n bytes l : ℕ) (ls : List ℕ) (m : ℕ) (ms : List ℕ) → length ls ≡ length ms → SomeSegment (segmentsFrom n bytes (l ∷ ls) (m ∷ ms))
+some-from : (n bytes l : ℕ) (ls : List ℕ) (m : ℕ) (ms : List ℕ) → length ls ≡ length ms
+    → SomeSegment (segmentsFrom n bytes (l ∷ ls) (m ∷ ms))
 unfolding segmentsFrom
 some-from n bytes l [] m [] e = (record { passes = n + 1; bytes = bytes + l }, [], rw (or-true (not (eqb m 0))))
 some-from n bytes l [] m (y ∷ ms) e = absurd (omega arith)
 some-from n bytes l (x ∷ ls) m [] e = absurd (omega arith)
 some-from n bytes l (x ∷ ls) m (y ∷ ms) e =
-    either SomeSegment (not (eqb m 0) || _) _ _ (record { passes = n + 1; bytes = bytes + l }, segmentsFrom 0 0 (x ∷ ls) (y ∷ ms), refl) (some-from (n + 1) (bytes + l) x ls y ms (omega arith))
+    either SomeSegment (not (eqb m 0) || _) _ _
+    (record { passes = n + 1; bytes = bytes + l }, segmentsFrom 0 0 (x ∷ ls) (y ∷ ms), refl)
+    (some-from (n + 1) (bytes + l) x ls y ms (omega arith))
 
 pub some-segment : (ls ms : List ℕ) → length ls ≡ length ms → 0 < length ls → SomeSegment (segmentsOf ls ms)
 unfolding segmentsOf
@@ -200,7 +228,8 @@ module _ (L : Layout) (k : Block) (P : Placed L k) (t c : ℕ) (ls ms : List ℕ
   abbrev segments : List Segment
   segments = segmentsOf ls ms
 
-  passes-in-range : (ws : List ℕ) → 0 < c → WriterState L (t + 1) ws → Codable t ws k c ls ms → WriterState L (t + 1) (codePasses k c segments ws .words)
+  passes-in-range : (ws : List ℕ) → 0 < c → WriterState L (t + 1) ws → Codable t ws k c ls ms
+      → WriterState L (t + 1) (codePasses k c segments ws .words)
   unfolding codePasses
   passes-in-range ws c0 y d =
       let at : ℕ = k .at in
@@ -228,18 +257,24 @@ module _ (L : Layout) (k : Block) (P : Placed L k) (t c : ℕ) (ls ms : List ℕ
       record {
         long = stored-length ws at n l h ∙ y .long;
         nodes = λ u a m. subst (NodeRange (notYet u) (lowBound (t + 1) u)) (sym (node-stays L ws vs at B only u a m)) (y .nodes u a m);
-        blocks = λ q Q. on-eq q at (λ e. rw e here) (λ e. same-block (t + 1) ws vs q (other-block-stays L ws vs at B only q Q e) (y .blocks q Q));
+        blocks = λ q Q. on-eq q at (λ e. rw e here)
+            (λ e. same-block (t + 1) ws vs q (other-block-stays L ws vs at B only q Q e) (y .blocks q Q));
       }
 
   inclusion-in-range : (ws : List ℕ) → WriterState L (t + 1) ws → WriterState L (t + 1) (codeInclusion t k c ws .words)
   unfolding codeInclusion
-  inclusion-in-range ws y = either (λ (x : Coded). WriterState L (t + 1) (x .words)) (isNew ws k) _ _ (path-in-range L inclusion k P (t + 1) (t + 1) ws (omega arith) y) y
+  inclusion-in-range ws y =
+      either (λ (x : Coded). WriterState L (t + 1) (x .words)) (isNew ws k) _ _
+      (path-in-range L inclusion k P (t + 1) (t + 1) ws (omega arith) y) y
 
   planes-in-range : (ws : List ℕ) → WriterState L (t + 1) ws → WriterState L (t + 1) (codeZeroPlanes k ws .words)
   unfolding codeZeroPlanes
-  planes-in-range ws y = either (λ (x : Coded). WriterState L (t + 1) (x .words)) (isNew ws k) _ _ (path-in-range L zeroPlanes k P (t + 1) notYetPlanes ws (le-refl notYetPlanes) y) y
+  planes-in-range ws y =
+      either (λ (x : Coded). WriterState L (t + 1) (x .words)) (isNew ws k) _ _
+      (path-in-range L zeroPlanes k P (t + 1) notYetPlanes ws (le-refl notYetPlanes) y) y
 
-  block-in-range : (ws : List ℕ) → WriterState L (t + 1) ws → Codable t ws k c ls ms → WriterState L (t + 1) (codeBlock t k c segments ws .words)
+  block-in-range : (ws : List ℕ) → WriterState L (t + 1) ws → Codable t ws k c ls ms
+      → WriterState L (t + 1) (codeBlock t k c segments ws .words)
   unfolding codeBlock
   block-in-range ws y d =
       let ws₁ : List ℕ = codeInclusion t k c ws .words in
@@ -259,14 +294,18 @@ AllCodable t ws [] cs ls ms = Unit {0}
 AllCodable t ws (k ∷ ks) [] ls ms = Unit {0}
 AllCodable t ws (k ∷ ks) (c ∷ cs) ls ms = Codable t ws k c (take c ls) (take c ms) × AllCodable t ws ks cs (drop c ls) (drop c ms)
 
-pub still-codable : (L : Layout) (t : ℕ) (ws vs : List ℕ) (k : Block) (c : ℕ) (ks : List Block) (cs ls ms : List ℕ) → BlockCoded L ws vs k c → SeparateFromAll k ks → AllPlaced L ks
+pub still-codable : (L : Layout) (t : ℕ) (ws vs : List ℕ) (k : Block) (c : ℕ) (ks : List Block) (cs ls ms : List ℕ)
+    → BlockCoded L ws vs k c → SeparateFromAll k ks → AllPlaced L ks
     → AllCodable t ws ks cs ls ms → AllCodable t vs ks cs ls ms
 still-codable L t ws vs k c [] cs ls ms b o f d = tt
 still-codable L t ws vs k c (j ∷ js) [] ls ms b o f d = tt
-still-codable L t ws vs k c (j ∷ js) (e ∷ cs) ls ms b o f d =
-    (same-codable t ws vs j e (take e ls) (take e ms) (b .others (j .at) (f .0 .0 .block) (o .0 .1 .places)) (d .0), still-codable L t ws vs k c js cs (drop e ls) (drop e ms) b (o .1) (f .1) (d .1))
+still-codable L t ws vs k c (j ∷ js) (e ∷ cs) ls ms b o f d = (
+  same-codable t ws vs j e (take e ls) (take e ms) (b .others (j .at) (f .0 .0 .block) (o .0 .1 .places)) (d .0),
+  still-codable L t ws vs k c js cs (drop e ls) (drop e ms) b (o .1) (f .1) (d .1),
+)
 
-blocks-in-range : (L : Layout) (t : ℕ) (ks : List Block) (cs ls ms ws : List ℕ) → AllPlaced L ks → WriterState L (t + 1) ws → AllCodable t ws ks cs ls ms → WriterState L (t + 1) (codeBlocks t ks cs ls ms ws .words)
+blocks-in-range : (L : Layout) (t : ℕ) (ks : List Block) (cs ls ms ws : List ℕ) → AllPlaced L ks → WriterState L (t + 1) ws
+    → AllCodable t ws ks cs ls ms → WriterState L (t + 1) (codeBlocks t ks cs ls ms ws .words)
 unfolding codeBlocks
 blocks-in-range L t [] cs ls ms ws f y d = y
 blocks-in-range L t (k ∷ ks) [] ls ms ws f y d = y
@@ -293,7 +332,8 @@ pub record CodablePart (t : ℕ) (ws vs : List ℕ) (k : Block) (c : ℕ) (cs ls
   pub lengths : length (drop c ls) ≡ sum cs
   pub marks : length (drop c ms) ≡ sum cs
 
-pub codable-part : (t : ℕ) (ws vs : List ℕ) (k : Block) (ks : List Block) (c : ℕ) (cs ls ms : List ℕ) → SameBlock ws vs (k .at) → passesSoFar ws (k .at) ≤ 164 * t → length ls ≡ c + sum cs → length ms ≡ c + sum cs
+pub codable-part : (t : ℕ) (ws vs : List ℕ) (k : Block) (ks : List Block) (c : ℕ) (cs ls ms : List ℕ) → SameBlock ws vs (k .at)
+    → passesSoFar ws (k .at) ≤ 164 * t → length ls ≡ c + sum cs → length ms ≡ c + sum cs
     → ltb 164 c ≡ false → fieldTooWide ws (k ∷ ks) (c ∷ cs) ls ms ≡ false → CodablePart t ws vs k c cs ls ms
 unfolding fieldTooWide
 codable-part t ws vs k ks c cs ls ms s most ll lm few fits =
@@ -311,30 +351,39 @@ codable-part t ws vs k ks c cs ls ms s most ll lm few fits =
       marks = length-drop c ms ∙ omega arith;
     }
 
-pub later-fits : (ws : List ℕ) (k : Block) (ks : List Block) (c : ℕ) (cs ls ms : List ℕ) → fieldTooWide ws (k ∷ ks) (c ∷ cs) ls ms ≡ false → fieldTooWide ws ks cs (drop c ls) (drop c ms) ≡ false
+pub later-fits : (ws : List ℕ) (k : Block) (ks : List Block) (c : ℕ) (cs ls ms : List ℕ) → fieldTooWide ws (k ∷ ks) (c ∷ cs) ls ms
+    ≡ false → fieldTooWide ws ks cs (drop c ls) (drop c ms) ≡ false
 unfolding fieldTooWide
 later-fits ws k ks c cs ls ms h = or-right (any _ (segmentsOf (take c ls) (take c ms))) (fieldTooWide ws ks cs (drop c ls) (drop c ms)) h
 
-pub all-codable : (L : Layout) (t : ℕ) (ws vs : List ℕ) (ks : List Block) (cs ls ms : List ℕ) → AllPlaced L ks → NodesOnly L ws vs → ((p : ℕ) → L .BlockAt p → passesSoFar ws p ≤ 164 * t)
-    → length ls ≡ sum cs → length ms ≡ sum cs → any (λ (c : ℕ). ltb 164 c) cs ≡ false → fieldTooWide ws ks cs ls ms ≡ false → AllCodable t vs ks cs ls ms
+pub all-codable : (L : Layout) (t : ℕ) (ws vs : List ℕ) (ks : List Block) (cs ls ms : List ℕ) → AllPlaced L ks → NodesOnly L ws vs
+    → ((p : ℕ) → L .BlockAt p → passesSoFar ws p ≤ 164 * t)
+    → length ls ≡ sum cs → length ms ≡ sum cs → any (λ (c : ℕ). ltb 164 c) cs ≡ false → fieldTooWide ws ks cs ls ms ≡ false
+    → AllCodable t vs ks cs ls ms
 unfolding sum any
 all-codable L t ws vs [] cs ls ms f o most ll lm few fits = tt
 all-codable L t ws vs (k ∷ ks) [] ls ms f o most ll lm few fits = tt
 all-codable L t ws vs (k ∷ ks) (c ∷ cs) ls ms f o most ll lm few fits =
     let B : L .BlockAt (k .at) = f .0 .0 .block in
-    let p = codable-part t ws vs k ks c cs ls ms (block-stays L ws vs o (k .at) B) (most (k .at) B) ll lm (or-left (ltb 164 c) (any (λ (d : ℕ). ltb 164 d) cs) few) fits in
-    (p .here, all-codable L t ws vs ks cs (drop c ls) (drop c ms) (f .1) o most (p .lengths) (p .marks) (or-right (ltb 164 c) (any (λ (d : ℕ). ltb 164 d) cs) few) (later-fits ws k ks c cs ls ms fits))
+    let p = codable-part t ws vs k ks c cs ls ms (block-stays L ws vs o (k .at) B) (most (k .at) B) ll lm
+    (or-left (ltb 164 c) (any (λ (d : ℕ). ltb 164 d) cs) few) fits in (
+      p .here,
+      all-codable L t ws vs ks cs (drop c ls) (drop c ms) (f .1) o most (p .lengths) (p .marks)
+          (or-right (ltb 164 c) (any (λ (d : ℕ). ltb 164 d) cs) few) (later-fits ws k ks c cs ls ms fits),
+    )
 
 -- the blocks of a header: new ones are set, then all are coded
 abbrev pub headerBlocks : ℕ → List Block → Contribution → List ℕ → Coded
 headerBlocks t ks p ws = codeBlocks t ks (p .counts) (p .lengths) (p .marks) (setNewBlocks t ks (p .counts) ws)
 
-pub layer-in-range : (L : Layout) (t : ℕ) (ks : List Block) (p : Contribution) (ws : List ℕ) → AllPlaced L ks → WriterState L t ws → Acceptable ws ks p → WriterState L (t + 1) (headerBlocks t ks p ws .words)
+pub layer-in-range : (L : Layout) (t : ℕ) (ks : List Block) (p : Contribution) (ws : List ℕ) → AllPlaced L ks → WriterState L t ws
+    → Acceptable ws ks p → WriterState L (t + 1) (headerBlocks t ks p ws .words)
 layer-in-range L t ks p ws f y q =
     let us : List ℕ = setNewBlocks t ks (p .counts) ws in
     let o = new-blocks-set L t ks (p .counts) ws f (y .long) (λ a n. y .nodes inclusion a n .low-in) .0 .only in
     blocks-in-range L t ks (p .counts) (p .lengths) (p .marks) us f (later L t us (values-in-range L inclusion t ws us o y))
-    (all-codable L t ws us ks (p .counts) (p .lengths) (p .marks) f (nodes-only L inclusion ws us o) (λ a b. y .blocks a b .most) (q .lengths) (q .marks) (q .few) (q .fits))
+    (all-codable L t ws us ks (p .counts) (p .lengths) (p .marks) f (nodes-only L inclusion ws us o) (λ a b. y .blocks a b .most)
+    (q .lengths) (q .marks) (q .few) (q .fits))
 
 -- word 3, the layer, is no node's and no block's
 pub layer-word : (L : Layout) (t v : ℕ) (ws : List ℕ) → WriterState L t ws → WriterState L t (set ws 3 v)
@@ -347,5 +396,7 @@ layer-word L t v ws y =
         low-in = le-trans (le-of-eq (w (a + 1) (omega arith))) (r .low-in);
         known-in = le-trans (le-of-eq (w (a + 2) (omega arith))) (r .known-in);
       };
-      blocks = λ p b. let h = L .block-in p b .0 in same-block t ws (set ws 3 v) p (w p h, w (p + 1) (omega arith), w (p + 2) (omega arith), w (p + 3) (omega arith)) (y .blocks p b);
+      blocks = λ p b. let h = L .block-in p b .0 in
+          same-block t ws (set ws 3 v) p (w p h, w (p + 1) (omega arith), w (p + 2) (omega arith), w (p + 3) (omega arith))
+          (y .blocks p b);
     }

@@ -4,7 +4,8 @@ use mathlib.Core.Path.{_≡_, refl, sym, ap, ap₂, _∙_}
 use mathlib.Core.Bool.{Bool, true, false, cond, _&&_}
 use mathlib.Core.List.{List, [], _∷_, _++_, append-nil, append-assoc}
 use Prim.Native.Nat.{ℕ, zero, suc, _+_, _-_, _≤_, _<_, min, max, suc-le-suc}
-use native.Mathlib.Nat.{sub-self, max-le, min-eq-right, max-eq-left, max-eq-right, min-le-right, le-max-right, le-max-left, le-trans, le-of-eq, le-refl, le-min}
+use native.Mathlib.Nat.{sub-self, max-le, min-eq-right, max-eq-left, max-eq-right, min-le-right, le-max-right, le-max-left}
+use native.Mathlib.Nat.{le-trans, le-of-eq, le-refl, le-min}
 use native.Mathlib.Omega.{arith}
 use lib.ListN.{replicate, replicate-append-replicate}
 use lib.Dec.{eqb, ltb}
@@ -13,7 +14,9 @@ use borrow.Author.Tests.{lt-ltb, le-ltb}
 use Rattle.t800.proofs.Laws.Tests.{if-lt, if-ge, on-lt}
 use Rattle.round_trip.proofs.Trip.Bits.{Reads, reads-split}
 use Rattle.round_trip.proofs.Trip.NodeSync.{puts-none, known-puts-none, sync-low, low-out-le, increasing-from, path-sync}
-use Rattle.round_trip.proofs.Trip.Nodes.{Node, node, lowOut, putsOne, bitsOfNode, nodeAfter, bitsOfPath, nodesAfter, NodesRead, readAll, leafValue, raiseFrom, Sync, not-known, is-known, AllSync, nil, cons, Increasing}
+use Rattle.round_trip.proofs.Trip.Nodes.{Node, node, lowOut, putsOne, bitsOfNode, nodeAfter, bitsOfPath, nodesAfter}
+use Rattle.round_trip.proofs.Trip.Nodes.{NodesRead, readAll, leafValue, raiseFrom, Sync, not-known, is-known, AllSync, nil}
+use Rattle.round_trip.proofs.Trip.Nodes.{cons, Increasing}
 
 -- ---- one node, by what its parts come to
 
@@ -23,7 +26,8 @@ bits-are : (t l : ℕ) (n : Node) (a o : ℕ) (y : Bool) → max l (n .low) ≡ 
 unfolding bitsOfNode
 bits-are t l n a o y p q r = rw (r, q, p)
 
-node-is : (t l : ℕ) (n : Node) (o : ℕ) (y : Bool) → lowOut t l n ≡ o → ltb o t ≡ y → nodeAfter t l n ≡ node (n .value) o (cond y 1 (n .known))
+node-is : (t l : ℕ) (n : Node) (o : ℕ) (y : Bool) → lowOut t l n ≡ o → ltb o t ≡ y → nodeAfter t l n
+    ≡ node (n .value) o (cond y 1 (n .known))
 unfolding nodeAfter
 node-is t l n o y q r = rw (q, r)
 
@@ -45,7 +49,8 @@ pub blocked-path : (i l : ℕ) (ns : List Node) → i ≤ l → bitsOfPath i l n
 unfolding bitsOfPath
 blocked-path i l [] h = refl
 blocked-path i l (n ∷ ns) h =
-    rw (blocked-bits i l n h) (blocked-path i (lowOut i l n) ns (le-trans h (le-trans (le-max-left l (n .low)) (le-of-eq (sym (blocked-out i l n h))))))
+    rw (blocked-bits i l n h)
+    (blocked-path i (lowOut i l n) ns (le-trans h (le-trans (le-max-left l (n .low)) (le-of-eq (sym (blocked-out i l n h))))))
 
 max-max : (l k c : ℕ) → l ≤ k → max k (max l c) ≡ max k c
 max-max l k c h = omega arith
@@ -95,7 +100,8 @@ known-out : (j l v : ℕ) → l ≤ v → lowOut j l (node v v 1) ≡ v
 known-out j l v h = omega arith
 
 known-bits : (j l v : ℕ) → l ≤ v → bitsOfNode j l (node v v 1) ≡ []
-known-bits j l v h = bits-are j l (node v v 1) v v false (max-eq-right h) (known-out j l v h) (known-puts-none j l (node v v 1) refl) ∙ rw sub-self
+known-bits j l v h =
+    bits-are j l (node v v 1) v v false (max-eq-right h) (known-out j l v h) (known-puts-none j l (node v v 1) refl) ∙ rw sub-self
 
 known-node : (j l v : ℕ) → l ≤ v → nodeAfter j l (node v v 1) ≡ node v v 1
 known-node j l v h = node-is j l (node v v 1) v (ltb v j) (known-out j l v h) refl ∙ ap (λ (z : ℕ). node v v z) (same (ltb v j))
@@ -145,9 +151,11 @@ module _ (i j l : ℕ) (n : Node) (h : i ≤ n .value) (g : i ≤ j) where
       let o : ℕ = lowOut j l n in
       let x : List ℕ = cond (putsOne j l n) (1 ∷ []) [] in
       let st : max l (max a i) ≡ max a i = max-eq-right (le-trans (le-max-left l (n .low)) (le-max-left a i)) in
-      ap₂ (λ (u w : List ℕ). u ++ w) (part-bits i l n h ∙ append-nil (replicate (max a i - a) 0)) (bits-are j l (raised i l n h) (max a i) o (putsOne j l n) st then-out then-puts)
+      ap₂ (λ (u w : List ℕ). u ++ w) (part-bits i l n h ∙ append-nil (replicate (max a i - a) 0))
+      (bits-are j l (raised i l n h) (max a i) o (putsOne j l n) st then-out then-puts)
       ∙ sym (append-assoc (replicate (max a i - a) 0) (replicate (o - max a i) 0) x)
-      ∙ ap (λ (z : List ℕ). z ++ x) (replicate-append-replicate (max a i - a) (o - max a i) 0 ∙ ap (λ (k : ℕ). replicate k 0) (between-sum a i o then-le))
+      ∙ ap (λ (z : List ℕ). z ++ x)
+      (replicate-append-replicate (max a i - a) (o - max a i) 0 ∙ ap (λ (k : ℕ). replicate k 0) (between-sum a i o then-le))
       ∙ sym (bits-are j l n a o (putsOne j l n) refl refl refl)
 
   then-node : nodeAfter j l (raised i l n h) ≡ nodeAfter j l n
@@ -158,7 +166,8 @@ module _ (i j l : ℕ) (n : Node) (h : i ≤ n .value) (g : i ≤ j) where
 -- ---- a path
 
 pub lower-then-higher : (i j l : ℕ) {mark : ℕ} {ns ms : List Node} → i ≤ j → Increasing l ns → AllSync mark ns ms
-    → (bitsOfPath i l ns ++ bitsOfPath j l (nodesAfter i l ns) ≡ bitsOfPath j l ns) × (nodesAfter j l (nodesAfter i l ns) ≡ nodesAfter j l ns)
+    → (bitsOfPath i l ns ++ bitsOfPath j l (nodesAfter i l ns) ≡ bitsOfPath j l ns)
+    × (nodesAfter j l (nodesAfter i l ns) ≡ nodesAfter j l ns)
 unfolding bitsOfPath nodesAfter
 lower-then-higher i j l g c nil = (refl, refl)
 lower-then-higher i j l g c (cons {n = n} {m = m} {ns = ns} {ms = ms} y ys) =
@@ -166,7 +175,17 @@ lower-then-higher i j l g c (cons {n = n} {m = m} {ns = ns} {ms = ms} y ys) =
     let ih = lower-then-higher i j v g (c .1) ys in
     on-lt v i
     (λ h. let p : bitsOfNode i l n ≡ bitsOfNode j l n = settled-bits i l h (c .0) y ∙ sym (settled-bits j l (le-trans h g) (c .0) y) in
-    rw (settled-node i l h (c .0) y, settled-out i l h (c .0) y, known-bits j l v (c .0), known-out j l v (c .0), known-node j l v (c .0), settled-out j l (le-trans h g) (c .0) y, settled-node j l (le-trans h g) (c .0) y, p, append-assoc)
+    rw (
+      settled-node i l h (c .0) y,
+      settled-out i l h (c .0) y,
+      known-bits j l v (c .0),
+      known-out j l v (c .0),
+      known-node j l v (c .0),
+      settled-out j l (le-trans h g) (c .0) y,
+      settled-node j l (le-trans h g) (c .0) y,
+      p,
+      append-assoc,
+    )
     (ap (λ (z : List ℕ). bitsOfNode j l n ++ z) (ih .0), ap (λ (z : List Node). node v v 1 ∷ z) (ih .1)))
     (λ h. let a : ℕ = max (max l (n .low)) i in
     let r = raised-path i j a (lowOut j l n) ns (le-max-right (max l (n .low)) i) (then-le i j l n h g) in
@@ -237,20 +256,24 @@ sync-known : {mark : ℕ} {n m : Node} → n .known ≡ 1 → Sync mark n m → 
 sync-known h (is-known k mv ml nl nv mk) = mv
 sync-known h (not-known k mv ml nl nv mk) = absurd (omega arith)
 
-leaf-known : (i l v w : ℕ) {mark : ℕ} {ns ms os : List Node} → Increasing l ns → AllSync mark ns ms → AllSync mark (nodesAfter i l ns) os → leafValue v ns < i → w ≡ v → leafValue w os ≡ leafValue v ns
+leaf-known : (i l v w : ℕ) {mark : ℕ} {ns ms os : List Node} → Increasing l ns → AllSync mark ns ms
+    → AllSync mark (nodesAfter i l ns) os → leafValue v ns < i → w ≡ v → leafValue w os ≡ leafValue v ns
 unfolding nodesAfter
 leaf-known i l v w c nil nil h e = e
 leaf-known i l v w c (cons {n = n} {ns = ns} y ys) (cons {m = o} z zs) h e =
     let a : n .value < i = le-trans (suc-le-suc (increasing-leaf (n .value) ns (c .1))) h in
     let k : nodeAfter i l n .known ≡ 1 = ap (λ (q : Node). q .known) (settled-node i l a (c .0) y) in
-    leaf-known i (lowOut i l n) (n .value) (o .value) (increasing-from ns (low-out-le i l n (c .0) (sync-low y)) (c .1)) ys zs h (sync-known k z ∙ value-same i l n)
+    leaf-known i (lowOut i l n) (n .value) (o .value) (increasing-from ns (low-out-le i l n (c .0) (sync-low y)) (c .1)) ys zs h
+    (sync-known k z ∙ value-same i l n)
 
 -- the two leaves lie on the same side of the threshold
-pub same-side : (t l : ℕ) {mark : ℕ} {ns ms os : List Node} → Increasing l ns → AllSync mark ns ms → AllSync mark (nodesAfter t l ns) os → ltb (leafValue 0 os) t ≡ ltb (leafValue 0 ns) t
+pub same-side : (t l : ℕ) {mark : ℕ} {ns ms os : List Node} → Increasing l ns → AllSync mark ns ms
+    → AllSync mark (nodesAfter t l ns) os → ltb (leafValue 0 os) t ≡ ltb (leafValue 0 ns) t
 same-side t l {ns = ns} {os = os} c y z =
     on-lt (leafValue 0 ns) t
     (λ h. ap (λ (q : ℕ). ltb q t) (leaf-known t l 0 0 c y z h refl))
-    (λ h. le-ltb (leafValue 0 os) t (le-trans h (le-trans (le-of-eq (sym (leaf-same t l 0 ns))) (leaf-ge 0 0 (le-refl 0) z))) ∙ sym (le-ltb (leafValue 0 ns) t h))
+    (λ h. le-ltb (leafValue 0 os) t (le-trans h (le-trans (le-of-eq (sym (leaf-same t l 0 ns))) (leaf-ge 0 0 (le-refl 0) z)))
+    ∙ sym (le-ltb (leafValue 0 ns) t h))
 
 -- ---- zero planes
 
@@ -261,7 +284,8 @@ pub record Raised (mark : ℕ) (r : NodesRead) (v : ℕ) (e : Bio) (ns : List No
   pub sync : AllSync mark ns (r .nodes)
 
 -- one turn that ends
-pub raise-stops : (s : List ℕ) (f i : ℕ) (b : Bio) (ms : List Node) → leafValue 0 (readAll s i 0 b ms .nodes) < i → raiseFrom s (suc f) i b ms ≡ readAll s i 0 b ms
+pub raise-stops : (s : List ℕ) (f i : ℕ) (b : Bio) (ms : List Node) → leafValue 0 (readAll s i 0 b ms .nodes) < i
+    → raiseFrom s (suc f) i b ms ≡ readAll s i 0 b ms
 unfolding raiseFrom
 raise-stops s f i b ms h = if-lt (leafValue 0 (readAll s i 0 b ms .nodes)) i _ _ h
 
@@ -271,8 +295,10 @@ pub raise-goes-on : (s : List ℕ) (f i : ℕ) (b : Bio) (ms : List Node) → i 
 unfolding raiseFrom
 raise-goes-on s f i b ms h = if-ge (leafValue 0 (readAll s i 0 b ms .nodes)) i _ _ h
 
-zero-planes-from : (s : List ℕ) (f i : ℕ) (b e : Bio) {mark : ℕ} {ns ms : List Node} → Increasing 0 ns → AllSync mark ns ms → leafValue 0 ns < mark → i ≤ suc (leafValue 0 ns)
-    → suc (leafValue 0 ns) < i + f → Reads s b (bitsOfPath mark 0 ns) e → Raised mark (raiseFrom s f i b ms) (leafValue 0 ns) e (nodesAfter mark 0 ns)
+zero-planes-from : (s : List ℕ) (f i : ℕ) (b e : Bio) {mark : ℕ} {ns ms : List Node} → Increasing 0 ns → AllSync mark ns ms
+    → leafValue 0 ns < mark → i ≤ suc (leafValue 0 ns)
+    → suc (leafValue 0 ns) < i + f → Reads s b (bitsOfPath mark 0 ns) e
+    → Raised mark (raiseFrom s f i b ms) (leafValue 0 ns) e (nodesAfter mark 0 ns)
 zero-planes-from s zero i b e {mark = mark} c y small le room r = absurd (omega arith)
 zero-planes-from s (suc f) i b e {mark = mark} {ns = ns} {ms = ms} c y small le room r =
     let v : ℕ = leafValue 0 ns in
@@ -290,6 +316,7 @@ zero-planes-from s (suc f) i b e {mark = mark} {ns = ns} {ms = ms} c y small le 
     rw (raise-goes-on s f i b ms (omega arith), p .0) (rw (l, q .1) at z))
 
 -- from 0, where the fuel lets the threshold rise past the mark
-pub zero-planes-read : (s : List ℕ) (b e : Bio) {mark : ℕ} {ns ms : List Node} → Increasing 0 ns → AllSync mark ns ms → leafValue 0 ns < mark → Reads s b (bitsOfPath mark 0 ns) e
+pub zero-planes-read : (s : List ℕ) (b e : Bio) {mark : ℕ} {ns ms : List Node} → Increasing 0 ns → AllSync mark ns ms
+    → leafValue 0 ns < mark → Reads s b (bitsOfPath mark 0 ns) e
     → Raised mark (raiseFrom s (mark + 2) 0 b ms) (leafValue 0 ns) e (nodesAfter mark 0 ns)
 zero-planes-read s b e {mark = mark} {ns = ns} c y small r = zero-planes-from s (mark + 2) 0 b e c y small (omega arith) (omega arith) r

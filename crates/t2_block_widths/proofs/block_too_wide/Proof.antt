@@ -11,7 +11,8 @@ use Rattle.t2_block_widths.proofs.block_too_wide.Statement.{statement}
 use Rattle.t2_block_widths.proofs.block_too_wide.Tie as tie
 
 -- a block's length bits, the increment and the widths with both
-block-wide-parts : (before more bits : ℕ) (ss : List Segment) (t : Bool) → before ≡ bits → more ≡ increment before ss → t ≡ anyTooWide (before + more) ss → t ≡ blockTooWide bits ss
+block-wide-parts : (before more bits : ℕ) (ss : List Segment) (t : Bool) → before ≡ bits → more ≡ increment before ss → t
+    ≡ anyTooWide (before + more) ss → t ≡ blockTooWide bits ss
 block-wide-parts before more bits ss t p q r = r ∙ ap (λ (z : ℕ). anyTooWide (before + z) ss) q ∙ ap (λ (z : ℕ). blockTooWide z ss) p
 
 segment-increment-requires : tie.Need-segment-increment-requires
@@ -23,7 +24,8 @@ any-field-too-wide-requires c κs = (c .before .before .before .before .pre .0, 
 returns : tie.Need-returns
 returns c =
     let s = c .before .before .before .before .before in
-    block-wide-parts _ _ _ (segmentsOf (s .args .lengths .now) (s .args .marks .now)) _ (c .before .before .length-bits-before .ensures) (c .before .segment-increment .ensures) (c .any-field-too-wide .ensures)
+    block-wide-parts _ _ _ (segmentsOf (s .args .lengths .now) (s .args .marks .now)) _
+    (c .before .before .length-bits-before .ensures) (c .before .segment-increment .ensures) (c .any-field-too-wide .ensures)
 
 pub block-too-wide-spec : {M : Type 1} → statement M
 block-too-wide-spec =

@@ -39,21 +39,26 @@ unfolding every sameBits bitsOf commaBits
 computed = tt
 
 pub comma-number : (n : ℕ) → n ≤ 30 → bitsOf (n + 1) (2 * 2 ^ n % 4294967296 - 2) ≡ commaBits n
-comma-number n h = same-bits _ _ (every-below 31 (λ n. sameBits (bitsOf (n + 1) (2 * 2 ^ n % 4294967296 - 2)) (commaBits n)) computed n (omega arith))
+comma-number n h = same-bits _ _
+    (every-below 31 (λ n. sameBits (bitsOf (n + 1) (2 * 2 ^ n % 4294967296 - 2)) (commaBits n)) computed n (omega arith))
 
 -- ---- read
 
 -- a turn, as the code counts: f - 1 are left
 ones-by : (src : List ℕ) (f n : ℕ) (b : Bio) → 0 < f
-    → readOnes src f n b ≡ cond (eqb (getBit src b .value) 0) (record { value = n; bio = getBit src b .bio }) (readOnes src (f - 1) (n + 1) (getBit src b .bio))
+    → readOnes src f n b
+    ≡ cond (eqb (getBit src b .value) 0) (record { value = n; bio = getBit src b .bio })
+    (readOnes src (f - 1) (n + 1) (getBit src b .bio))
 unfolding readOnes
 ones-by src zero n b h = absurd (omega arith)
 ones-by src (suc f) n b h = let e : suc f - 1 ≡ f = omega arith in rw e
 
-pub ones-end : (src : List ℕ) (f n : ℕ) (b : Bio) → 0 < f → getBit src b .value ≡ 0 → readOnes src f n b ≡ record { value = n; bio = getBit src b .bio }
+pub ones-end : (src : List ℕ) (f n : ℕ) (b : Bio) → 0 < f → getBit src b .value ≡ 0 → readOnes src f n b
+    ≡ record { value = n; bio = getBit src b .bio }
 ones-end src f n b h z = ones-by src f n b h ∙ simp (eq-eqb _ _ z)
 
-pub ones-on : (src : List ℕ) (f n : ℕ) (b : Bio) → 0 < f → (getBit src b .value ≡ 0 → ⊥) → readOnes src f n b ≡ readOnes src (f - 1) (n + 1) (getBit src b .bio)
+pub ones-on : (src : List ℕ) (f n : ℕ) (b : Bio) → 0 < f → (getBit src b .value ≡ 0 → ⊥) → readOnes src f n b
+    ≡ readOnes src (f - 1) (n + 1) (getBit src b .bio)
 ones-on src f n b h z = ones-by src f n b h ∙ simp (ne-eqb _ _ z)
 
 -- ---- what the run keeps
@@ -78,9 +83,11 @@ unfolding readOnes
 ones-place src zero n b h = h
 ones-place src (suc f) n b h =
     let g = getBit-place src b h in
-    place-by (eqb (getBit src b .value) 0) (record { value = n; bio = getBit src b .bio }) _ (length src + 1) g (ones-place src f (n + 1) (getBit src b .bio) g)
+    place-by (eqb (getBit src b .value) 0) (record { value = n; bio = getBit src b .bio }) _ (length src + 1) g
+    (ones-place src f (n + 1) (getBit src b .bio) g)
 
-between-by : (t : Bool) (x y : Decoded) (n f : ℕ) → x .value ≡ n → (n + 1 ≤ y .value) × (y .value ≤ n + 1 + f) → (n ≤ cond t x y .value) × (cond t x y .value ≤ n + suc f)
+between-by : (t : Bool) (x y : Decoded) (n f : ℕ) → x .value ≡ n → (n + 1 ≤ y .value) × (y .value ≤ n + 1 + f)
+    → (n ≤ cond t x y .value) × (cond t x y .value ≤ n + suc f)
 between-by true x y n f p q = omega arith
 between-by false x y n f p q = omega arith
 
@@ -89,7 +96,8 @@ pub ones-between : (src : List ℕ) (f n : ℕ) (b : Bio) → (n ≤ readOnes sr
 unfolding readOnes
 ones-between src zero n b = omega arith
 ones-between src (suc f) n b =
-    between-by (eqb (getBit src b .value) 0) (record { value = n; bio = getBit src b .bio }) _ n f refl (ones-between src f (n + 1) (getBit src b .bio))
+    between-by (eqb (getBit src b .value) 0) (record { value = n; bio = getBit src b .bio }) _ n f refl
+    (ones-between src f (n + 1) (getBit src b .bio))
 
 -- ---- a run that ends within the bound is the run for every larger bound, and one that doesn't is no shorter for it
 
@@ -102,9 +110,11 @@ unfolding readOnes
 ones-more src zero g n b h = absurd (omega arith)
 ones-more src (suc f) g n b h =
     ap (λ (k : ℕ). readOnes src k n b) (suc-add f g)
-    ∙ more-by (eqb (getBit src b .value) 0) (record { value = n; bio = getBit src b .bio }) _ _ (n + suc f) (λ l. ones-more src f g (n + 1) (getBit src b .bio) (omega (arith, l))) h
+    ∙ more-by (eqb (getBit src b .value) 0) (record { value = n; bio = getBit src b .bio }) _ _ (n + suc f)
+    (λ l. ones-more src f g (n + 1) (getBit src b .bio) (omega (arith, l))) h
 
-full-by : (t : Bool) (x y z : Decoded) (n m : ℕ) → x .value ≡ n → n < m → (y .value ≡ m → m ≤ z .value) → cond t x y .value ≡ m → m ≤ cond t x z .value
+full-by : (t : Bool) (x y z : Decoded) (n m : ℕ) → x .value ≡ n → n < m → (y .value ≡ m → m ≤ z .value) → cond t x y .value ≡ m
+    → m ≤ cond t x z .value
 full-by true x y z n m e l p h = absurd (omega arith)
 full-by false x y z n m e l p h = p h
 
@@ -112,7 +122,8 @@ ones-full : (src : List ℕ) (f g n : ℕ) (b : Bio) → readOnes src f n b .val
 unfolding readOnes
 ones-full src zero g n b h = let r = ones-between src (zero + g) n b in omega arith
 ones-full src (suc f) g n b h =
-    let full : readOnes src f (n + 1) (getBit src b .bio) .value ≡ n + suc f → n + suc f ≤ readOnes src (f + g) (n + 1) (getBit src b .bio) .value =
+    let full : readOnes src f (n + 1) (getBit src b .bio) .value ≡ n + suc f
+    → n + suc f ≤ readOnes src (f + g) (n + 1) (getBit src b .bio) .value =
     λ e. omega (arith, ones-full src f g (n + 1) (getBit src b .bio) (omega (arith, e))) in
     subst (λ (k : ℕ). n + suc f ≤ readOnes src k n b .value) (sym (suc-add f g))
     (full-by (eqb (getBit src b .value) 0) (record { value = n; bio = getBit src b .bio }) _ _ n (n + suc f) refl (omega arith) full h)

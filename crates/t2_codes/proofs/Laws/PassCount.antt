@@ -39,7 +39,8 @@ module _ (src : List ℕ) (b : Bio) (first : Decoded) (e1 : first ≡ getBit src
 
     pub passes-more : (second .value ≡ 0 → ⊥) → readFrom3 src (second .bio) ≡ readPasses src b
     unfolding readPasses readFrom3
-    passes-more one2 = ap (λ (d : Decoded). readFrom3 src (d .bio)) is2 ∙ simp (test1, ne-eqb _ _ (λ q. one2 (ap (λ (d : Decoded). d .value) is2 ∙ q)))
+    passes-more one2 = ap (λ (d : Decoded). readFrom3 src (d .bio)) is2
+        ∙ simp (test1, ne-eqb _ _ (λ q. one2 (ap (λ (d : Decoded). d .value) is2 ∙ q)))
 
 module _ (src : List ℕ) (b : Bio) (two : Decoded) (e1 : two ≡ readBits src 2 b) where
   pub from-3 : two .value ≤ 2 → plus 3 two ≡ readFrom3 src b
@@ -86,7 +87,8 @@ module _ (P : Decoded → Type 0) where
   passes-each src b p1 p2 p3 =
       let first = getBit src b in
       let second = getBit src (first .bio) in
-      either (eqb (first .value) 0) (passes 1 (first .bio)) _ p1 (either (eqb (second .value) 0) (passes 2 (second .bio)) (readFrom3 src (second .bio)) p2 p3)
+      either (eqb (first .value) 0) (passes 1 (first .bio)) _ p1
+      (either (eqb (second .value) 0) (passes 2 (second .bio)) (readFrom3 src (second .bio)) p2 p3)
 
 module _ (src : List ℕ) (b : Bio) where
   from3-ct : b .ct ≤ 8 → readFrom3 src b .bio .ct ≤ 8

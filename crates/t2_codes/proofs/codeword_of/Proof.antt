@@ -12,7 +12,8 @@ returns c =
     let s = c .before .before .before .before in
     let value = c .before .before .wide .ensures in
     let len = c .wide2 .ensures in
-    subst (IsCodewordOf (s .args .n)) (sym (λ i. record { value = value i; len = len i })) (codeword-at (s .args .codes .now) (s .args .n) (s .pre .0) (s .pre .1) (s .pre .2))
+    subst (IsCodewordOf (s .args .n)) (sym (λ i. record { value = value i; len = len i }))
+    (codeword-at (s .args .codes .now) (s .args .n) (s .pre .0) (s .pre .1) (s .pre .2))
 
 pub codeword-of-spec : {M : Type 1} → statement M
 codeword-of-spec =

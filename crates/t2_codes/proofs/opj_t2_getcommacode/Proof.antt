@@ -34,7 +34,8 @@ returns c =
     let l = c .before .before .before .before .before .loop in
     let e = c .before .before .before .bit-in .ensures in
     ap (λ (d : Decoded). record { value = l .value; bio = d .bio }) e
-    ∙ sym (ones-end (c .before .before .before .before .before .before .before .before .args .src .now) (l .left) (l .value) (l .bio) (c .before .before .before .before .loop-test .taken) (sym (ap (λ (d : Decoded). d .value) e) ∙ c .if1 .taken))
+    ∙ sym (ones-end (c .before .before .before .before .before .before .before .before .args .src .now) (l .left) (l .value)
+    (l .bio) (c .before .before .before .before .loop-test .taken) (sym (ap (λ (d : Decoded). d .value) e) ∙ c .if1 .taken))
     ∙ l .inv .2
 
 add-value : tie.Need-add-value Inv-loop μ-loop
@@ -54,7 +55,8 @@ loop-again c =
       subst (λ (d : Decoded). d .bio .ct ≤ 8) (sym e) (getBit-ct src (l .bio) (l .inv .0)),
       omega (arith, l .inv .1, c .before .before .before .before .loop-test .taken),
       ap (λ (d : Decoded). readOnes src (l .left - 1) (l .value + 1) (d .bio)) e
-          ∙ sym (ones-on src (l .left) (l .value) (l .bio) (c .before .before .before .before .loop-test .taken) (λ z. c .if1 .left (ap (λ (d : Decoded). d .value) e ∙ z)))
+          ∙ sym (ones-on src (l .left) (l .value) (l .bio) (c .before .before .before .before .loop-test .taken)
+          (λ z. c .if1 .left (ap (λ (d : Decoded). d .value) e ∙ z)))
           ∙ l .inv .2,
     )
 

@@ -24,7 +24,8 @@ returns-2 c =
     let second = c .before .before .before .bit-in2 in
     let first = c .before .before .before .before .before .before .bit-in in
     let a = c .before .before .before .before .before .before .before .before .args in
-    passes-2 (a .src .now) (a .b) (decoded (first .result)) (first .ensures) (c .before .before .before .before .if1 .left) (decoded (second .result)) (second .ensures) (c .before .if2 .taken)
+    passes-2 (a .src .now) (a .b) (decoded (first .result)) (first .ensures) (c .before .before .before .before .if1 .left)
+    (decoded (second .result)) (second .ensures) (c .before .if2 .taken)
 
 passes-from-3-requires : tie.Need-passes-from-3-requires
 passes-from-3-requires c κs =
@@ -40,7 +41,8 @@ returns-3 c =
     let first = c .before .before .before .before .before .before .bit-in in
     let a = c .before .before .before .before .before .before .before .before .args in
     c .passes-from-3 .ensures
-    ∙ passes-more (a .src .now) (a .b) (decoded (first .result)) (first .ensures) (c .before .before .before .before .if1 .left) (decoded (second .result)) (second .ensures) (c .before .if2 .left)
+    ∙ passes-more (a .src .now) (a .b) (decoded (first .result)) (first .ensures) (c .before .before .before .before .if1 .left)
+    (decoded (second .result)) (second .ensures) (c .before .if2 .left)
 
 pub opj-t2-getnumpasses-spec : {M : Type 1} → statement M
 opj-t2-getnumpasses-spec =

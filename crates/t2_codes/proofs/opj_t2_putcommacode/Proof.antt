@@ -15,7 +15,8 @@ use Rattle.t2_codes.proofs.opj_t2_putcommacode.Tie as tie
 
 abbrev Inv-loop : tie.InvT-loop
 Inv-loop out₀ n bio₀ left₀ out bio left =
-    (FreeBitsClear bio) × (length out ≡ length out₀) × (putBits (output out bio) (commaBits left) ≡ putBits (output out₀ bio₀) (commaBits n))
+    (FreeBitsClear bio) × (length out ≡ length out₀)
+    × (putBits (output out bio) (commaBits left) ≡ putBits (output out₀ bio₀) (commaBits n))
 
 abbrev μ-loop : tie.MeasureT-loop
 μ-loop out₀ n bio₀ left₀ out bio left = left
@@ -65,7 +66,9 @@ same-length c = c .before .before .opj-bio-write2 .kept .0 ∙ c .before .before
 returns : tie.Need-returns Inv-loop μ-loop
 returns c =
     let l = c .before .before .before .before .before .loop in
-    c .before .before .opj-bio-write2 .ensures ∙ ap (putBits (output (l .out) (l .bio))) (comma-number (l .left) (c .before .before .before .before .loop-test .left)) ∙ l .inv .2
+    c .before .before .opj-bio-write2 .ensures
+    ∙ ap (putBits (output (l .out) (l .bio))) (comma-number (l .left) (c .before .before .before .before .loop-test .left))
+    ∙ l .inv .2
 
 pub opj-t2-putcommacode-spec : {M : Type 1} → statement M
 opj-t2-putcommacode-spec =

@@ -33,7 +33,8 @@ returns-2 c =
     let two = c .before .before .before .before .before .before .opj-bio-read in
     let a = c .before .before .before .before .before .before .before .before .args in
     c .plus2 .ensures
-    ∙ from-6 (a .src .now) (a .b) (decoded (two .result)) (two .ensures) (c .before .before .before .before .if1 .left) (decoded (five .result)) (five .ensures) (omega (arith, c .before .if2 .taken))
+    ∙ from-6 (a .src .now) (a .b) (decoded (two .result)) (two .ensures) (c .before .before .before .before .if1 .left)
+    (decoded (five .result)) (five .ensures) (omega (arith, c .before .if2 .taken))
 
 opj-bio-read-requires-3 : tie.Need-opj-bio-read-requires-3
 opj-bio-read-requires-3 c κs =
@@ -45,7 +46,8 @@ opj-bio-read-requires-3 c κs =
 
 plus-requires-3 : tie.Need-plus-requires-3
 plus-requires-3 c κs =
-    let l = readBits-below (c .before .before .before .before .before .before .before .before .args .src .now) 7 (c .before .before .before .opj-bio-read2 .result .bio) in
+    let l = readBits-below (c .before .before .before .before .before .before .before .before .args .src .now) 7
+    (c .before .before .before .opj-bio-read2 .result .bio) in
     omega (arith, ap (λ (d : Decoded). d .value) (c .opj-bio-read3 .ensures))
 
 returns-3 : tie.Need-returns-3
@@ -55,7 +57,8 @@ returns-3 c =
     let two = c .before .before .before .before .before .before .before .opj-bio-read in
     let a = c .before .before .before .before .before .before .before .before .before .args in
     c .plus3 .ensures
-    ∙ from-37 (a .src .now) (a .b) (decoded (two .result)) (two .ensures) (c .before .before .before .before .before .if1 .left) (decoded (five .result)) (five .ensures) (c .before .before .if2 .left) (decoded (seven .result)) (seven .ensures)
+    ∙ from-37 (a .src .now) (a .b) (decoded (two .result)) (two .ensures) (c .before .before .before .before .before .if1 .left)
+    (decoded (five .result)) (five .ensures) (c .before .before .if2 .left) (decoded (seven .result)) (seven .ensures)
 
 pub passes-from-3-spec : {M : Type 1} → statement M
 passes-from-3-spec =

@@ -9,7 +9,8 @@ use Rattle.t2_codes.proofs.put_pass_codeword.Tie as tie
 returns : tie.Need-returns
 returns c =
     let a = c .before .before .before .before .before .before .args in
-    c .before .before .opj-bio-write .ensures ∙ ap (putBits (output (a .out .now) (a .b))) (c .before .before .before .before .codeword-of .ensures .bits)
+    c .before .before .opj-bio-write .ensures
+    ∙ ap (putBits (output (a .out .now) (a .b))) (c .before .before .before .before .codeword-of .ensures .bits)
 
 pub put-pass-codeword-spec : {M : Type 1} → statement M
 put-pass-codeword-spec =

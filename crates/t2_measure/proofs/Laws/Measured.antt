@@ -20,12 +20,17 @@ module _ (ws scratch : List ℕ) (p : Contribution) (m : Markers) (why : ℕ) (i
   refusal-is : why ≡ measureRefusal ws scratch p
   refusal-is = is ∙ sym (refusal-by-scratch-length ws scratch p)
 
-  pub measure-refused : why ≢ 0 → record { answer = record { refusal = why; header = 0; body = 0 }; scratch = scratch } ≡ measure ws scratch p m
+  pub measure-refused : why ≢ 0 → record { answer = record { refusal = why; header = 0; body = 0 }; scratch = scratch }
+      ≡ measure ws scratch p m
   unfolding measure
   measure-refused h =
       let e = refusal-is in
       let answer : ℕ → MeasureResult = λ k. record { answer = record { refusal = k; header = 0; body = 0 }; scratch = scratch } in
-      let done : MeasureResult = record { answer = record { refusal = 0; header = length (front ws p m 0); body = sum (p .lengths) }; scratch = codeHeader p ws .words } in
+      let done : MeasureResult =
+      record {
+        answer = record { refusal = 0; header = length (front ws p m 0); body = sum (p .lengths) };
+        scratch = codeHeader p ws .words;
+      } in
       sym (if-ne why 0 done (answer why) h) ∙ (λ i. cond (eqb (e i) 0) done (answer (e i)))
 
   pub measure-done : (bytes : List ℕ) (body : ℕ) (h : HeaderCoded) → why ≡ 0 → h ≡ putFront p ws m 0 bytes → body ≡ sum (p .lengths)
@@ -33,6 +38,10 @@ module _ (ws scratch : List ℕ) (p : Contribution) (m : Markers) (why : ℕ) (i
   unfolding measure putFront
   measure-done bytes body h z f b =
       let answer : ℕ → MeasureResult = λ k. record { answer = record { refusal = k; header = 0; body = 0 }; scratch = scratch } in
-      let done : MeasureResult = record { answer = record { refusal = 0; header = length (front ws p m 0); body = sum (p .lengths) }; scratch = codeHeader p ws .words } in
+      let done : MeasureResult =
+      record {
+        answer = record { refusal = 0; header = length (front ws p m 0); body = sum (p .lengths) };
+        scratch = codeHeader p ws .words;
+      } in
       (λ i. record { answer = record { refusal = 0; header = f i .end; body = b i }; scratch = f i .words })
       ∙ sym (if-eq (measureRefusal ws scratch p) 0 done (answer (measureRefusal ws scratch p)) (sym refusal-is ∙ z))

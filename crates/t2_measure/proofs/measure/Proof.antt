@@ -15,34 +15,43 @@ returns : tie.Need-returns
 returns c =
     let a = c .before .before .before .before .before .before .before .args in
     let g = c .before .measure-refusal in
-    measure-refused (a .state .now) (a .scratch .now) (contribution (a .counts .now) (a .lengths .now) (a .marks .now)) (a .markers) (g .result) (g .ensures) (c .if1 .taken)
+    measure-refused (a .state .now) (a .scratch .now) (contribution (a .counts .now) (a .lengths .now) (a .marks .now)) (a .markers)
+    (g .result) (g .ensures) (c .if1 .taken)
 
 copy-requires : tie.Need-copy-requires
 copy-requires c κs =
     let a = c .before .before .before .before .before .before .before .before .args in
     let g = c .before .before .measure-refusal in
-    as-long (a .state .now) (a .scratch .now) (contribution (a .counts .now) (a .lengths .now) (a .marks .now)) (g .result) (g .ensures) (c .before .if1 .left)
+    as-long (a .state .now) (a .scratch .now) (contribution (a .counts .now) (a .lengths .now) (a .marks .now)) (g .result)
+    (g .ensures) (c .before .if1 .left)
 
 put-front-requires : tie.Need-put-front-requires
 put-front-requires c κs =
     let a = c .before .before .before .before .before .before .before .before .before .before .before .before .before .args in
     let g = c .before .before .before .before .before .before .before .measure-refusal in
-    copy-accepted (a .state .now) (a .scratch .now) (contribution (a .counts .now) (a .lengths .now) (a .marks .now)) (g .result) (g .ensures) (c .before .before .before .before .before .before .if1 .left) _ (c .before .before .before .before .copy .ensures)
+    copy-accepted (a .state .now) (a .scratch .now) (contribution (a .counts .now) (a .lengths .now) (a .marks .now)) (g .result)
+    (g .ensures) (c .before .before .before .before .before .before .if1 .left) _ (c .before .before .before .before .copy .ensures)
 
 total-requires : tie.Need-total-requires
 total-requires c κs =
-    let a = c .before .before .before .before .before .before .before .before .before .before .before .before .before .before .before .before .before .args in
+    let a = c .before .before .before .before .before .before .before .before .before .before .before .before .before .before
+    .before .before .before .args in
     let g = c .before .before .before .before .before .before .before .before .before .before .before .measure-refusal in
-    let r = accepted (a .state .now) (a .scratch .now) (contribution (a .counts .now) (a .lengths .now) (a .marks .now)) (g .result) (g .ensures) (c .before .before .before .before .before .before .before .before .before .before .if1 .left) in
+    let r = accepted (a .state .now) (a .scratch .now) (contribution (a .counts .now) (a .lengths .now) (a .marks .now)) (g .result)
+    (g .ensures) (c .before .before .before .before .before .before .before .before .before .before .if1 .left) in
     omega (arith, r .lengths-are, r .passes-are)
 
 returns-2 : tie.Need-returns-2
 returns-2 c =
-    let a = c .before .before .before .before .before .before .before .before .before .before .before .before .before .before .before .before .before .before .args in
+    let a = c .before .before .before .before .before .before .before .before .before .before .before .before .before .before
+    .before .before .before .before .args in
     let g = c .before .before .before .before .before .before .before .before .before .before .before .before .measure-refusal in
     let p = contribution (a .counts .now) (a .lengths .now) (a .marks .now) in
-    measure-done (a .state .now) (a .scratch .now) p (a .markers) (g .result) (g .ensures) (0 ∷ []) _ _ (c .before .before .before .before .before .before .before .before .before .before .before .if1 .left)
-    (c .before .before .before .before .put-front .ensures ∙ ap (λ (ws : List ℕ). putFront p ws (a .markers) 0 (0 ∷ [])) (c .before .before .before .before .before .before .before .before .before .copy .ensures))
+    measure-done (a .state .now) (a .scratch .now) p (a .markers) (g .result) (g .ensures) (0 ∷ []) _ _
+    (c .before .before .before .before .before .before .before .before .before .before .before .if1 .left)
+    (c .before .before .before .before .put-front .ensures
+    ∙ ap (λ (ws : List ℕ). putFront p ws (a .markers) 0 (0 ∷ []))
+    (c .before .before .before .before .before .before .before .before .before .copy .ensures))
     (c .total .ensures)
 
 pub measure-spec : {M : Type 1} → statement M

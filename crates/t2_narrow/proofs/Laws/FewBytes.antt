@@ -36,8 +36,10 @@ small-from n bytes (l ∷ []) (m ∷ ms) h k =
     let ends : Small (record { passes = n + 1; bytes = bytes + l } ∷ []) = (omega arith, omega arith, tt) in
     either Small (not (eqb m 0) || true) (record { passes = n + 1; bytes = bytes + l } ∷ []) [] ends tt
 small-from n bytes (l ∷ x ∷ ls) (m ∷ ms) h k =
-    let ends : Small (record { passes = n + 1; bytes = bytes + l } ∷ segmentsFrom 0 0 (x ∷ ls) ms) = (omega arith, omega arith, small-from 0 0 (x ∷ ls) ms (omega arith) (omega arith)) in
-    either Small (not (eqb m 0) || false) (record { passes = n + 1; bytes = bytes + l } ∷ segmentsFrom 0 0 (x ∷ ls) ms) (segmentsFrom (n + 1) (bytes + l) (x ∷ ls) ms) ends (small-from (n + 1) (bytes + l) (x ∷ ls) ms (omega arith) (omega arith))
+    let ends : Small (record { passes = n + 1; bytes = bytes + l } ∷ segmentsFrom 0 0 (x ∷ ls) ms) =
+    (omega arith, omega arith, small-from 0 0 (x ∷ ls) ms (omega arith) (omega arith)) in
+    either Small (not (eqb m 0) || false) (record { passes = n + 1; bytes = bytes + l } ∷ segmentsFrom 0 0 (x ∷ ls) ms)
+    (segmentsFrom (n + 1) (bytes + l) (x ∷ ls) ms) ends (small-from (n + 1) (bytes + l) (x ∷ ls) ms (omega arith) (omega arith))
 
 small-segments : (ls ms : List ℕ) → sum ls < 2 ^ 24 → length ls ≤ 164 → Small (segmentsOf ls ms)
 unfolding segmentsOf
@@ -73,8 +75,11 @@ first-few : (c : ℕ) (cs ls ms : List ℕ) → sum ls < 2 ^ 24 → any (λ c. l
 unfolding any
 first-few c cs ls ms h f =
     let s = sum-splits c ls in
-    let k = ltb-false 164 c (or-left (ltb 164 c) (any (λ k. ltb 164 k) cs) f) in
-    (small-segments (take c ls) (take c ms) (omega arith) (omega (arith, length-take c ls)), omega arith, or-right (ltb 164 c) (any (λ k. ltb 164 k) cs) f)
+    let k = ltb-false 164 c (or-left (ltb 164 c) (any (λ k. ltb 164 k) cs) f) in (
+      small-segments (take c ls) (take c ms) (omega arith) (omega (arith, length-take c ls)),
+      omega arith,
+      or-right (ltb 164 c) (any (λ k. ltb 164 k) cs) f,
+    )
 
 few-not-long : (cs ls ms : List ℕ) → sum ls < 2 ^ 24 → any (λ c. ltb 164 c) cs ≡ false → segmentTooLong cs ls ms ≡ false
 unfolding segmentTooLong
@@ -83,7 +88,8 @@ few-not-long (c ∷ cs) ls ms h f =
     let r = first-few c cs ls ms h f in
     rw (none-long (segmentsOf (take c ls) (take c ms)) (r .0), few-not-long cs (drop c ls) (drop c ms) (r .1) (r .2))
 
-few-not-wide : (L : Layout) (ws : List ℕ) (ks : List Block) (cs ls ms : List ℕ) → AllPlaced L ks → ((p : ℕ) → L .BlockAt p → lengthBits ws p ≤ 25)
+few-not-wide : (L : Layout) (ws : List ℕ) (ks : List Block) (cs ls ms : List ℕ) → AllPlaced L ks
+    → ((p : ℕ) → L .BlockAt p → lengthBits ws p ≤ 25)
     → sum ls < 2 ^ 24 → any (λ c. ltb 164 c) cs ≡ false → fieldTooWide ws ks cs ls ms ≡ false
 unfolding fieldTooWide lengthBitsBefore
 few-not-wide L ws [] cs ls ms q b h f = refl
@@ -91,7 +97,10 @@ few-not-wide L ws (k ∷ ks) [] ls ms q b h f = refl
 few-not-wide L ws (k ∷ ks) (c ∷ cs) ls ms q b h f =
     let r = first-few c cs ls ms h f in
     let before = either (λ (z : ℕ). z ≤ 25) (isNew ws k) 3 (lengthBits ws (k .at)) (omega arith) (b (k .at) (q .0 .0 .block)) in
-    rw (block-narrow (cond (isNew ws k) 3 (lengthBits ws (k .at))) (segmentsOf (take c ls) (take c ms)) before (r .0), few-not-wide L ws ks cs (drop c ls) (drop c ms) (q .1) b (r .1) (r .2))
+    rw (
+      block-narrow (cond (isNew ws k) 3 (lengthBits ws (k .at))) (segmentsOf (take c ls) (take c ms)) before (r .0),
+      few-not-wide L ws ks cs (drop c ls) (drop c ms) (q .1) b (r .1) (r .2),
+    )
 
 -- ---- all bands
 
@@ -100,22 +109,27 @@ unfolding bitsUpTo25
 bits-known ws at [] p e n = absurd n
 bits-known ws at (b ∷ bs) p e (inl c) =
     let here : Bool = every (blocksIn b) (λ i. leb (lengthBits ws (at + 6 * bandNodes b + 4 * i)) 25) in
-    let k = every-true (blocksIn b) (λ i. leb (lengthBits ws (at + 6 * bandNodes b + 4 * i)) 25) (and-left here (bitsUpTo25 ws (at + bandLength b) bs) e) (c .0) (c .1) in
+    let k = every-true (blocksIn b) (λ i. leb (lengthBits ws (at + 6 * bandNodes b + 4 * i)) 25)
+    (and-left here (bitsUpTo25 ws (at + bandLength b) bs) e) (c .0) (c .1) in
     leb-true (lengthBits ws p) 25 (ap (λ (z : ℕ). leb (lengthBits ws z) 25) (c .2) ∙ k)
 bits-known ws at (b ∷ bs) p e (inr n) =
     let here : Bool = every (blocksIn b) (λ i. leb (lengthBits ws (at + 6 * bandNodes b + 4 * i)) 25) in
     bits-known ws (at + bandLength b) bs p (and-right here (bitsUpTo25 ws (at + bandLength b) bs) e) n
 
-pub few-neither : (ws : List ℕ) (bs : List Band) (cs ls ms : List ℕ) → (ltb (sum ls) (2 ^ 24) && bitsUpTo25 ws 13 bs) ≡ true → any (λ c. ltb 164 c) cs ≡ false
+pub few-neither : (ws : List ℕ) (bs : List Band) (cs ls ms : List ℕ) → (ltb (sum ls) (2 ^ 24) && bitsUpTo25 ws 13 bs) ≡ true
+    → any (λ c. ltb 164 c) cs ≡ false
     → (segmentTooLong cs ls ms ≡ false) × (fieldTooWide ws (blocks bs) cs ls ms ≡ false)
 few-neither ws bs cs ls ms e f =
     let few = ltb-true (sum ls) (2 ^ 24) (and-left (ltb (sum ls) (2 ^ 24)) (bitsUpTo25 ws 13 bs) e) in
-    let bits = and-right (ltb (sum ls) (2 ^ 24)) (bitsUpTo25 ws 13 bs) e in
-    (few-not-long cs ls ms few f, few-not-wide (layoutOf bs) ws (blocks bs) cs ls ms (blocks-placed bs) (λ p b. bits-known ws 13 bs p bits b) few f)
+    let bits = and-right (ltb (sum ls) (2 ^ 24)) (bitsUpTo25 ws 13 bs) e in (
+      few-not-long cs ls ms few f,
+      few-not-wide (layoutOf bs) ws (blocks bs) cs ls ms (blocks-placed bs) (λ p b. bits-known ws 13 bs p bits b) few f,
+    )
 
 -- ---- one band more
 
-pub bits-turn : (ws : List ℕ) (at : ℕ) (l : List Band) (b : Band) (bs : List Band) (first size : ℕ) (t : Bool) → l ≡ b ∷ bs → first ≡ at + 6 * bandNodes b → size ≡ blocksIn b
+pub bits-turn : (ws : List ℕ) (at : ℕ) (l : List Band) (b : Band) (bs : List Band) (first size : ℕ) (t : Bool) → l ≡ b ∷ bs → first
+    ≡ at + 6 * bandNodes b → size ≡ blocksIn b
     → t ≡ every size (λ i. leb (lengthBits ws (first + 4 * i)) 25) → (t && bitsUpTo25 ws (first + 4 * size) bs) ≡ bitsUpTo25 ws at l
 unfolding bitsUpTo25 bandLength
 bits-turn ws at l b bs first size t e p q h =

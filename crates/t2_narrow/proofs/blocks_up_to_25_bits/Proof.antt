@@ -23,11 +23,15 @@ loop-holds c = (omega arith, refl)
 loop-again : tie.Need-loop-again Inv-loop μ-loop
 loop-again c =
     let l = c .before .before .before .loop in
-    let s = c .before .before .before .before .before .args in
-    (omega arith, faults-turn (λ k. leb (lengthBits (s .state .now) (s .at + 4 * k)) 25) (l .i) (l .faults) _ (l .inv .1) (c .over .ensures))
+    let s = c .before .before .before .before .before .args in (
+      omega arith,
+      faults-turn (λ k. leb (lengthBits (s .state .now) (s .at + 4 * k)) 25) (l .i) (l .faults) _ (l .inv .1)
+          (c .over .ensures),
+    )
 
 returns : tie.Need-returns Inv-loop μ-loop
-returns c = let l = c .before .loop in let s = c .before .before .before .args in faults-end (λ k. leb (lengthBits (s .state .now) (s .at + 4 * k)) 25) (s .n) (l .i) (l .faults) (omega arith) (l .inv .1)
+returns c = let l = c .before .loop in let s = c .before .before .before .args in
+    faults-end (λ k. leb (lengthBits (s .state .now) (s .at + 4 * k)) 25) (s .n) (l .i) (l .faults) (omega arith) (l .inv .1)
 
 pub blocks-up-to-25-bits-spec : {M : Type 1} → statement M
 blocks-up-to-25-bits-spec =

@@ -16,7 +16,8 @@ returns c =
 returns-2 : tie.Need-returns-2
 returns-2 c =
     let s = c .before .before .before .before .before .args in
-    c .bands-up-to-25-bits .ensures ∙ simp (lt-ltb (sum (s .lengths .now)) (2 ^ 24) (omega (arith, c .before .if1 .left, c .before .before .total .ensures)))
+    c .bands-up-to-25-bits .ensures
+    ∙ simp (lt-ltb (sum (s .lengths .now)) (2 ^ 24) (omega (arith, c .before .if1 .left, c .before .before .total .ensures)))
 
 pub surely-narrow-spec : {M : Type 1} → statement M
 surely-narrow-spec = tie.close (tie.spec (λ c κs. search needs) returns (λ c κs. search needs) returns-2)

@@ -23,8 +23,11 @@ add-all c = omega (arith, c .shared-slice-known .given (c .before .before .loop 
 loop-again : tie.Need-loop-again Inv-loop μ-loop
 loop-again c =
     let l = c .before .before .loop in
-    let s = c .before .before .before .args in
-    (omega arith, omega (arith, c .shared-slice-known .given (l .i)), omega (arith, sum-turn (s .list .now) (l .i) (omega arith), l .inv .2))
+    let s = c .before .before .before .args in (
+      omega arith,
+      omega (arith, c .shared-slice-known .given (l .i)),
+      omega (arith, sum-turn (s .list .now) (l .i) (omega arith), l .inv .2),
+    )
 
 returns : tie.Need-returns Inv-loop μ-loop
 returns c =

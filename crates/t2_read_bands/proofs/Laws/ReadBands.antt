@@ -26,7 +26,8 @@ pub bands-fit : (ws : List ℕ) (at : ℕ) (bs : List Band) → layer ws < notYe
 unfolding bandsInRange
 bands-fit ws at [] h e = tt
 bands-fit ws at (b ∷ bs) h e = (
-  λ i l. let k = block-bounds ws (at + 6 * bandNodes b + 4 * i) (block-known ws at (b ∷ bs) (at + 6 * bandNodes b + 4 * i) e (inl (i, l, refl))) in
+  λ i l. let k = block-bounds ws (at + 6 * bandNodes b + 4 * i)
+      (block-known ws at (b ∷ bs) (at + 6 * bandNodes b + 4 * i) e (inl (i, l, refl))) in
       record { passes = omega (arith, k .0); bits = k .1; segment = record { used = k .2; limit = k .3 } },
   bands-fit ws (at + bandLength b) bs h (and-right (bandInRange ws at b) (bandsInRange ws (at + bandLength b) bs) e),
 )
@@ -36,7 +37,8 @@ band-still-fits start b ws vs e f i l = block-fits start (start + 6 * bandNodes 
 
 -- ---- the first of those that are left, and the rest from there
 
-module _ (src : List ℕ) (t start block : ℕ) (l : List Band) (b : Band) (bs : List Band) (are : l ≡ b ∷ bs) (a c : Reading) (is : c ≡ nextBlocks src t block (bandBlocks start b) a) where
+module _ (src : List ℕ) (t start block : ℕ) (l : List Band) (b : Band) (bs : List Band) (are : l ≡ b ∷ bs) (a c : Reading)
+    (is : c ≡ nextBlocks src t block (bandBlocks start b) a) where
   abbrev rest : List Block
   rest = blocksAt (start + bandLength b) bs
 
@@ -57,4 +59,6 @@ module _ (src : List ℕ) (t start block : ℕ) (l : List Band) (b : Band) (bs :
   bands-keep vs k =
       let q : ℕ = start + bandLength b in
       subst (Keeps src q vs) (sym is)
-      (blocks-keep src q vs t block (bandBlocks start b) a (from-before q start b (blocksIn b) 0 (omega arith) (omega (arith, band-length b))) (keeps-later src start q vs a (omega arith) k))
+      (blocks-keep src q vs t block (bandBlocks start b) a
+      (from-before q start b (blocksIn b) 0 (omega arith) (omega (arith, band-length b)))
+      (keeps-later src start q vs a (omega arith) k))

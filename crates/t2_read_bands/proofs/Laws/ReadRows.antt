@@ -41,28 +41,35 @@ module _ (size start : ℕ) (b : Band) (h : BandIn size start b) (y : ℕ) (l : 
   pub row-fits : (ws vs : List ℕ) → BandFits vs start b → drop (place .at) ws ≡ drop (place .at) vs → BlocksFit ws (place .at) (b .across)
   row-fits ws vs f e i k =
       let a : start + 6 * bandNodes b + 4 * (y * b .across + i) ≡ place .at + 4 * i = omega arith in
-      block-fits (place .at) (place .at + 4 * i) ws vs e (omega arith) (subst (BlockFits vs) a (f (y * b .across + i) (omega (arith, row-counts size start b h y l))))
+      block-fits (place .at) (place .at + 4 * i) ws vs e (omega arith)
+      (subst (BlockFits vs) a (f (y * b .across + i) (omega (arith, row-counts size start b h y l))))
 
-  module _ (src : List ℕ) (t block : ℕ) (a c : Reading) (is : c ≡ nextBlocks src t (block + y * b .across) (rowBlocks place row (b .planes) (b .across) 0) a) where
+  module _ (src : List ℕ) (t block : ℕ) (a c : Reading)
+      (is : c ≡ nextBlocks src t (block + y * b .across) (rowBlocks place row (b .planes) (b .across) 0) a) where
     is-first : c ≡ nextBlocks src t (block + y * b .across) first a
-    is-first = is ∙ ap (λ (ks : List Block). nextBlocks src t (block + y * b .across) ks a) (row-is size start b h y l (b .across) 0 (omega arith))
+    is-first = is ∙ ap (λ (ks : List Block). nextBlocks src t (block + y * b .across) ks a)
+        (row-is size start b h y l (b .across) 0 (omega arith))
 
     abbrev here : List Block → Reading
     here ks = nextBlocks src t (block + y * b .across) ks a
 
     pub rows-then : c .refusal ≡ 0 → nextBlocks src t (block + (y + 1) * b .across) (left (y + 1)) c ≡ here (left y)
     rows-then z =
-        let e : block + (y + 1) * b .across ≡ block + y * b .across + length first = omega (arith, length-from start b (b .across) (y * b .across + 0)) in
+        let e : block + (y + 1) * b .across
+        ≡ block + y * b .across + length first = omega (arith, length-from start b (b .across) (y * b .across + 0)) in
         ap (λ (n : ℕ). nextBlocks src t n (left (y + 1)) c) e
         ∙ blocks-then src t (left (y + 1)) c (block + y * b .across) first a is-first z
         ∙ sym (ap here (split-row size start b h y l))
 
     pub rows-refused : a .refusal ≡ 0 → c .refusal ≢ 0 → c ≡ here (left y)
-    rows-refused o z = blocks-refused src t (left (y + 1)) c (block + y * b .across) first a o is-first z ∙ sym (ap here (split-row size start b h y l))
+    rows-refused o z = blocks-refused src t (left (y + 1)) c (block + y * b .across) first a o is-first z
+        ∙ sym (ap here (split-row size start b h y l))
 
     pub rows-keep : (vs : List ℕ) → Keeps src (place .at) vs a → Keeps src (start + 6 * bandNodes b + 4 * ((y + 1) * b .across)) vs c
     rows-keep vs k =
         let q : ℕ = start + 6 * bandNodes b + 4 * ((y + 1) * b .across) in
         let r = row-counts size start b h y l in
         subst (Keeps src q vs) (sym is-first)
-        (blocks-keep src q vs t (block + y * b .across) first a (from-before q start b (b .across) (y * b .across + 0) (omega arith) (omega arith)) (keeps-later src (place .at) q vs a (omega arith) k))
+        (blocks-keep src q vs t (block + y * b .across) first a
+        (from-before q start b (b .across) (y * b .across + 0) (omega arith) (omega arith))
+        (keeps-later src (place .at) q vs a (omega arith) k))

@@ -28,7 +28,9 @@ Inv-loop words₀ reports₀ records₀ src band tree g layer block run₀ y₀ 
     × (length records ≡ length records₀)
     × (y ≤ band .down)
     × (run .refusal ≡ 0)
-    × (nextBlocks src layer (block + y * band .across) (blocksFrom (g .start) band (band .across * (band .down - y)) (y * band .across)) (reading words reports records run) ≡ nextBlocks src layer block (bandBlocks (g .start) band) (reading words₀ reports₀ records₀ run₀))
+    × (nextBlocks src layer (block + y * band .across)
+    (blocksFrom (g .start) band (band .across * (band .down - y)) (y * band .across)) (reading words reports records run)
+    ≡ nextBlocks src layer block (bandBlocks (g .start) band) (reading words₀ reports₀ records₀ run₀))
 
 abbrev μ-loop : tie.MeasureT-loop
 μ-loop words₀ reports₀ records₀ src band tree g layer block run₀ y₀ words reports records run y = band .down - y
@@ -54,7 +56,8 @@ opj-tgt-row-requires c κs =
     let a = s .args in
     let ge = s .pre .3 in
     let m = small (length (a .words .now)) (a .g .start) (a .band) (s .pre .2) in (
-      subst (λ (ls : List Level). SmallLevels ls (a .g .depth)) (sym (s .pre .4)) (subst (SmallLevels (padded (levels (a .band .across) (a .band .down)))) (sym (ap (λ (k : Grid). k .depth) ge)) m),
+      subst (λ (ls : List Level). SmallLevels ls (a .g .depth)) (sym (s .pre .4))
+          (subst (SmallLevels (padded (levels (a .band .across) (a .band .down)))) (sym (ap (λ (k : Grid). k .depth) ge)) m),
       omega (arith, c .before .before .before .loop .inv .4, s .pre .2 .sides .1),
       refl,
     )
@@ -76,8 +79,15 @@ mul-before c =
     let a = s .args in
     let l = c .before .before .before .before .before .before .loop in
     let ge = s .pre .3 in
-    let t : l .y < a .band .down = subst (λ (k : ℕ). l .y < k) (c .before .before .before .before .before .rows .ensures) (c .before .before .before .before .if1 .taken) in
-    let k = subst (λ (k : Grid). l .y * k .w < 0x1_0000_0000_0000_0000) (sym ge) (omega (arith, row-counts (length (a .words .now)) (a .g .start) (a .band) (s .pre .2) (l .y) t, blocks-up-to-4096 (a .band) (s .pre .2 .sides))) in
+    let t : l .y < a .band .down =
+    subst (λ (k : ℕ). l .y < k) (c .before .before .before .before .before .rows .ensures)
+    (c .before .before .before .before .if1 .taken) in
+    let k = subst (λ (k : Grid). l .y * k .w < 0x1_0000_0000_0000_0000) (sym ge)
+    (omega (
+      arith,
+      row-counts (length (a .words .now)) (a .g .start) (a .band) (s .pre .2) (l .y) t,
+      blocks-up-to-4096 (a .band) (s .pre .2 .sides),
+    )) in
     omega (arith, k)
 
 add-first : tie.Need-add-first Inv-loop μ-loop
@@ -86,8 +96,11 @@ add-first c =
     let a = s .args in
     let l = c .before .before .before .before .before .before .loop in
     let ge = s .pre .3 in
-    let t : l .y < a .band .down = subst (λ (k : ℕ). l .y < k) (c .before .before .before .before .before .rows .ensures) (c .before .before .before .before .if1 .taken) in
-    let k = subst (λ (k : Grid). a .block + l .y * k .w < 0x1_0000_0000_0000_0000) (sym ge) (omega (arith, row-number (length (a .words .now)) (a .g .start) (a .band) (s .pre .2) (l .y) t (a .block) (s .pre .6))) in
+    let t : l .y < a .band .down =
+    subst (λ (k : ℕ). l .y < k) (c .before .before .before .before .before .rows .ensures)
+    (c .before .before .before .before .if1 .taken) in
+    let k = subst (λ (k : Grid). a .block + l .y * k .w < 0x1_0000_0000_0000_0000) (sym ge)
+    (omega (arith, row-number (length (a .words .now)) (a .g .start) (a .band) (s .pre .2) (l .y) t (a .block) (s .pre .6))) in
     omega (arith, k)
 
 read-row-requires : tie.Need-read-row-requires Inv-loop μ-loop
@@ -96,65 +109,110 @@ read-row-requires c κs =
     let a = s .args in
     let l = c .before .before .before .before .before .before .before .before .before .before .loop in
     let ge = s .pre .3 in
-    let t : l .y < a .band .down = subst (λ (k : ℕ). l .y < k) (c .before .before .before .before .before .before .before .before .before .rows .ensures) (c .before .before .before .before .before .before .before .before .if1 .taken) in
+    let t : l .y < a .band .down =
+    subst (λ (k : ℕ). l .y < k) (c .before .before .before .before .before .before .before .before .before .rows .ensures)
+    (c .before .before .before .before .before .before .before .before .if1 .taken) in
     let ep = c .before .before .before .before .before .row-place .ensures ∙ ap (λ (k : Grid). rowPlace k (l .y)) ge in
     let er = c .before .before .before .before .before .before .opj-tgt-row .ensures ∙ (λ i. rowOver (s .pre .4 i) (ge i .depth) (l .y)) in
     let ew = ap (λ (k : Grid). k .w) ge in
     let b = subst (λ (k : ℕ). BandIn k (a .g .start) (a .band)) (sym (l .inv .1)) (s .pre .2) in (
       l .inv .0 .bits,
       l .inv .5,
-      at-row (length (l .words)) (a .g .start) (a .band) b (l .y) t (RowIn (length (l .words))) _ _ _ ep er ew (row-in (length (l .words)) (a .g .start) (a .band) b (l .y) t),
+      at-row (length (l .words)) (a .g .start) (a .band) b (l .y) t (RowIn (length (l .words))) _ _ _ ep er ew
+          (row-in (length (l .words)) (a .g .start) (a .band) b (l .y) t),
       s .pre .5,
-      subst (λ (k : ℕ). a .block + l .y * k + k ≤ 2 ^ 32) (sym ew) (row-number (length (l .words)) (a .g .start) (a .band) b (l .y) t (a .block) (s .pre .6)),
-      at-row (length (l .words)) (a .g .start) (a .band) b (l .y) t (λ p r n. BlocksFit (l .words) (p .at) n) _ _ _ ep er ew (row-fits (length (l .words)) (a .g .start) (a .band) b (l .y) t (l .words) (a .words .now) (s .pre .7) (l .inv .0 .after)),
+      subst (λ (k : ℕ). a .block + l .y * k + k ≤ 2 ^ 32) (sym ew)
+          (row-number (length (l .words)) (a .g .start) (a .band) b (l .y) t (a .block) (s .pre .6)),
+      at-row (length (l .words)) (a .g .start) (a .band) b (l .y) t (λ p r n. BlocksFit (l .words) (p .at) n) _ _ _ ep er ew
+          (row-fits (length (l .words)) (a .g .start) (a .band) b (l .y) t (l .words) (a .words .now) (s .pre .7) (l .inv .0 .after)),
     )
 
 same-length : tie.Need-same-length Inv-loop μ-loop
-same-length c = c .before .before .before .before .before .before .before .before .read-row .kept .0 ∙ c .before .before .before .before .before .before .before .before .before .before .before .before .before .before .before .before .before .before .before .loop .inv .1
+same-length c = c .before .before .before .before .before .before .before .before .read-row .kept .0
+    ∙ c .before .before .before .before .before .before .before .before .before .before .before .before .before .before .before
+    .before .before .before .before .loop .inv .1
 
 same-length-2 : tie.Need-same-length-2 Inv-loop μ-loop
-same-length-2 c = c .before .before .before .before .before .before .before .before .read-row .kept .1 .0 ∙ c .before .before .before .before .before .before .before .before .before .before .before .before .before .before .before .before .before .before .before .loop .inv .2
+same-length-2 c = c .before .before .before .before .before .before .before .before .read-row .kept .1 .0
+    ∙ c .before .before .before .before .before .before .before .before .before .before .before .before .before .before .before
+    .before .before .before .before .loop .inv .2
 
 same-length-3 : tie.Need-same-length-3 Inv-loop μ-loop
-same-length-3 c = c .before .before .before .before .before .before .before .before .read-row .kept .1 .1 .0 ∙ c .before .before .before .before .before .before .before .before .before .before .before .before .before .before .before .before .before .before .before .loop .inv .3
+same-length-3 c = c .before .before .before .before .before .before .before .before .read-row .kept .1 .1 .0
+    ∙ c .before .before .before .before .before .before .before .before .before .before .before .before .before .before .before
+    .before .before .before .before .loop .inv .3
 
 returns : tie.Need-returns Inv-loop μ-loop
 returns c =
-    let s = c .before .before .before .before .before .before .before .before .before .before .before .before .before .before .before .before .before .before .before .before .before .before .before .before in
+    let s = c .before .before .before .before .before .before .before .before .before .before .before .before .before .before
+    .before .before .before .before .before .before .before .before .before .before in
     let a = s .args in
-    let l = c .before .before .before .before .before .before .before .before .before .before .before .before .before .before .before .before .before .before .before .loop in
+    let l = c .before .before .before .before .before .before .before .before .before .before .before .before .before .before
+    .before .before .before .before .before .loop in
     let ge = s .pre .3 in
-    let t : l .y < a .band .down = subst (λ (k : ℕ). l .y < k) (c .before .before .before .before .before .before .before .before .before .before .before .before .before .before .before .before .before .before .rows .ensures) (c .before .before .before .before .before .before .before .before .before .before .before .before .before .before .before .before .before .if1 .taken) in
-    let ep = c .before .before .before .before .before .before .before .before .before .before .before .before .before .before .row-place .ensures ∙ ap (λ (k : Grid). rowPlace k (l .y)) ge in
-    let er = c .before .before .before .before .before .before .before .before .before .before .before .before .before .before .before .opj-tgt-row .ensures ∙ (λ i. rowOver (s .pre .4 i) (ge i .depth) (l .y)) in
+    let t : l .y < a .band .down =
+    subst (λ (k : ℕ). l .y < k)
+    (c .before .before .before .before .before .before .before .before .before .before .before .before .before .before .before
+    .before .before .before .rows .ensures)
+    (c .before .before .before .before .before .before .before .before .before .before .before .before .before .before .before
+    .before .before .if1 .taken) in
+    let ep = c .before .before .before .before .before .before .before .before .before .before .before .before .before .before
+    .row-place .ensures ∙ ap (λ (k : Grid). rowPlace k (l .y)) ge in
+    let er = c .before .before .before .before .before .before .before .before .before .before .before .before .before .before
+    .before .opj-tgt-row .ensures ∙ (λ i. rowOver (s .pre .4 i) (ge i .depth) (l .y)) in
     let ew = ap (λ (k : Grid). k .w) ge in
     let b = subst (λ (k : ℕ). BandIn k (a .g .start) (a .band)) (sym (l .inv .1)) (s .pre .2) in
     let u = reading (l .words) (l .reports) (l .records) (l .run) in
     let g = c .before .before .before .before .before .before .before .before .read-row in
-    let e = g .ensures ∙ (λ i. nextBlocks (a .src .now) (a .layer) (a .block + l .y * ew i) (rowBlocks (ep i) (er i) (a .band .planes) (ew i) 0) u) in
-    rows-refused (length (l .words)) (a .g .start) (a .band) b (l .y) t (a .src .now) (a .layer) (a .block) u _ e (l .inv .5) (c .if2 .taken) ∙ l .inv .6
+    let e = g .ensures ∙
+    (λ i. nextBlocks (a .src .now) (a .layer) (a .block + l .y * ew i) (rowBlocks (ep i) (er i) (a .band .planes) (ew i) 0) u) in
+    rows-refused (length (l .words)) (a .g .start) (a .band) b (l .y) t (a .src .now) (a .layer) (a .block) u _ e (l .inv .5)
+    (c .if2 .taken) ∙ l .inv .6
 
 add-y : tie.Need-add-y Inv-loop μ-loop
-add-y c = omega (arith, c .before .before .before .before .before .before .before .before .before .before .before .before .before .before .before .before .before .before .before .loop .inv .4, c .before .before .before .before .before .before .before .before .before .before .before .before .before .before .before .before .before .before .before .before .before .before .before .before .pre .2 .sides .1)
+add-y c = omega (
+  arith,
+  c .before .before .before .before .before .before .before .before .before .before .before .before .before .before .before
+      .before .before .before .before .loop .inv .4,
+  c .before .before .before .before .before .before .before .before .before .before .before .before .before .before .before
+      .before .before .before .before .before .before .before .before .before .pre .2 .sides .1,
+)
 
 loop-less : tie.Need-loop-less Inv-loop μ-loop
-loop-less c = omega (arith, c .before .before .before .before .before .before .before .before .before .before .before .before .before .before .before .before .before .before .rows .ensures, c .before .before .before .before .before .before .before .before .before .before .before .before .before .before .before .before .before .if1 .taken)
+loop-less c = omega (
+  arith,
+  c .before .before .before .before .before .before .before .before .before .before .before .before .before .before .before
+      .before .before .before .rows .ensures,
+  c .before .before .before .before .before .before .before .before .before .before .before .before .before .before .before
+      .before .before .if1 .taken,
+)
 
 loop-again : tie.Need-loop-again Inv-loop μ-loop
 loop-again c =
-    let s = c .before .before .before .before .before .before .before .before .before .before .before .before .before .before .before .before .before .before .before .before .before .before .before .before in
+    let s = c .before .before .before .before .before .before .before .before .before .before .before .before .before .before
+    .before .before .before .before .before .before .before .before .before .before in
     let a = s .args in
-    let l = c .before .before .before .before .before .before .before .before .before .before .before .before .before .before .before .before .before .before .before .loop in
+    let l = c .before .before .before .before .before .before .before .before .before .before .before .before .before .before
+    .before .before .before .before .before .loop in
     let ge = s .pre .3 in
-    let t : l .y < a .band .down = subst (λ (k : ℕ). l .y < k) (c .before .before .before .before .before .before .before .before .before .before .before .before .before .before .before .before .before .before .rows .ensures) (c .before .before .before .before .before .before .before .before .before .before .before .before .before .before .before .before .before .if1 .taken) in
-    let ep = c .before .before .before .before .before .before .before .before .before .before .before .before .before .before .row-place .ensures ∙ ap (λ (k : Grid). rowPlace k (l .y)) ge in
-    let er = c .before .before .before .before .before .before .before .before .before .before .before .before .before .before .before .opj-tgt-row .ensures ∙ (λ i. rowOver (s .pre .4 i) (ge i .depth) (l .y)) in
+    let t : l .y < a .band .down =
+    subst (λ (k : ℕ). l .y < k)
+    (c .before .before .before .before .before .before .before .before .before .before .before .before .before .before .before
+    .before .before .before .rows .ensures)
+    (c .before .before .before .before .before .before .before .before .before .before .before .before .before .before .before
+    .before .before .if1 .taken) in
+    let ep = c .before .before .before .before .before .before .before .before .before .before .before .before .before .before
+    .row-place .ensures ∙ ap (λ (k : Grid). rowPlace k (l .y)) ge in
+    let er = c .before .before .before .before .before .before .before .before .before .before .before .before .before .before
+    .before .opj-tgt-row .ensures ∙ (λ i. rowOver (s .pre .4 i) (ge i .depth) (l .y)) in
     let ew = ap (λ (k : Grid). k .w) ge in
     let b = subst (λ (k : ℕ). BandIn k (a .g .start) (a .band)) (sym (l .inv .1)) (s .pre .2) in
     let u = reading (l .words) (l .reports) (l .records) (l .run) in
     let g = c .before .before .before .before .before .before .before .before .read-row in
-    let e = g .ensures ∙ (λ i. nextBlocks (a .src .now) (a .layer) (a .block + l .y * ew i) (rowBlocks (ep i) (er i) (a .band .planes) (ew i) 0) u) in (
-      rows-keep (length (l .words)) (a .g .start) (a .band) b (l .y) t (a .src .now) (a .layer) (a .block) u _ e (a .words .now) (l .inv .0),
+    let e = g .ensures ∙
+    (λ i. nextBlocks (a .src .now) (a .layer) (a .block + l .y * ew i) (rowBlocks (ep i) (er i) (a .band .planes) (ew i) 0) u) in (
+      rows-keep (length (l .words)) (a .g .start) (a .band) b (l .y) t (a .src .now) (a .layer) (a .block) u _ e (a .words .now)
+          (l .inv .0),
       g .kept .0 ∙ l .inv .1,
       g .kept .1 .0 ∙ l .inv .2,
       g .kept .1 .1 .0 ∙ l .inv .3,
@@ -179,7 +237,10 @@ returns-2 c =
     let a = s .args in
     let l = c .before .before .loop in
     let d : a .band .down ≤ l .y = subst (λ (k : ℕ). k ≤ l .y) (c .before .rows .ensures) (c .if1 .left) in
-    sym (ap (λ (ks : List Block). nextBlocks (a .src .now) (a .layer) (a .block + l .y * a .band .across) ks (reading (l .words) (l .reports) (l .records) (l .run))) (none-left (length (a .words .now)) (a .g .start) (a .band) (s .pre .2) (l .y) d)) ∙ l .inv .6
+    sym
+    (ap (λ (ks : List Block). nextBlocks (a .src .now) (a .layer) (a .block + l .y * a .band .across) ks
+    (reading (l .words) (l .reports) (l .records) (l .run)))
+    (none-left (length (a .words .now)) (a .g .start) (a .band) (s .pre .2) (l .y) d)) ∙ l .inv .6
 
 pub read-band-spec : {M : Type 1} → statement M
 read-band-spec =

@@ -33,12 +33,14 @@ Inv-loop words₀ reports₀ records₀ src n layer bands trees run₀ start₀ 
     × (block ≤ 4096 * i)
     × (endOf start (drop i (take n bands)) ≤ length words₀)
     × (BandsFit words₀ start (drop i (take n bands)))
-    × (nextBlocks src layer block (blocksAt start (drop i (take n bands))) (reading words reports records run) ≡ nextBlocks src layer 0 (blocks (take n bands)) (reading words₀ reports₀ records₀ run₀))
+    × (nextBlocks src layer block (blocksAt start (drop i (take n bands))) (reading words reports records run)
+    ≡ nextBlocks src layer 0 (blocks (take n bands)) (reading words₀ reports₀ records₀ run₀))
 
 abbrev μ-loop : tie.MeasureT-loop
 μ-loop words₀ reports₀ records₀ src n layer bands trees run₀ start₀ block₀ i₀ words reports records run start block i = n - i
 
--- What a need asks is proved of variables, or once where it first holds: `omega` and `search` at a need read all that its `c` holds, up to half a
+-- What a need asks is proved of variables, or once where it first holds: `omega` and `search` at a need read all that its `c`
+-- holds, up to half a
 -- second each time.
 
 all-three : (s : tie.Start Inv-loop μ-loop) → s .args .n ≤ length (s .args .t6)
@@ -93,7 +95,8 @@ mul-tree : tie.Need-mul-tree Inv-loop μ-loop
 mul-tree c = omega (arith, c .before .loop-test .taken, c .before .before .before .before .before .before .before .before .pre .2)
 
 array-copy-out-tree : tie.Need-array-copy-out-tree Inv-loop μ-loop
-array-copy-out-tree c = omega (arith, c .before .loop-test .taken, c .before .before .before .before .before .before .before .before .pre .2)
+array-copy-out-tree c =
+    omega (arith, c .before .loop-test .taken, c .before .before .before .before .before .before .before .before .pre .2)
 
 grid-of-requires : tie.Need-grid-of-requires Inv-loop μ-loop
 grid-of-requires c κs =
@@ -116,89 +119,128 @@ read-band-requires c κs =
     let nb = next-band (a .t6) (a .n) (l .i) (all-three s) t in (
       l .inv .0 .bits,
       l .inv .5,
-      subst (λ (k : Grid). BandIn (length (l .words)) (k .start) b) (sym ge) (record { sides = m; inside = band-ends _ _ _ _ _ after v (l .inv .7) (l .inv .1) }),
+      subst (λ (k : Grid). BandIn (length (l .words)) (k .start) b) (sym ge)
+          (record { sides = m; inside = band-ends _ _ _ _ _ after v (l .inv .7) (l .inv .1) }),
       subst (λ (k : Grid). k ≡ gridOf (k .start) b) (sym ge) refl,
-      ap (λ (ts : List (List Level)). getD ts (l .i) []) (c .before .before .before .before .before .before .before .before .band-levels .ensures) ∙ band-levels-at (a .t6) (l .i) (band-there _ _ _ t (all-three s)),
+      ap (λ (ts : List (List Level)). getD ts (l .i) [])
+          (c .before .before .before .before .before .before .before .before .band-levels .ensures)
+          ∙ band-levels-at (a .t6) (l .i) (band-there _ _ _ t (all-three s)),
       s .pre .5,
       blocks-before (l .block) (l .i) (a .n) (l .inv .6) t (s .pre .2),
-      subst (λ (k : Grid). BandFits (l .words) (k .start) b) (sym ge) (band-still-fits (l .start) b (l .words) (a .words .now) (l .inv .0 .after) (subst (BandsFit (a .words .now) (l .start)) nb (l .inv .8) .0)),
+      subst (λ (k : Grid). BandFits (l .words) (k .start) b) (sym ge)
+          (band-still-fits (l .start) b (l .words) (a .words .now) (l .inv .0 .after)
+          (subst (BandsFit (a .words .now) (l .start)) nb (l .inv .8) .0)),
     )
 
 same-length : tie.Need-same-length Inv-loop μ-loop
-same-length c = c .before .before .before .before .before .before .before .before .read-band .kept .0 ∙ c .before .before .before .before .before .before .before .before .before .before .before .before .before .before .before .before .loop .inv .1
+same-length c = c .before .before .before .before .before .before .before .before .read-band .kept .0
+    ∙ c .before .before .before .before .before .before .before .before .before .before .before .before .before .before .before
+    .before .loop .inv .1
 
 same-length-2 : tie.Need-same-length-2 Inv-loop μ-loop
-same-length-2 c = c .before .before .before .before .before .before .before .before .read-band .kept .1 .0 ∙ c .before .before .before .before .before .before .before .before .before .before .before .before .before .before .before .before .loop .inv .2
+same-length-2 c = c .before .before .before .before .before .before .before .before .read-band .kept .1 .0
+    ∙ c .before .before .before .before .before .before .before .before .before .before .before .before .before .before .before
+    .before .loop .inv .2
 
 same-length-3 : tie.Need-same-length-3 Inv-loop μ-loop
-same-length-3 c = c .before .before .before .before .before .before .before .before .read-band .kept .1 .1 .0 ∙ c .before .before .before .before .before .before .before .before .before .before .before .before .before .before .before .before .loop .inv .3
+same-length-3 c = c .before .before .before .before .before .before .before .before .read-band .kept .1 .1 .0
+    ∙ c .before .before .before .before .before .before .before .before .before .before .before .before .before .before .before
+    .before .loop .inv .3
 
 returns : tie.Need-returns Inv-loop μ-loop
 returns c =
-    let s = c .before .before .before .before .before .before .before .before .before .before .before .before .before .before .before .before .before .before .before .before .before .before in
+    let s = c .before .before .before .before .before .before .before .before .before .before .before .before .before .before
+    .before .before .before .before .before .before .before .before in
     let a = s .args in
-    let l = c .before .before .before .before .before .before .before .before .before .before .before .before .before .before .before .before .loop in
-    let t = c .before .before .before .before .before .before .before .before .before .before .before .before .before .before .before .loop-test .taken in
+    let l = c .before .before .before .before .before .before .before .before .before .before .before .before .before .before
+    .before .before .loop in
+    let t = c .before .before .before .before .before .before .before .before .before .before .before .before .before .before
+    .before .loop-test .taken in
     let b : Band = getD (a .t6) (l .i) noBand in
     let m = sides-of-first (a .t6) (a .n) (l .i) (all-three s) t (s .pre .3) in
     let nb = next-band (a .t6) (a .n) (l .i) (all-three s) t in
     let ge = c .before .before .before .before .before .before .before .before .before .before .before .before .grid-of .ensures in
     let u = reading (l .words) (l .reports) (l .records) (l .run) in
-    let e = c .before .before .before .before .before .before .before .before .read-band .ensures ∙ ap (λ (k : Grid). nextBlocks (a .src .now) (a .layer) (l .block) (bandBlocks (k .start) b) u) ge in
-    bands-refused (a .src .now) (a .layer) (l .start) (l .block) _ b (drop (l .i + 1) (take (a .n) (a .t6))) nb u _ e (l .inv .5) (c .if1 .taken) ∙ l .inv .9
+    let e = c .before .before .before .before .before .before .before .before .read-band .ensures
+    ∙ ap (λ (k : Grid). nextBlocks (a .src .now) (a .layer) (l .block) (bandBlocks (k .start) b) u) ge in
+    bands-refused (a .src .now) (a .layer) (l .start) (l .block) _ b (drop (l .i + 1) (take (a .n) (a .t6))) nb u _ e (l .inv .5)
+    (c .if1 .taken) ∙ l .inv .9
 
 grid-end-requires : tie.Need-grid-end-requires Inv-loop μ-loop
 grid-end-requires c κs =
-    let s = c .before .before .before .before .before .before .before .before .before .before .before .before .before .before .before .before .before .before .before .before .before .before in
+    let s = c .before .before .before .before .before .before .before .before .before .before .before .before .before .before
+    .before .before .before .before .before .before .before .before in
     let a = s .args in
-    let l = c .before .before .before .before .before .before .before .before .before .before .before .before .before .before .before .before .loop in
-    let t = c .before .before .before .before .before .before .before .before .before .before .before .before .before .before .before .loop-test .taken in
+    let l = c .before .before .before .before .before .before .before .before .before .before .before .before .before .before
+    .before .before .loop in
+    let t = c .before .before .before .before .before .before .before .before .before .before .before .before .before .before
+    .before .loop-test .taken in
     let ge = c .before .before .before .before .before .before .before .before .before .before .before .before .grid-of .ensures in
     let b : Band = getD (a .t6) (l .i) noBand in
-    subst (λ (k : Grid). SidesUpTo64 b × (k ≡ gridOf (k .start) b) × (k .start < 2 ^ 63)) (sym ge)
-    (sides-of-first (a .t6) (a .n) (l .i) (all-three s) t (s .pre .3), refl, starts-below (l .start) _ _ (end-after (l .start) (drop (l .i) (take (a .n) (a .t6)))) (l .inv .7) (room s))
+    subst (λ (k : Grid). SidesUpTo64 b × (k ≡ gridOf (k .start) b) × (k .start < 2 ^ 63)) (sym ge) (
+      sides-of-first (a .t6) (a .n) (l .i) (all-three s) t (s .pre .3),
+      refl,
+      starts-below (l .start) _ _ (end-after (l .start) (drop (l .i) (take (a .n) (a .t6)))) (l .inv .7) (room s),
+    )
 
 add-block : tie.Need-add-block Inv-loop μ-loop
 add-block c =
-    let s = c .before .before .before .before .before .before .before .before .before .before .before .before .before .before .before .before .before .before .before .before .before .before .before .before in
+    let s = c .before .before .before .before .before .before .before .before .before .before .before .before .before .before
+    .before .before .before .before .before .before .before .before .before .before in
     let a = s .args in
-    let l = c .before .before .before .before .before .before .before .before .before .before .before .before .before .before .before .before .before .before .loop in
-    let t = c .before .before .before .before .before .before .before .before .before .before .before .before .before .before .before .before .before .loop-test .taken in
+    let l = c .before .before .before .before .before .before .before .before .before .before .before .before .before .before
+    .before .before .before .before .loop in
+    let t = c .before .before .before .before .before .before .before .before .before .before .before .before .before .before
+    .before .before .before .loop-test .taken in
     let b : Band = getD (a .t6) (l .i) noBand in
     let m = sides-of-first (a .t6) (a .n) (l .i) (all-three s) t (s .pre .3) in
     blocks-fit (l .block) (l .i) (a .n) _ _ (c .band-blocks .ensures) (blocks-up-to-4096 b m) (l .inv .6) t (s .pre .2)
 
 add-i : tie.Need-add-i Inv-loop μ-loop
 add-i c =
-    let s = c .before .before .before .before .before .before .before .before .before .before .before .before .before .before .before .before .before .before .before .before .before .before .before .before in
-    let l = c .before .before .before .before .before .before .before .before .before .before .before .before .before .before .before .before .before .before .loop in
-    counted (l .i) (s .args .n) (c .before .before .before .before .before .before .before .before .before .before .before .before .before .before .before .before .before .loop-test .taken) (s .pre .2)
+    let s = c .before .before .before .before .before .before .before .before .before .before .before .before .before .before
+    .before .before .before .before .before .before .before .before .before .before in
+    let l = c .before .before .before .before .before .before .before .before .before .before .before .before .before .before
+    .before .before .before .before .loop in
+    counted (l .i) (s .args .n)
+    (c .before .before .before .before .before .before .before .before .before .before .before .before .before .before .before
+    .before .before .loop-test .taken) (s .pre .2)
 
 loop-less : tie.Need-loop-less Inv-loop μ-loop
 loop-less c =
-    let s = c .before .before .before .before .before .before .before .before .before .before .before .before .before .before .before .before .before .before .before .before .before .before .before .before in
-    let l = c .before .before .before .before .before .before .before .before .before .before .before .before .before .before .before .before .before .before .loop in
-    fewer (l .i) (s .args .n) (c .before .before .before .before .before .before .before .before .before .before .before .before .before .before .before .before .before .loop-test .taken)
+    let s = c .before .before .before .before .before .before .before .before .before .before .before .before .before .before
+    .before .before .before .before .before .before .before .before .before .before in
+    let l = c .before .before .before .before .before .before .before .before .before .before .before .before .before .before
+    .before .before .before .before .loop in
+    fewer (l .i) (s .args .n)
+    (c .before .before .before .before .before .before .before .before .before .before .before .before .before .before .before
+    .before .before .loop-test .taken)
 
 loop-again : tie.Need-loop-again Inv-loop μ-loop
 loop-again c =
-    let s = c .before .before .before .before .before .before .before .before .before .before .before .before .before .before .before .before .before .before .before .before .before .before .before .before in
+    let s = c .before .before .before .before .before .before .before .before .before .before .before .before .before .before
+    .before .before .before .before .before .before .before .before .before .before in
     let a = s .args in
-    let l = c .before .before .before .before .before .before .before .before .before .before .before .before .before .before .before .before .before .before .loop in
-    let t = c .before .before .before .before .before .before .before .before .before .before .before .before .before .before .before .before .before .loop-test .taken in
+    let l = c .before .before .before .before .before .before .before .before .before .before .before .before .before .before
+    .before .before .before .before .loop in
+    let t = c .before .before .before .before .before .before .before .before .before .before .before .before .before .before
+    .before .before .before .loop-test .taken in
     let b : Band = getD (a .t6) (l .i) noBand in
     let m = sides-of-first (a .t6) (a .n) (l .i) (all-three s) t (s .pre .3) in
     let v = end-turn (a .t6) (a .n) (l .i) (l .start) (all-three s) t in
     let after = end-after (l .start + bandLength b) (drop (l .i + 1) (take (a .n) (a .t6))) in
     let nb = next-band (a .t6) (a .n) (l .i) (all-three s) t in
     let f = c .before .before .before .before .before .before .before .before .before .before .read-band in
-    let ge = c .before .before .before .before .before .before .before .before .before .before .before .before .before .before .grid-of .ensures in
+    let ge = c .before .before .before .before .before .before .before .before .before .before .before .before .before .before
+    .grid-of .ensures in
     let el = c .before .grid-end .ensures ∙ ap (λ (k : Grid). k .start + bandLength b) ge in
     let eb = c .band-blocks .ensures in
     let before = reading (l .words) (l .reports) (l .records) (l .run) in
     let e = f .ensures ∙ ap (λ (k : Grid). nextBlocks (a .src .now) (a .layer) (l .block) (bandBlocks (k .start) b) before) ge in
     let u = reading (f .last .0) (f .last .1 .0) (f .last .1 .1 .0) (f .result) in (
-      subst (λ (z : ℕ). Keeps (a .src .now) z (a .words .now) u) (sym el) (bands-keep (a .src .now) (a .layer) (l .start) (l .block) _ b (drop (l .i + 1) (take (a .n) (a .t6))) nb before _ e (a .words .now) (l .inv .0)),
+      subst (λ (z : ℕ). Keeps (a .src .now) z (a .words .now) u) (sym el)
+          (bands-keep (a .src .now) (a .layer) (l .start) (l .block) _ b (drop (l .i + 1) (take (a .n) (a .t6))) nb before _ e
+          (a .words .now) (l .inv .0)),
       f .kept .0 ∙ l .inv .1,
       f .kept .1 .0 ∙ l .inv .2,
       f .kept .1 .1 .0 ∙ l .inv .3,
@@ -206,8 +248,11 @@ loop-again c =
       c .before .before .if1 .left,
       blocks-then (l .block) (l .i) _ _ eb (blocks-up-to-4096 b m) (l .inv .6),
       subst (λ (z : ℕ). endOf z (drop (l .i + 1) (take (a .n) (a .t6))) ≤ length (a .words .now)) (sym el) (ends-then _ _ _ v (l .inv .7)),
-      subst (λ (z : ℕ). BandsFit (a .words .now) z (drop (l .i + 1) (take (a .n) (a .t6)))) (sym el) (subst (BandsFit (a .words .now) (l .start)) nb (l .inv .8) .1),
-      (λ j. nextBlocks (a .src .now) (a .layer) (l .block + eb j) (blocksAt (el j) (drop (l .i + 1) (take (a .n) (a .t6)))) u) ∙ bands-then (a .src .now) (a .layer) (l .start) (l .block) _ b (drop (l .i + 1) (take (a .n) (a .t6))) nb before _ e (c .before .before .if1 .left) ∙ l .inv .9,
+      subst (λ (z : ℕ). BandsFit (a .words .now) z (drop (l .i + 1) (take (a .n) (a .t6)))) (sym el)
+          (subst (BandsFit (a .words .now) (l .start)) nb (l .inv .8) .1),
+      (λ j. nextBlocks (a .src .now) (a .layer) (l .block + eb j) (blocksAt (el j) (drop (l .i + 1) (take (a .n) (a .t6)))) u)
+          ∙ bands-then (a .src .now) (a .layer) (l .start) (l .block) _ b (drop (l .i + 1) (take (a .n) (a .t6))) nb before _ e
+          (c .before .before .if1 .left) ∙ l .inv .9,
     )
 
 same-length-4 : tie.Need-same-length-4 Inv-loop μ-loop
@@ -225,7 +270,9 @@ returns-2 c =
     let s = c .before .before .before .before .before .before .before in
     let a = s .args in
     let l = c .before .loop in
-    sym (ap (λ (bs : List Band). nextBlocks (a .src .now) (a .layer) (l .block) (blocksAt (l .start) bs) (reading (l .words) (l .reports) (l .records) (l .run))) (no-more-bands (a .t6) (a .n) (l .i) (c .loop-test .left))) ∙ l .inv .9
+    sym
+    (ap (λ (bs : List Band). nextBlocks (a .src .now) (a .layer) (l .block) (blocksAt (l .start) bs)
+    (reading (l .words) (l .reports) (l .records) (l .run))) (no-more-bands (a .t6) (a .n) (l .i) (c .loop-test .left))) ∙ l .inv .9
 
 pub read-bands-spec : {M : Type 1} → statement M
 read-bands-spec =

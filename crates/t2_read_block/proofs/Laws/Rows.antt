@@ -46,17 +46,20 @@ module _ (src : List ℕ) (t i : ℕ) (k : Block) (ks : List Block) (a b : Readi
 -- ---- blocks in two parts
 
 module _ (src : List ℕ) (t : ℕ) (js : List Block) (b : Reading) where
-  pub blocks-then : (i : ℕ) (ks : List Block) (a : Reading) → b ≡ nextBlocks src t i ks a → b .refusal ≡ 0 → nextBlocks src t (i + length ks) js b ≡ nextBlocks src t i (ks ++ js) a
+  pub blocks-then : (i : ℕ) (ks : List Block) (a : Reading) → b ≡ nextBlocks src t i ks a → b .refusal ≡ 0
+      → nextBlocks src t (i + length ks) js b ≡ nextBlocks src t i (ks ++ js) a
   unfolding nextBlocks
   blocks-then i [] a is z = let e : i + 0 ≡ i = omega arith in λ j. nextBlocks src t (e j) js (is j)
   blocks-then i (k ∷ ks) a is z =
       let c : Reading = nextBlock src t i k a in
       on-eq (c .refusal) 0
       (λ y. let e : i + suc (length ks) ≡ i + 1 + length ks = omega arith in
-      ap (λ (n : ℕ). nextBlocks src t n js b) e ∙ blocks-then (i + 1) ks c (is ∙ if-eq (c .refusal) 0 _ _ y) z ∙ sym (if-eq (c .refusal) 0 _ _ y))
+      ap (λ (n : ℕ). nextBlocks src t n js b) e ∙ blocks-then (i + 1) ks c (is ∙ if-eq (c .refusal) 0 _ _ y) z
+      ∙ sym (if-eq (c .refusal) 0 _ _ y))
       (λ y. absurd (y (sym (ap (λ (x : Reading). x .refusal) (is ∙ if-ne (c .refusal) 0 _ _ y)) ∙ z)))
 
-  pub blocks-refused : (i : ℕ) (ks : List Block) (a : Reading) → a .refusal ≡ 0 → b ≡ nextBlocks src t i ks a → b .refusal ≢ 0 → b ≡ nextBlocks src t i (ks ++ js) a
+  pub blocks-refused : (i : ℕ) (ks : List Block) (a : Reading) → a .refusal ≡ 0 → b ≡ nextBlocks src t i ks a → b .refusal ≢ 0 → b
+      ≡ nextBlocks src t i (ks ++ js) a
   unfolding nextBlocks
   blocks-refused i [] a o is z = absurd (z (ap (λ (x : Reading). x .refusal) is ∙ o))
   blocks-refused i (k ∷ ks) a o is z =
@@ -67,11 +70,13 @@ module _ (src : List ℕ) (t : ℕ) (js : List Block) (b : Reading) where
 
 -- ---- along a row
 
-module _ (src : List ℕ) (t block : ℕ) (p : Place) (row : List ℕ) (planes n i : ℕ) (h : i < n) (a b : Reading) (is : b ≡ nextBlock src t (block + i) (blockIn (placeAt p i) row planes) a) where
+module _ (src : List ℕ) (t block : ℕ) (p : Place) (row : List ℕ) (planes n i : ℕ) (h : i < n) (a b : Reading)
+    (is : b ≡ nextBlock src t (block + i) (blockIn (placeAt p i) row planes) a) where
   abbrev rest : List Block
   rest = rowBlocks p row planes (n - (i + 1)) (i + 1)
 
-  pub reads-then : b .refusal ≡ 0 → nextBlocks src t (block + (i + 1)) rest b ≡ nextBlocks src t (block + i) (rowBlocks p row planes (n - i) i) a
+  pub reads-then : b .refusal ≡ 0 → nextBlocks src t (block + (i + 1)) rest b
+      ≡ nextBlocks src t (block + i) (rowBlocks p row planes (n - i) i) a
   reads-then z =
       let e : block + (i + 1) ≡ block + i + 1 = omega arith in
       ap (λ (m : ℕ). nextBlocks src t m rest b) e
@@ -79,9 +84,12 @@ module _ (src : List ℕ) (t block : ℕ) (p : Place) (row : List ℕ) (planes n
       ∙ sym (ap (λ (ks : List Block). nextBlocks src t (block + i) ks a) (row-turn p row planes n i h))
 
   pub reads-no-more : b .refusal ≢ 0 → b ≡ nextBlocks src t (block + i) (rowBlocks p row planes (n - i) i) a
-  reads-no-more z = blocks-stop src t (block + i) (blockIn (placeAt p i) row planes) rest a b is z ∙ sym (ap (λ (ks : List Block). nextBlocks src t (block + i) ks a) (row-turn p row planes n i h))
+  reads-no-more z = blocks-stop src t (block + i) (blockIn (placeAt p i) row planes) rest a b is z
+      ∙ sym (ap (λ (ks : List Block). nextBlocks src t (block + i) ks a) (row-turn p row planes n i h))
 
   pub keeps-then : (size : ℕ) (vs : List ℕ) → RowIn size p row n → Keeps src (p .at + 4 * i) vs a → Keeps src (p .at + 4 * (i + 1)) vs b
   keeps-then size vs r k =
       let q : ℕ = p .at + 4 * (i + 1) in
-      subst (Keeps src q vs) (sym is) (block-keeps src q vs (blockIn (placeAt p i) row planes) (before-next size n i p row h r planes) t (block + i) a (keeps-later src (p .at + 4 * i) q vs a (omega arith) k))
+      subst (Keeps src q vs) (sym is)
+      (block-keeps src q vs (blockIn (placeAt p i) row planes) (before-next size n i p row h r planes) t (block + i) a
+      (keeps-later src (p .at + 4 * i) q vs a (omega arith) k))

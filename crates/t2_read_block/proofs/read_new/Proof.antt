@@ -30,8 +30,15 @@ read-first-requires c κs =
     let w = c .before .before .before .before .before .before .before .opj-tgt-decode in
     let ns = reverse (pathOver (s .args .row .now) (p .depth) (p .x)) in
     let few = readPath-ct (s .args .src .now) (p .incl) (s .args .layer + 1) ns 0 (s .args .words .now) (s .args .r .bio) (s .pre .0) in
-    let same = ap (λ (v : LeafAfter). drop (p .at) (v .words)) (w .ensures) ∙ path-keeps (s .args .src .now) (p .at) (p .incl) (s .args .layer + 1) ns 0 (s .args .words .now) (s .args .r .bio) (path-before (p .at) (p .incl) (s .args .row .now) (p .depth) (p .x) (s .pre .1 .incl)) in (
-      omega (arith, ap (λ (r : Run). r .bio .ct) (c .before .before .before .before .moved .ensures), ap (λ (v : LeafAfter). v .bio .ct) (w .ensures), few),
+    let same = ap (λ (v : LeafAfter). drop (p .at) (v .words)) (w .ensures)
+    ∙ path-keeps (s .args .src .now) (p .at) (p .incl) (s .args .layer + 1) ns 0 (s .args .words .now) (s .args .r .bio)
+    (path-before (p .at) (p .incl) (s .args .row .now) (p .depth) (p .x) (s .pre .1 .incl)) in (
+      omega (
+        arith,
+        ap (λ (r : Run). r .bio .ct) (c .before .before .before .before .moved .ensures),
+        ap (λ (v : LeafAfter). v .bio .ct) (w .ensures),
+        few,
+      ),
       subst (λ (n : ℕ). BlockIn n p (s .args .row .now)) (sym (w .kept .0)) (s .pre .1),
       s .pre .3,
       fits-same (p .at) (p .at) (w .last .0) (s .args .words .now) same (omega arith) (s .pre .4),
@@ -39,15 +46,27 @@ read-first-requires c κs =
 
 returns : tie.Need-returns
 returns c =
-    let s = c .before .before .before .before .before .before .before .before .before .before .before .before .before .before .before .before .before .before .before .before in
-    let w = c .before .before .before .before .before .before .before .before .before .before .before .before .before .before .opj-tgt-decode in
-    new-included (s .args .src .now) (s .args .layer) (s .args .block) (s .args .p) (s .args .row .now) (s .args .planes) (reading (s .args .words .now) (s .args .reports .now) (s .args .records .now) (s .args .r)) (leafAfter (w .last .0) (w .result)) (c .before .before .before .before .before .before .before .before .before .before .before .moved .result) (w .ensures) (c .before .before .before .before .before .before .before .before .before .before .before .moved .ensures) _ (c .before .before .before .before .before .before .before .before .before .before .if1 .taken) (c .before .before .before .before .before .before .read-first .ensures)
+    let s = c .before .before .before .before .before .before .before .before .before .before .before .before .before .before
+    .before .before .before .before .before .before in
+    let w = c .before .before .before .before .before .before .before .before .before .before .before .before .before .before
+    .opj-tgt-decode in
+    new-included (s .args .src .now) (s .args .layer) (s .args .block) (s .args .p) (s .args .row .now) (s .args .planes)
+    (reading (s .args .words .now) (s .args .reports .now) (s .args .records .now) (s .args .r))
+    (leafAfter (w .last .0) (w .result))
+    (c .before .before .before .before .before .before .before .before .before .before .before .moved .result) (w .ensures)
+    (c .before .before .before .before .before .before .before .before .before .before .before .moved .ensures) _
+    (c .before .before .before .before .before .before .before .before .before .before .if1 .taken)
+    (c .before .before .before .before .before .before .read-first .ensures)
 
 returns-2 : tie.Need-returns-2
 returns-2 c =
     let s = c .before .before .before .before .before .before .before .before .before .before .before .before .before .before in
     let w = c .before .before .before .before .before .before .before .before .opj-tgt-decode in
-    new-absent (s .args .src .now) (s .args .layer) (s .args .block) (s .args .p) (s .args .row .now) (s .args .planes) (reading (s .args .words .now) (s .args .reports .now) (s .args .records .now) (s .args .r)) (leafAfter (w .last .0) (w .result)) (c .before .before .before .before .before .moved .result) (w .ensures) (c .before .before .before .before .before .moved .ensures) _ (c .before .before .before .before .if1 .left) (c .before .before .put-report .ensures)
+    new-absent (s .args .src .now) (s .args .layer) (s .args .block) (s .args .p) (s .args .row .now) (s .args .planes)
+    (reading (s .args .words .now) (s .args .reports .now) (s .args .records .now) (s .args .r))
+    (leafAfter (w .last .0) (w .result)) (c .before .before .before .before .before .moved .result) (w .ensures)
+    (c .before .before .before .before .before .moved .ensures) _ (c .before .before .before .before .if1 .left)
+    (c .before .before .put-report .ensures)
 
 pub read-new-spec : {M : Type 1} → statement M
 read-new-spec =

@@ -22,7 +22,8 @@ Inv-loop words₀ reports₀ records₀ src p n row layer planes block run₀ i�
     × (length records ≡ length records₀)
     × (i ≤ n)
     × (run .refusal ≡ 0)
-    × (nextBlocks src layer (block + i) (rowBlocks p row planes (n - i) i) (reading words reports records run) ≡ nextBlocks src layer block (rowBlocks p row planes n 0) (reading words₀ reports₀ records₀ run₀))
+    × (nextBlocks src layer (block + i) (rowBlocks p row planes (n - i) i) (reading words reports records run)
+    ≡ nextBlocks src layer block (rowBlocks p row planes n 0) (reading words₀ reports₀ records₀ run₀))
 
 abbrev μ-loop : tie.MeasureT-loop
 μ-loop words₀ reports₀ records₀ src p n row layer planes block run₀ i₀ words reports records run i = n - i
@@ -39,7 +40,8 @@ loop-holds c =
       refl,
       omega arith,
       s .pre .1,
-      (λ j. nextBlocks (a .src .now) (a .layer) (z j) (rowBlocks (a .p) (a .row .now) (a .planes) (e j) 0) (reading (a .words .now) (a .reports .now) (a .records .now) (a .r))),
+      (λ j. nextBlocks (a .src .now) (a .layer) (z j) (rowBlocks (a .p) (a .row .now) (a .planes) (e j) 0)
+          (reading (a .words .now) (a .reports .now) (a .records .now) (a .r))),
     )
 
 place-at-requires : tie.Need-place-at-requires Inv-loop μ-loop
@@ -59,46 +61,71 @@ read-block-requires c κs =
     let e = c .before .before .before .place-at .ensures in
     let r = subst (λ (m : ℕ). RowIn m (a .p) (a .row .now) (a .n)) (sym (l .inv .1)) (s .pre .2) in (
       l .inv .0 .bits .few,
-      subst (λ (k : Place). BlockIn (length (l .words)) k (a .row .now)) (sym e) (block-in (length (l .words)) (a .n) (l .i) (a .p) (a .row .now) t r),
+      subst (λ (k : Place). BlockIn (length (l .words)) k (a .row .now)) (sym e)
+          (block-in (length (l .words)) (a .n) (l .i) (a .p) (a .row .now) t r),
       s .pre .3,
       omega (arith, s .pre .4, t),
-      subst (λ (k : Place). BlockFits (l .words) (k .at)) (sym e) (block-fits (a .p .at + 4 * l .i) (a .p .at + 4 * l .i) (l .words) (a .words .now) (l .inv .0 .after) (omega arith) (s .pre .5 (l .i) t)),
+      subst (λ (k : Place). BlockFits (l .words) (k .at)) (sym e)
+          (block-fits (a .p .at + 4 * l .i) (a .p .at + 4 * l .i) (l .words) (a .words .now) (l .inv .0 .after) (omega arith)
+          (s .pre .5 (l .i) t)),
     )
 
 same-length : tie.Need-same-length Inv-loop μ-loop
-same-length c = c .before .before .before .before .before .before .before .before .read-block .kept .0 ∙ c .before .before .before .before .before .before .before .before .before .before .before .before .before .before .loop .inv .1
+same-length c = c .before .before .before .before .before .before .before .before .read-block .kept .0
+    ∙ c .before .before .before .before .before .before .before .before .before .before .before .before .before .before .loop .inv
+    .1
 
 same-length-2 : tie.Need-same-length-2 Inv-loop μ-loop
-same-length-2 c = c .before .before .before .before .before .before .before .before .read-block .kept .1 .0 ∙ c .before .before .before .before .before .before .before .before .before .before .before .before .before .before .loop .inv .2
+same-length-2 c = c .before .before .before .before .before .before .before .before .read-block .kept .1 .0
+    ∙ c .before .before .before .before .before .before .before .before .before .before .before .before .before .before .loop .inv
+    .2
 
 same-length-3 : tie.Need-same-length-3 Inv-loop μ-loop
-same-length-3 c = c .before .before .before .before .before .before .before .before .read-block .kept .1 .1 .0 ∙ c .before .before .before .before .before .before .before .before .before .before .before .before .before .before .loop .inv .3
+same-length-3 c = c .before .before .before .before .before .before .before .before .read-block .kept .1 .1 .0
+    ∙ c .before .before .before .before .before .before .before .before .before .before .before .before .before .before .loop .inv
+    .3
 
 returns : tie.Need-returns Inv-loop μ-loop
 returns c =
-    let s = c .before .before .before .before .before .before .before .before .before .before .before .before .before .before .before .before .before .before .before in
+    let s = c .before .before .before .before .before .before .before .before .before .before .before .before .before .before
+    .before .before .before .before .before in
     let a = s .args in
     let l = c .before .before .before .before .before .before .before .before .before .before .before .before .before .before .loop in
     let u = reading (l .words) (l .reports) (l .records) (l .run) in
-    let e = c .before .before .before .before .before .before .before .before .read-block .ensures ∙ ap (λ (k : Place). nextBlock (a .src .now) (a .layer) (a .block + l .i) (blockIn k (a .row .now) (a .planes)) u) (c .before .before .before .before .before .before .before .before .before .before .before .before .place-at .ensures) in
-    reads-no-more (a .src .now) (a .layer) (a .block) (a .p) (a .row .now) (a .planes) (a .n) (l .i) (c .before .before .before .before .before .before .before .before .before .before .before .before .before .loop-test .taken) u _ e (c .if1 .taken) ∙ l .inv .6
+    let e = c .before .before .before .before .before .before .before .before .read-block .ensures
+    ∙ ap (λ (k : Place). nextBlock (a .src .now) (a .layer) (a .block + l .i) (blockIn k (a .row .now) (a .planes)) u)
+    (c .before .before .before .before .before .before .before .before .before .before .before .before .place-at .ensures) in
+    reads-no-more (a .src .now) (a .layer) (a .block) (a .p) (a .row .now) (a .planes) (a .n) (l .i)
+    (c .before .before .before .before .before .before .before .before .before .before .before .before .before .loop-test .taken) u
+    _ e (c .if1 .taken) ∙ l .inv .6
 
 add-i : tie.Need-add-i Inv-loop μ-loop
-add-i c = omega (arith, c .before .before .before .before .before .before .before .before .before .before .before .before .before .loop-test .taken, c .before .before .before .before .before .before .before .before .before .before .before .before .before .before .before .before .before .before .before .pre .2 .small)
+add-i c = omega (
+  arith,
+  c .before .before .before .before .before .before .before .before .before .before .before .before .before .loop-test .taken,
+  c .before .before .before .before .before .before .before .before .before .before .before .before .before .before .before
+      .before .before .before .before .pre .2 .small,
+)
 
 loop-less : tie.Need-loop-less Inv-loop μ-loop
-loop-less c = let t = c .before .before .before .before .before .before .before .before .before .before .before .before .before .loop-test .taken in omega arith
+loop-less c = let t =
+    c .before .before .before .before .before .before .before .before .before .before .before .before .before .loop-test .taken in
+    omega arith
 
 loop-again : tie.Need-loop-again Inv-loop μ-loop
 loop-again c =
-    let s = c .before .before .before .before .before .before .before .before .before .before .before .before .before .before .before .before .before .before .before in
+    let s = c .before .before .before .before .before .before .before .before .before .before .before .before .before .before
+    .before .before .before .before .before in
     let a = s .args in
     let l = c .before .before .before .before .before .before .before .before .before .before .before .before .before .before .loop in
     let t = c .before .before .before .before .before .before .before .before .before .before .before .before .before .loop-test .taken in
     let g = c .before .before .before .before .before .before .before .before .read-block in
     let u = reading (l .words) (l .reports) (l .records) (l .run) in
-    let e = g .ensures ∙ ap (λ (k : Place). nextBlock (a .src .now) (a .layer) (a .block + l .i) (blockIn k (a .row .now) (a .planes)) u) (c .before .before .before .before .before .before .before .before .before .before .before .before .place-at .ensures) in (
-      keeps-then (a .src .now) (a .layer) (a .block) (a .p) (a .row .now) (a .planes) (a .n) (l .i) t u _ e (length (a .words .now)) (a .words .now) (s .pre .2) (l .inv .0),
+    let e = g .ensures ∙ ap
+    (λ (k : Place). nextBlock (a .src .now) (a .layer) (a .block + l .i) (blockIn k (a .row .now) (a .planes)) u)
+    (c .before .before .before .before .before .before .before .before .before .before .before .before .place-at .ensures) in (
+      keeps-then (a .src .now) (a .layer) (a .block) (a .p) (a .row .now) (a .planes) (a .n) (l .i) t u _ e (length (a .words .now))
+          (a .words .now) (s .pre .2) (l .inv .0),
       g .kept .0 ∙ l .inv .1,
       g .kept .1 .0 ∙ l .inv .2,
       g .kept .1 .1 .0 ∙ l .inv .3,
@@ -121,7 +148,10 @@ unfolding nextBlocks
 returns-2 c =
     let a = c .before .before .before .before .before .before .args in
     let l = c .before .loop in
-    sym (ap (λ (ks : List Block). nextBlocks (a .src .now) (a .layer) (a .block + l .i) ks (reading (l .words) (l .reports) (l .records) (l .run))) (row-end (a .p) (a .row .now) (a .planes) (a .n) (l .i) (c .loop-test .left))) ∙ l .inv .6
+    sym
+    (ap (λ (ks : List Block). nextBlocks (a .src .now) (a .layer) (a .block + l .i) ks
+    (reading (l .words) (l .reports) (l .records) (l .run)))
+    (row-end (a .p) (a .row .now) (a .planes) (a .n) (l .i) (c .loop-test .left))) ∙ l .inv .6
 
 pub read-row-spec : {M : Type 1} → statement M
 read-row-spec =

@@ -22,28 +22,34 @@ use Rattle.tgt_read.proofs.Laws.Reading.{readPath-ct, readPath-place, raising-c
 use Rattle.t2_codes.specs.CommaCode.{onesLimit, readCommaLimited}
 use Rattle.t2_codes.proofs.Laws.PassCount.{passes-ct, passes-place, passes-between}
 use Rattle.t2_codes.proofs.Laws.CommaCode.{ones-ct, ones-place}
-use Rattle.t2_read_segments.specs.Reading.{Reading, stopped, nextSegment, nextSegments, passesRead, nextFirst, nextAgain, nextNew, nextOld, nextBlock, nextBlocks, BitsIn}
+use Rattle.t2_read_segments.specs.Reading.{Reading, stopped, nextSegment, nextSegments, passesRead, nextFirst, nextAgain, nextNew}
+use Rattle.t2_read_segments.specs.Reading.{nextOld, nextBlock, nextBlocks, BitsIn}
 use Rattle.tcd_places.proofs.Laws.Before.{AllBlocks, Before, BlockBefore}
 
 -- ---- trees
 
-pub path-keeps : (src : List ℕ) (q base t : ℕ) (ns : List ℕ) (l : ℕ) (ws : List ℕ) (b : Bio) → Before q base ns → drop q (readPath src base t ns l ws b .words) ≡ drop q ws
+pub path-keeps : (src : List ℕ) (q base t : ℕ) (ns : List ℕ) (l : ℕ) (ws : List ℕ) (b : Bio) → Before q base ns
+    → drop q (readPath src base t ns l ws b .words) ≡ drop q ws
 unfolding readPath
 path-keeps src q base t [] l ws b h = refl
 path-keeps src q base t (n ∷ ns) l ws b h =
-    path-keeps src q base t ns _ _ _ (h .1) ∙ drop-set-lt q _ (base + 3 * n + 1) _ (omega (arith, h .0)) ∙ drop-set-lt q ws (base + 3 * n) _ (omega (arith, h .0))
+    path-keeps src q base t ns _ _ _ (h .1) ∙ drop-set-lt q _ (base + 3 * n + 1) _ (omega (arith, h .0))
+    ∙ drop-set-lt q ws (base + 3 * n) _ (omega (arith, h .0))
 
-pub raising-keeps : (src : List ℕ) (q : ℕ) (k : Block) (f t : ℕ) (ws : List ℕ) (b : Bio) → Before q (k .zeroTree) (reverse (k .path)) → drop q (readZeroPlanesFrom src k f t ws b .words) ≡ drop q ws
+pub raising-keeps : (src : List ℕ) (q : ℕ) (k : Block) (f t : ℕ) (ws : List ℕ) (b : Bio)
+    → Before q (k .zeroTree) (reverse (k .path)) → drop q (readZeroPlanesFrom src k f t ws b .words) ≡ drop q ws
 unfolding readZeroPlanesFrom
 raising-keeps src q k zero t ws b h = refl
 raising-keeps src q k (suc f) t ws b h =
     let r = readPath src (k .zeroTree) t (reverse (k .path)) 0 ws b in
     let g = path-keeps src q (k .zeroTree) t (reverse (k .path)) 0 ws b h in
-    either (λ (p : PathRead). drop q (p .words) ≡ drop q ws) (ltb (value (r .words) (k .zeroTree + 3 * k .leaf)) t) _ _ g (raising-keeps src q k f (t + 1) (r .words) (r .bio) h ∙ g)
+    either (λ (p : PathRead). drop q (p .words) ≡ drop q ws) (ltb (value (r .words) (k .zeroTree + 3 * k .leaf)) t) _ _ g
+    (raising-keeps src q k f (t + 1) (r .words) (r .bio) h ∙ g)
 
 -- ---- pass count and increment
 
-pub passes-keep : (src : List ℕ) (q at before bits : ℕ) (ws : List ℕ) (b : Bio) → at + 2 ≤ q → drop q (passesRead src at before bits ws b .words) ≡ drop q ws
+pub passes-keep : (src : List ℕ) (q at before bits : ℕ) (ws : List ℕ) (b : Bio) → at + 2 ≤ q
+    → drop q (passesRead src at before bits ws b .words) ≡ drop q ws
 unfolding passesRead
 passes-keep src q at before bits ws b h = drop-set-lt q _ (at + 1) _ (omega arith) ∙ drop-set-lt q ws at _ (omega arith)
 
@@ -53,7 +59,8 @@ pub record Passes (at : ℕ) (ws : List ℕ) (c : ValueAfter) : Type 0 where
   pub most : c .value ≤ 164
   pub after : drop (at + 2) (c .words) ≡ drop (at + 2) ws
 
-pub passes-are : (src : List ℕ) (at before bits : ℕ) (ws : List ℕ) (b : Bio) (c : ValueAfter) → c ≡ passesRead src at before bits ws b → b .ct ≤ 8 → Passes at ws c
+pub passes-are : (src : List ℕ) (at before bits : ℕ) (ws : List ℕ) (b : Bio) (c : ValueAfter) → c
+    ≡ passesRead src at before bits ws b → b .ct ≤ 8 → Passes at ws c
 unfolding passesRead readCommaLimited
 passes-are src at before bits ws b c e h =
     let n = readPasses src b in
@@ -76,7 +83,8 @@ module _ (src : List ℕ) where
   number-in n b h = record { few = readBits-ct src n b (h .few); place = readBits-place src n b (h .place) }
 
   path-in : (base t : ℕ) (ns : List ℕ) (l : ℕ) (ws : List ℕ) (b : Bio) → BitsIn src b → BitsIn src (readPath src base t ns l ws b .bio)
-  path-in base t ns l ws b h = record { few = readPath-ct src base t ns l ws b (h .few); place = readPath-place src base t ns l ws b (h .place) }
+  path-in base t ns l ws b h =
+      record { few = readPath-ct src base t ns l ws b (h .few); place = readPath-place src base t ns l ws b (h .place) }
 
   raising-in : (k : Block) (f t : ℕ) (ws : List ℕ) (b : Bio) → BitsIn src b → BitsIn src (readZeroPlanesFrom src k f t ws b .bio)
   raising-in k f t ws b h = record { few = raising-ct src k f t ws b (h .few); place = raising-place src k f t ws b (h .place) }
@@ -85,7 +93,10 @@ module _ (src : List ℕ) where
   unfolding passesRead readCommaLimited
   passes-in at before bits ws b h =
       let n = readPasses src b in
-      record { few = ones-ct src (onesLimit src) 0 (n .bio) (passes-ct src b (h .few)); place = ones-place src (onesLimit src) 0 (n .bio) (passes-place src b (h .place)) }
+      record {
+        few = ones-ct src (onesLimit src) 0 (n .bio) (passes-ct src b (h .few));
+        place = ones-place src (onesLimit src) 0 (n .bio) (passes-place src b (h .place));
+      }
 
 -- ---- a block, and several
 
@@ -101,9 +112,14 @@ module _ (src : List ℕ) (q : ℕ) (vs : List ℕ) where
       let w : ℕ = width (lengthBits (a .words) (k .at)) n in
       either (Keeps src q vs) (ltb 32 w) (stopped 9 a) _ (record { bits = p .bits; after = p .after })
       (either (Keeps src q vs) (leb (length (a .records) / 4) (a .count)) (stopped 13 a) _ (record { bits = p .bits; after = p .after })
-      (record { bits = number-in src w (a .bio) (p .bits); after = drop-set-lt q _ (k .at + 3) _ (omega arith) ∙ drop-set-lt q (a .words) (k .at + 2) _ (omega arith) ∙ p .after }))
+      (record {
+        bits = number-in src w (a .bio) (p .bits);
+        after = drop-set-lt q _ (k .at + 3) _ (omega arith)
+            ∙ drop-set-lt q (a .words) (k .at + 2) _ (omega arith) ∙ p .after;
+      }))
 
-  segments-keep : (i : ℕ) (k : Block) (f left : ℕ) (a : Reading) → k .at + 4 ≤ q → Keeps src q vs a → Keeps src q vs (nextSegments src i k f left a)
+  segments-keep : (i : ℕ) (k : Block) (f left : ℕ) (a : Reading) → k .at + 4 ≤ q → Keeps src q vs a
+      → Keeps src q vs (nextSegments src i k f left a)
   unfolding nextSegments
   segments-keep i k zero left a h p = p
   segments-keep i k (suc f) left a h p =
@@ -119,14 +135,18 @@ module _ (src : List ℕ) (q : ℕ) (vs : List ℕ) where
         segments-keep i k _ _ _ (before .own)
         (record {
           bits = passes-in src (k .at) 0 3 (z .words) (z .bio) (raising-in src k (notYetPlanes + 2) 0 (a .words) (a .bio) (p .bits));
-          after = passes-keep src q (k .at) 0 3 (z .words) (z .bio) (omega (arith, before .own)) ∙ raising-keeps src q k (notYetPlanes + 2) 0 (a .words) (a .bio) (before .zero) ∙ p .after;
+          after = passes-keep src q (k .at) 0 3 (z .words) (z .bio) (omega (arith, before .own))
+              ∙ raising-keeps src q k (notYetPlanes + 2) 0 (a .words) (a .bio) (before .zero) ∙ p .after;
         })
 
     again-keeps : (i : ℕ) (a : Reading) → Keeps src q vs a → Keeps src q vs (nextAgain src i k a)
     unfolding nextAgain
     again-keeps i a p =
         segments-keep i k _ _ _ (before .own)
-        (record { bits = passes-in src (k .at) _ _ (a .words) (a .bio) (p .bits); after = passes-keep src q (k .at) _ _ (a .words) (a .bio) (omega (arith, before .own)) ∙ p .after })
+        (record {
+          bits = passes-in src (k .at) _ _ (a .words) (a .bio) (p .bits);
+          after = passes-keep src q (k .at) _ _ (a .words) (a .bio) (omega (arith, before .own)) ∙ p .after;
+        })
 
     pub block-keeps : (t i : ℕ) (a : Reading) → Keeps src q vs a → Keeps src q vs (nextBlock src t i k a)
     unfolding nextBlock nextNew nextOld
@@ -136,10 +156,13 @@ module _ (src : List ℕ) (q : ℕ) (vs : List ℕ) where
         let wb = path-in src (k .inclTree) (t + 1) (reverse (k .path)) 0 (a .words) (a .bio) (p .bits) in
         let wk = path-keeps src q (k .inclTree) (t + 1) (reverse (k .path)) 0 (a .words) (a .bio) (before .incl) ∙ p .after in
         either (Keeps src q vs) (isNew (a .words) k) _ _
-        (either (Keeps src q vs) (ltb (value (w .words) (k .inclTree + 3 * k .leaf)) (t + 1)) _ _ (first-keeps i _ (record { bits = wb; after = wk })) (record { bits = wb; after = wk }))
-        (either (Keeps src q vs) (eqb (b .value) 0) _ _ (record { bits = bit-in src (a .bio) (p .bits); after = p .after }) (again-keeps i _ (record { bits = bit-in src (a .bio) (p .bits); after = p .after })))
+        (either (Keeps src q vs) (ltb (value (w .words) (k .inclTree + 3 * k .leaf)) (t + 1)) _ _
+        (first-keeps i _ (record { bits = wb; after = wk })) (record { bits = wb; after = wk }))
+        (either (Keeps src q vs) (eqb (b .value) 0) _ _ (record { bits = bit-in src (a .bio) (p .bits); after = p .after })
+        (again-keeps i _ (record { bits = bit-in src (a .bio) (p .bits); after = p .after })))
 
-  pub blocks-keep : (t i : ℕ) (ks : List Block) (a : Reading) → AllBlocks (BlockBefore q) ks → Keeps src q vs a → Keeps src q vs (nextBlocks src t i ks a)
+  pub blocks-keep : (t i : ℕ) (ks : List Block) (a : Reading) → AllBlocks (BlockBefore q) ks → Keeps src q vs a
+      → Keeps src q vs (nextBlocks src t i ks a)
   unfolding nextBlocks
   blocks-keep t i [] a h p = p
   blocks-keep t i (k ∷ ks) a h p =

@@ -15,11 +15,13 @@ use Rattle.t2_read_block_parts.proofs.read_again.Tie as tie
 
 read-segments-requires : tie.Need-read-segments-requires
 read-segments-requires c κs =
-    let s = c .before .before .before .before .before .before .before .before .before .before .before .before .before .before .before .before .before in
+    let s = c .before .before .before .before .before .before .before .before .before .before .before .before .before .before
+    .before .before .before in
     let at = s .args .at in
     let ws = s .args .words .now in
     let n = c .before .before .before .before .before .before .before .before .before .read-passes in
-    let ps = passes-are (s .args .src .now) at (getD ws at 0) (getD ws (at + 1) 0) ws (s .args .r .bio) (valueAfter (n .last .0) (n .result)) (n .ensures) (s .pre .0) in (
+    let ps = passes-are (s .args .src .now) at (getD ws at 0) (getD ws (at + 1) 0) ws (s .args .r .bio)
+    (valueAfter (n .last .0) (n .result)) (n .ensures) (s .pre .0) in (
       omega (arith, ap (λ (r : Run). r .bio .ct) (c .moved .ensures), ps .few),
       omega (arith, n .kept .0, s .pre .1),
       s .pre .2,
@@ -30,10 +32,16 @@ read-segments-requires c κs =
 
 returns : tie.Need-returns
 returns c =
-    let s = c .before .before .before .before .before .before .before .before .before .before .before .before .before .before .before .before .before .before .before .before .before .before in
-    let n = c .before .before .before .before .before .before .before .before .before .before .before .before .before .before .read-passes in
+    let s = c .before .before .before .before .before .before .before .before .before .before .before .before .before .before
+    .before .before .before .before .before .before .before .before in
+    let n = c .before .before .before .before .before .before .before .before .before .before .before .before .before .before
+    .read-passes in
     let g = c .before .before .before .before .before .before .before .before .before .before .put-report in
-    again-is (s .args .src .now) (s .args .block) (reading (s .args .words .now) (s .args .reports .now) (s .args .records .now) (s .args .r)) (valueAfter (n .last .0) (n .result)) (c .before .before .before .before .before .moved .result) (c .before .before .before .before .before .moved .ensures) (g .last .0) _ (s .args .at) (n .ensures) (g .ensures) (c .before .before .before .before .read-segments .ensures (g .last .0))
+    again-is (s .args .src .now) (s .args .block)
+    (reading (s .args .words .now) (s .args .reports .now) (s .args .records .now) (s .args .r))
+    (valueAfter (n .last .0) (n .result)) (c .before .before .before .before .before .moved .result)
+    (c .before .before .before .before .before .moved .ensures) (g .last .0) _ (s .args .at) (n .ensures) (g .ensures)
+    (c .before .before .before .before .read-segments .ensures (g .last .0))
 
 pub read-again-spec : {M : Type 1} → statement M
 read-again-spec =

@@ -26,37 +26,66 @@ read-passes-requires c κs =
     let s = c .before .before .before .before .before .before .before .before .before in
     let p = s .args .p in
     let z = c .before .before .before .opj-tgt-decode-value in
-    let k = leafOf (p .zero) (s .args .row .now) (p .depth) (p .x) in
-    (omega (arith, ap (λ (v : ValueAfter). v .bio .ct) (z .ensures), raising-ct (s .args .src .now) k (notYetPlanes + 2) 0 (s .args .words .now) (s .args .r .bio) (s .pre .0)), omega (arith, z .kept .0, s .pre .1 .inside), omega arith, omega arith)
+    let k = leafOf (p .zero) (s .args .row .now) (p .depth) (p .x) in (
+      omega (
+        arith,
+        ap (λ (v : ValueAfter). v .bio .ct) (z .ensures),
+        raising-ct (s .args .src .now) k (notYetPlanes + 2) 0 (s .args .words .now) (s .args .r .bio) (s .pre .0),
+      ),
+      omega (arith, z .kept .0, s .pre .1 .inside),
+      omega arith,
+      omega arith,
+    )
 
 read-segments-requires : tie.Need-read-segments-requires
 read-segments-requires c κs =
-    let s = c .before .before .before .before .before .before .before .before .before .before .before .before .before .before .before .before .before .before .before .before in
+    let s = c .before .before .before .before .before .before .before .before .before .before .before .before .before .before
+    .before .before .before .before .before .before in
     let p = s .args .p in
-    let z = c .before .before .before .before .before .before .before .before .before .before .before .before .before .before .opj-tgt-decode-value in
+    let z = c .before .before .before .before .before .before .before .before .before .before .before .before .before .before
+    .opj-tgt-decode-value in
     let n = c .before .before .before .before .before .before .before .before .before .before .read-passes in
     let k = leafOf (p .zero) (s .args .row .now) (p .depth) (p .x) in
     let few = raising-ct (s .args .src .now) k (notYetPlanes + 2) 0 (s .args .words .now) (s .args .r .bio) (s .pre .0) in
-    let ps = passes-are (s .args .src .now) (p .at) 0 3 (z .last .0) (z .result .bio) (valueAfter (n .last .0) (n .result)) (n .ensures) (omega (arith, ap (λ (v : ValueAfter). v .bio .ct) (z .ensures), few)) in
-    let same = ap (λ (v : ValueAfter). drop (p .at) (v .words)) (z .ensures) ∙ raising-keeps (s .args .src .now) (p .at) k (notYetPlanes + 2) 0 (s .args .words .now) (s .args .r .bio) (path-before (p .at) (p .zero) (s .args .row .now) (p .depth) (p .x) (s .pre .1 .zero)) in (
+    let ps = passes-are (s .args .src .now) (p .at) 0 3 (z .last .0) (z .result .bio) (valueAfter (n .last .0) (n .result))
+    (n .ensures) (omega (arith, ap (λ (v : ValueAfter). v .bio .ct) (z .ensures), few)) in
+    let same = ap (λ (v : ValueAfter). drop (p .at) (v .words)) (z .ensures)
+    ∙ raising-keeps (s .args .src .now) (p .at) k (notYetPlanes + 2) 0 (s .args .words .now) (s .args .r .bio)
+    (path-before (p .at) (p .zero) (s .args .row .now) (p .depth) (p .x) (s .pre .1 .zero)) in (
       omega (arith, ap (λ (r : Run). r .bio .ct) (c .moved .ensures), ps .few),
       omega (arith, n .kept .0, z .kept .0, s .pre .1 .inside),
       s .pre .2,
       ps .most,
-      fits-same (p .at + 2) (p .at) (n .last .0) (z .last .0) (ps .after) (omega arith) (fits-same (p .at) (p .at) (z .last .0) (s .args .words .now) same (omega arith) (s .pre .3)),
+      fits-same (p .at + 2) (p .at) (n .last .0) (z .last .0) (ps .after) (omega arith)
+          (fits-same (p .at) (p .at) (z .last .0) (s .args .words .now) same (omega arith) (s .pre .3)),
       ap (λ (r : Run). r .refusal) (c .moved .ensures),
     )
 
 same-length : tie.Need-same-length
-same-length c = c .before .before .before .before .read-segments .kept .0 ∙ c .before .before .before .before .before .before .before .before .before .before .before .before .before .before .before .read-passes .kept .0 ∙ c .before .before .before .before .before .before .before .before .before .before .before .before .before .before .before .before .before .before .before .opj-tgt-decode-value .kept .0
+same-length c = c .before .before .before .before .read-segments .kept .0
+    ∙ c .before .before .before .before .before .before .before .before .before .before .before .before .before .before .before
+    .read-passes .kept .0
+    ∙ c .before .before .before .before .before .before .before .before .before .before .before .before .before .before .before
+    .before .before .before .before .opj-tgt-decode-value .kept .0
 
 returns : tie.Need-returns
 returns c =
-    let s = c .before .before .before .before .before .before .before .before .before .before .before .before .before .before .before .before .before .before .before .before .before .before .before .before .before in
-    let z = c .before .before .before .before .before .before .before .before .before .before .before .before .before .before .before .before .before .before .before .opj-tgt-decode-value in
-    let n = c .before .before .before .before .before .before .before .before .before .before .before .before .before .before .before .read-passes in
+    let s = c .before .before .before .before .before .before .before .before .before .before .before .before .before .before
+    .before .before .before .before .before .before .before .before .before .before .before in
+    let z = c .before .before .before .before .before .before .before .before .before .before .before .before .before .before
+    .before .before .before .before .before .opj-tgt-decode-value in
+    let n = c .before .before .before .before .before .before .before .before .before .before .before .before .before .before
+    .before .read-passes in
     let g = c .before .before .before .before .before .before .before .before .before .before .put-report in
-    first-is (s .args .src .now) (s .args .block) (reading (s .args .words .now) (s .args .reports .now) (s .args .records .now) (s .args .r)) (valueAfter (n .last .0) (n .result)) (c .before .before .before .before .before .moved .result) (c .before .before .before .before .before .moved .ensures) (g .last .0) _ (s .args .p) (s .args .row .now) (s .args .planes) (valueAfter (z .last .0) (z .result)) (c .before .before .before .before .before .before .before .before .before .before .before .before .block-planes .result) (z .ensures) (n .ensures) (c .before .before .before .before .before .before .before .before .before .before .before .before .block-planes .ensures) (g .ensures) (c .before .before .before .before .read-segments .ensures (g .last .0))
+    first-is (s .args .src .now) (s .args .block)
+    (reading (s .args .words .now) (s .args .reports .now) (s .args .records .now) (s .args .r))
+    (valueAfter (n .last .0) (n .result)) (c .before .before .before .before .before .moved .result)
+    (c .before .before .before .before .before .moved .ensures) (g .last .0) _ (s .args .p) (s .args .row .now) (s .args .planes)
+    (valueAfter (z .last .0) (z .result))
+    (c .before .before .before .before .before .before .before .before .before .before .before .before .block-planes .result)
+    (z .ensures) (n .ensures)
+    (c .before .before .before .before .before .before .before .before .before .before .before .before .block-planes .ensures)
+    (g .ensures) (c .before .before .before .before .read-segments .ensures (g .last .0))
 
 pub read-first-spec : {M : Type 1} → statement M
 read-first-spec =

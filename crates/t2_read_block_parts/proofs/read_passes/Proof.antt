@@ -18,12 +18,22 @@ opj-t2-getcommacode-requires c κs =
 add-words : tie.Need-add-words
 add-words c =
     let s = c .before .before .before .before .before in
-    omega (arith, s .pre .2, ap (λ (d : Decoded). d .value) (c .before .before .opj-t2-getnumpasses .ensures), passes-between (s .args .src .now) (s .args .b) .1)
+    omega (
+      arith,
+      s .pre .2,
+      ap (λ (d : Decoded). d .value) (c .before .before .opj-t2-getnumpasses .ensures),
+      passes-between (s .args .src .now) (s .args .b) .1,
+    )
 
 add-words-2 : tie.Need-add-words-2
 add-words-2 c =
     let s = c .before .before .before .before .before .before in
-    omega (arith, s .pre .3, ap (λ (d : Decoded). d .value) (c .before .before .opj-t2-getcommacode .ensures), comma-value (s .args .src .now) (c .before .before .before .opj-t2-getnumpasses .result .bio))
+    omega (
+      arith,
+      s .pre .3,
+      ap (λ (d : Decoded). d .value) (c .before .before .opj-t2-getcommacode .ensures),
+      comma-value (s .args .src .now) (c .before .before .before .opj-t2-getnumpasses .result .bio),
+    )
 
 slice-write-words-2 : tie.Need-slice-write-words-2
 slice-write-words-2 c = simp length-set (omega (arith, c .before .before .before .before .before .before .pre .1))
@@ -31,7 +41,8 @@ slice-write-words-2 c = simp length-set (omega (arith, c .before .before .before
 returns : tie.Need-returns
 returns c =
     let s = c .before .before .before .before .before .before .before in
-    passes-stored (s .args .src .now) (s .args .at) (s .args .before) (s .args .bits) (s .args .words .now) (s .args .b) _ _ (c .before .before .before .before .opj-t2-getnumpasses .ensures) (c .before .before .before .opj-t2-getcommacode .ensures)
+    passes-stored (s .args .src .now) (s .args .at) (s .args .before) (s .args .bits) (s .args .words .now) (s .args .b) _ _
+    (c .before .before .before .before .opj-t2-getnumpasses .ensures) (c .before .before .before .opj-t2-getcommacode .ensures)
 
 pub read-passes-spec : {M : Type 1} → statement M
 read-passes-spec =

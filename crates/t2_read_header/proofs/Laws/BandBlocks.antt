@@ -11,9 +11,14 @@ use Rattle.tcd_places.proofs.Laws.BandBlocks.{tree-before}
 
 block-apart : (start : ℕ) (b : Band) (i : ℕ) → i < blocksIn b → (size : ℕ) → start + bandLength b ≤ size → Apart size (blockOf start b i)
 unfolding bandNodes blocksIn
-block-apart start b i h size l = record { incl = tree-before (start + 6 * bandNodes b + 4 * i) start (b .across) (b .down) i h (omega arith); inside = omega (arith, band-length b) }
+block-apart start b i h size l =
+    record {
+      incl = tree-before (start + 6 * bandNodes b + 4 * i) start (b .across) (b .down) i h (omega arith);
+      inside = omega (arith, band-length b);
+    }
 
-from-apart : (size start : ℕ) (b : Band) (n i : ℕ) → i + n ≤ blocksIn b → start + bandLength b ≤ size → AllBlocks (Apart size) (blocksFrom start b n i)
+from-apart : (size start : ℕ) (b : Band) (n i : ℕ) → i + n ≤ blocksIn b → start + bandLength b ≤ size
+    → AllBlocks (Apart size) (blocksFrom start b n i)
 unfolding blocksFrom
 from-apart size start b zero i h l = tt
 from-apart size start b (suc n) i h l = (block-apart start b i (omega arith) size l, from-apart size start b n (i + 1) (omega arith) l)
@@ -23,4 +28,5 @@ unfolding blocksAt endOf
 bands-apart size at [] h = tt
 bands-apart size at (b ∷ bs) h =
     let e = end-after (at + bandLength b) bs in
-    all-append (Apart size) (blocksFrom at b (blocksIn b) 0) _ (from-apart size at b (blocksIn b) 0 (omega arith) (omega arith)) (bands-apart size (at + bandLength b) bs h)
+    all-append (Apart size) (blocksFrom at b (blocksIn b) 0) _ (from-apart size at b (blocksIn b) 0 (omega arith) (omega arith))
+    (bands-apart size (at + bandLength b) bs h)

@@ -83,47 +83,73 @@ read-bands-requires c κs =
 
 returns : tie.Need-returns
 returns c =
-    let s = c .before .before .before .before .before .before .before .before .before .before .before .before .before .before .before .before .before .before .before .before in
+    let s = c .before .before .before .before .before .before .before .before .before .before .before .before .before .before
+    .before .before .before .before .before .before in
     let a = s .args in
     let ws = a .words .now in
     let v = valid-state reader ws (length ws) (s .pre .0) in
-    let e = first-bands ws _ _ refl (c .before .before .before .before .before .before .before .before .before .before .before .before .before .before .bands-of .ensures) in
+    let e = first-bands ws _ _ refl
+    (c .before .before .before .before .before .before .before .before .before .before .before .before .before .before .bands-of
+    .ensures) in
     let f = c .before .before .before .before .before .before .before .before .read-bands in
-    let is = f .ensures ∙ ap (λ (bs : List Band). nextBlocks (a .src .now) (layer ws) 0 (blocks bs) (reading ws (a .reports .now) (a .records .now) (startAt (a .b)))) e in
-    header-refused (a .src .now) (a .reports .now) (a .records .now) ws (a .b) v (s .pre .2) (startAt (a .b)) refl _ is (s .pre .3) (c .if1 .taken)
+    let is = f .ensures ∙ ap
+    (λ (bs : List Band). nextBlocks (a .src .now) (layer ws) 0 (blocks bs)
+    (reading ws (a .reports .now) (a .records .now) (startAt (a .b)))) e in
+    header-refused (a .src .now) (a .reports .now) (a .records .now) ws (a .b) v (s .pre .2) (startAt (a .b)) refl _ is (s .pre .3)
+    (c .if1 .taken)
 
 opj-bio-inalign-requires : tie.Need-opj-bio-inalign-requires
 opj-bio-inalign-requires c κs =
-    let s = c .before .before .before .before .before .before .before .before .before .before .before .before .before .before .before .before .before .before .before .before in
+    let s = c .before .before .before .before .before .before .before .before .before .before .before .before .before .before
+    .before .before .before .before .before .before in
     let a = s .args in
     let ws = a .words .now in
     let v = valid-state reader ws (length ws) (s .pre .0) in
-    let e = first-bands ws _ _ refl (c .before .before .before .before .before .before .before .before .before .before .before .before .before .before .bands-of .ensures) in
+    let e = first-bands ws _ _ refl
+    (c .before .before .before .before .before .before .before .before .before .before .before .before .before .before .bands-of
+    .ensures) in
     let f = c .before .before .before .before .before .before .before .before .read-bands in
-    let is = f .ensures ∙ ap (λ (bs : List Band). nextBlocks (a .src .now) (layer ws) 0 (blocks bs) (reading ws (a .reports .now) (a .records .now) (startAt (a .b)))) e in
+    let is = f .ensures ∙ ap
+    (λ (bs : List Band). nextBlocks (a .src .now) (layer ws) 0 (blocks bs)
+    (reading ws (a .reports .now) (a .records .now) (startAt (a .b)))) e in
     bits-in (a .src .now) (a .reports .now) (a .records .now) ws (a .b) v (s .pre .2) (startAt (a .b)) refl _ is (s .pre .3) .place
 
 returns-2 : tie.Need-returns-2
 returns-2 c =
-    let s = c .before .before .before .before .before .before .before .before .before .before .before .before .before .before .before .before .before .before .before .before .before .before in
+    let s = c .before .before .before .before .before .before .before .before .before .before .before .before .before .before
+    .before .before .before .before .before .before .before .before in
     let a = s .args in
     let ws = a .words .now in
     let v = valid-state reader ws (length ws) (s .pre .0) in
-    let e = first-bands ws _ _ refl (c .before .before .before .before .before .before .before .before .before .before .before .before .before .before .before .before .bands-of .ensures) in
+    let e = first-bands ws _ _ refl
+    (c .before .before .before .before .before .before .before .before .before .before .before .before .before .before .before
+    .before .bands-of .ensures) in
     let f = c .before .before .before .before .before .before .before .before .before .before .read-bands in
-    let is = f .ensures ∙ ap (λ (bs : List Band). nextBlocks (a .src .now) (layer ws) 0 (blocks bs) (reading ws (a .reports .now) (a .records .now) (startAt (a .b)))) e in
-    header-done (a .src .now) (a .reports .now) (a .records .now) ws (a .b) v (s .pre .2) (startAt (a .b)) refl _ is (s .pre .3) (c .before .before .if1 .left) (ends (a .src .now) (f .result .bio) _ true (c .before .opj-bio-inalign .ensures) (c .if2 .taken))
+    let is = f .ensures ∙ ap
+    (λ (bs : List Band). nextBlocks (a .src .now) (layer ws) 0 (blocks bs)
+    (reading ws (a .reports .now) (a .records .now) (startAt (a .b)))) e in
+    header-done (a .src .now) (a .reports .now) (a .records .now) ws (a .b) v (s .pre .2) (startAt (a .b)) refl _ is (s .pre .3)
+    (c .before .before .if1 .left)
+    (ends (a .src .now) (f .result .bio) _ true (c .before .opj-bio-inalign .ensures) (c .if2 .taken))
 
 returns-3 : tie.Need-returns-3
 returns-3 c =
-    let s = c .before .before .before .before .before .before .before .before .before .before .before .before .before .before .before .before .before .before .before .before .before .before .before in
+    let s = c .before .before .before .before .before .before .before .before .before .before .before .before .before .before
+    .before .before .before .before .before .before .before .before .before in
     let a = s .args in
     let ws = a .words .now in
     let v = valid-state reader ws (length ws) (s .pre .0) in
-    let e = first-bands ws _ _ refl (c .before .before .before .before .before .before .before .before .before .before .before .before .before .before .before .before .before .bands-of .ensures) in
+    let e = first-bands ws _ _ refl
+    (c .before .before .before .before .before .before .before .before .before .before .before .before .before .before .before
+    .before .before .bands-of .ensures) in
     let f = c .before .before .before .before .before .before .before .before .before .before .before .read-bands in
-    let is = f .ensures ∙ ap (λ (bs : List Band). nextBlocks (a .src .now) (layer ws) 0 (blocks bs) (reading ws (a .reports .now) (a .records .now) (startAt (a .b)))) e in
-    header-cut (a .src .now) (a .reports .now) (a .records .now) ws (a .b) v (s .pre .2) (startAt (a .b)) refl _ is (s .pre .3) (c .before .before .before .if1 .left) _ (ap (λ (o : Run). reading (f .last .0) (f .last .1 .0) (f .last .1 .1 .0) o) (c .refuse .ensures)) (ends (a .src .now) (f .result .bio) _ false (c .before .before .opj-bio-inalign .ensures) (c .before .if2 .left))
+    let is = f .ensures ∙ ap
+    (λ (bs : List Band). nextBlocks (a .src .now) (layer ws) 0 (blocks bs)
+    (reading ws (a .reports .now) (a .records .now) (startAt (a .b)))) e in
+    header-cut (a .src .now) (a .reports .now) (a .records .now) ws (a .b) v (s .pre .2) (startAt (a .b)) refl _ is (s .pre .3)
+    (c .before .before .before .if1 .left) _
+    (ap (λ (o : Run). reading (f .last .0) (f .last .1 .0) (f .last .1 .1 .0) o) (c .refuse .ensures))
+    (ends (a .src .now) (f .result .bio) _ false (c .before .before .opj-bio-inalign .ensures) (c .before .if2 .left))
 
 pub opj-t2-read-packet-header-spec : {M : Type 1} → statement M
 opj-t2-read-packet-header-spec =

@@ -49,7 +49,8 @@ module _ (used : Bool) (n second : ℕ) (src : List ℕ) (p : ℕ) where
       either P (not used) _ _ (omega arith)
       (on-lt (length src - p) n
       (λ l. subst P (sym (if-lt (length src - p) n (found 0 1) rest l)) (omega arith))
-      (λ l. subst P (sym (if-ge (length src - p) n (found 0 1) rest l)) (either P (eqb (getD src p 0) 0xff && eqb (getD src (p + 1) 0) second) (found n 0) (found 0 2) (omega arith) (omega arith))))
+      (λ l. subst P (sym (if-ge (length src - p) n (found 0 1) rest l))
+      (either P (eqb (getD src p 0) 0xff && eqb (getD src (p + 1) 0) second) (found n 0) (found 0 2) (omega arith) (omega arith))))
     where
       P : MarkerRead → Type 0
       P r = p + r .skip ≤ max p (length src)
@@ -63,8 +64,11 @@ unfolding bytesTaken
 taken-up-to src b = either (λ (n : ℕ). n ≤ b .bp + 1) (inFF b) _ _ (omega arith) (omega arith)
 
 -- the answer where nothing is refused
-pub done-is : (m : Markers) (src : List ℕ) (s : MarkerRead) (b : Bio) (present segments at : ℕ) (e : MarkerRead) → at ≡ bytesTaken src b → e ≡ readMarker (m .eph) 2 0x92 src at
-    → _≡_ {A = ReadAnswer} (record { refusal = 0; present = present; taken = at + e .skip; segments = segments; sop = s .mark; eph = e .mark }) (doneAnswer m src s b present segments)
+pub done-is : (m : Markers) (src : List ℕ) (s : MarkerRead) (b : Bio) (present segments at : ℕ) (e : MarkerRead) → at
+    ≡ bytesTaken src b → e ≡ readMarker (m .eph) 2 0x92 src at
+    → _≡_ {A = ReadAnswer}
+    (record { refusal = 0; present = present; taken = at + e .skip; segments = segments; sop = s .mark; eph = e .mark })
+    (doneAnswer m src s b present segments)
 unfolding doneAnswer readEph
 done-is m src s b present segments at e p q =
     let f : e ≡ readMarker (m .eph) 2 0x92 src (bytesTaken src b) = q ∙ ap (readMarker (m .eph) 2 0x92 src) p in

@@ -16,13 +16,23 @@ add-taken c =
     let s = c .before .before .before .before .before in
     let src = s .args .src .now in
     let at = c .before .before .before .opj-bio-inalign .result .bio .bp in
-    omega (arith, ap (λ (r : Aligned). r .bio .bp) (c .before .before .before .opj-bio-inalign .ensures), taken-up-to src (s .args .b), s .pre, ap (λ (e : MarkerRead). e .skip) (c .before .read-marker .ensures), skip-inside (s .args .m .eph) 2 0x92 src at, c .before .before .before .before)
+    omega (
+      arith,
+      ap (λ (r : Aligned). r .bio .bp) (c .before .before .before .opj-bio-inalign .ensures),
+      taken-up-to src (s .args .b),
+      s .pre,
+      ap (λ (e : MarkerRead). e .skip) (c .before .read-marker .ensures),
+      skip-inside (s .args .m .eph) 2 0x92 src at,
+      c .before .before .before .before,
+    )
 
 returns : tie.Need-returns
 unfolding alignedAt
 returns c =
     let s = c .before .before .before .before .before in
-    done-is (s .args .m) (s .args .src .now) (markerRead (s .args .s)) (s .args .b) (s .args .present) (s .args .segments) (c .before .before .before .opj-bio-inalign .result .bio .bp) (markerRead (c .before .read-marker .result)) (ap (λ (r : Aligned). r .bio .bp) (c .before .before .before .opj-bio-inalign .ensures)) (c .before .read-marker .ensures)
+    done-is (s .args .m) (s .args .src .now) (markerRead (s .args .s)) (s .args .b) (s .args .present) (s .args .segments)
+    (c .before .before .before .opj-bio-inalign .result .bio .bp) (markerRead (c .before .read-marker .result))
+    (ap (λ (r : Aligned). r .bio .bp) (c .before .before .before .opj-bio-inalign .ensures)) (c .before .read-marker .ensures)
 
 pub done-spec : {M : Type 1} → statement M
 done-spec = tie.close (tie.spec (λ c κs. search needs) (λ c κs. search needs) add-taken returns)

@@ -12,14 +12,21 @@ use Rattle.t2_read_numbers.proofs.read_numbers.Tie as tie
 returns : tie.Need-returns
 returns c =
     let a = c .before .before .before .before .before .before .before .before .before .before .args in
-    ap (λ (n : ℕ). readResult (a .state .now) (a .scratch .now) (a .reports .now) (a .numbers .now) (refusedAnswer n)) (c .wrong-list .ensures)
-    ∙ sym (numbers-refused (a .state .now) (a .scratch .now) (a .markers) (a .src .now) (a .reports .now) (a .numbers .now) (a .room) (sym (c .before .before .before .before .four-each .ensures) ∙ not-true _ (c .before .before .before .if1 .taken)))
+    ap (λ (n : ℕ). readResult (a .state .now) (a .scratch .now) (a .reports .now) (a .numbers .now) (refusedAnswer n))
+    (c .wrong-list .ensures)
+    ∙ sym (numbers-refused (a .state .now) (a .scratch .now) (a .markers) (a .src .now) (a .reports .now) (a .numbers .now)
+    (a .room) (sym (c .before .before .before .before .four-each .ensures) ∙ not-true _ (c .before .before .before .if1 .taken)))
 
 returns-2 : tie.Need-returns-2
 returns-2 c =
-    let a = c .before .before .before .before .before .before .before .before .before .before .before .before .before .before .before .before .before .before .before .before .args in
+    let a = c .before .before .before .before .before .before .before .before .before .before .before .before .before .before
+    .before .before .before .before .before .before .args in
     c .before .before .before .before .before .before .before .before .read .ensures
-    ∙ sym (numbers-read (a .state .now) (a .scratch .now) (a .markers) (a .src .now) (a .reports .now) (a .numbers .now) (a .room) (sym (c .before .before .before .before .before .before .before .before .before .before .before .before .before .before .four-each .ensures) ∙ not-false _ (c .before .before .before .before .before .before .before .before .before .before .before .before .before .if1 .left)))
+    ∙ sym (numbers-read (a .state .now) (a .scratch .now) (a .markers) (a .src .now) (a .reports .now) (a .numbers .now) (a .room)
+    (sym (c .before .before .before .before .before .before .before .before .before .before .before .before .before .before
+    .four-each .ensures)
+    ∙ not-false _ (c .before .before .before .before .before .before .before .before .before .before .before .before .before .if1
+    .left)))
 
 pub read-numbers-spec : {M : Type 1} → statement M
 read-numbers-spec =

@@ -30,13 +30,15 @@ returns-2 : tie.Need-returns-2
 unfolding reader
 returns-2 c =
     let s = c .before .before .before .before .before .before in
-    wrong-6 (s .args .state .now) (s .args .scratch .now) (sym (c .before .before .before .valid-state .ensures) ∙ not-false _ (c .before .before .if1 .left)) (c .if2 .taken)
+    wrong-6 (s .args .state .now) (s .args .scratch .now)
+    (sym (c .before .before .before .valid-state .ensures) ∙ not-false _ (c .before .before .if1 .left)) (c .if2 .taken)
 
 returns-3 : tie.Need-returns-3
 unfolding reader
 returns-3 c =
     let s = c .before .before .before .before .before .before in
-    wrong-3 (s .args .state .now) (s .args .scratch .now) (sym (c .before .before .before .valid-state .ensures) ∙ not-false _ (c .before .before .if1 .left)) (c .if2 .left)
+    wrong-3 (s .args .state .now) (s .args .scratch .now)
+    (sym (c .before .before .before .valid-state .ensures) ∙ not-false _ (c .before .before .if1 .left)) (c .if2 .left)
 
 pub wrong-list-spec : {M : Type 1} → statement M
 wrong-list-spec =

@@ -17,16 +17,21 @@ use Rattle.t2_read_packet.proofs.read.Tie as tie
 returns : tie.Need-returns
 returns c =
     let s = c .before .before .before .before .before .before .before .before .before .before .before in
-    unchanged-is (s .args .state .now) (s .args .scratch .now) (s .args .m) (s .args .src .now) (s .args .reports .now) (s .args .records .now) _ _ (c .before .before .read-refusal .ensures) (c .before .if1 .taken) (c .refused .ensures)
+    unchanged-is (s .args .state .now) (s .args .scratch .now) (s .args .m) (s .args .src .now) (s .args .reports .now)
+    (s .args .records .now) _ _ (c .before .before .read-refusal .ensures) (c .before .if1 .taken) (c .refused .ensures)
 
 bit-in-requires : tie.Need-bit-in-requires
 bit-in-requires c κs = omega (arith, ap (λ (b : Bio). b .ct) (c .opj-bio-init-dec .ensures))
 
 read-absent-requires : tie.Need-read-absent-requires
 read-absent-requires c κs =
-    let s = c .before .before .before .before .before .before .before .before .before .before .before .before .before .before .before .before .before .before in
-    let g = accepted (s .args .state .now) (s .args .scratch .now) (s .args .reports .now) (sym (c .before .before .before .before .before .before .before .before .before .read-refusal .ensures) ∙ c .before .before .before .before .before .before .before .before .if1 .left) in
-    let e = c .before .before .before .before .before .bit-in .ensures ∙ ap (getBit (s .args .src .now)) (c .before .before .before .before .before .before .opj-bio-init-dec .ensures) in
+    let s = c .before .before .before .before .before .before .before .before .before .before .before .before .before .before
+    .before .before .before .before in
+    let g = accepted (s .args .state .now) (s .args .scratch .now) (s .args .reports .now)
+    (sym (c .before .before .before .before .before .before .before .before .before .read-refusal .ensures)
+    ∙ c .before .before .before .before .before .before .before .before .if1 .left) in
+    let e = c .before .before .before .before .before .bit-in .ensures
+    ∙ ap (getBit (s .args .src .now)) (c .before .before .before .before .before .before .opj-bio-init-dec .ensures) in
     let k = ap (λ (f : MarkerRead). f .skip) (c .before .before .before .before .before .before .before .read-marker .ensures) in
     let b = bioAt (c .before .before .before .before .before .before .before .read-marker .result .skip) in
     let p = getBit-place (s .args .src .now) b (omega (arith, k, skip-inside (s .args .m .sop) 6 0x91 (s .args .src .now) 0)) in
@@ -34,26 +39,71 @@ read-absent-requires c κs =
 
 returns-2 : tie.Need-returns-2
 returns-2 c =
-    let s = c .before .before .before .before .before .before .before .before .before .before .before .before .before .before .before .before .before .before .before .before .before .before .before .before .before in
-    let e = c .before .before .before .before .before .before .before .before .before .before .before .before .bit-in .ensures ∙ ap (getBit (s .args .src .now)) (c .before .before .before .before .before .before .before .before .before .before .before .before .before .opj-bio-init-dec .ensures) in
-    read-absent-is (s .args .state .now) (s .args .scratch .now) (s .args .m) (s .args .src .now) (s .args .reports .now) (s .args .records .now) (sym (c .before .before .before .before .before .before .before .before .before .before .before .before .before .before .before .before .read-refusal .ensures) ∙ c .before .before .before .before .before .before .before .before .before .before .before .before .before .before .before .if1 .left) (markerRead (c .before .before .before .before .before .before .before .before .before .before .before .before .before .before .read-marker .result)) (c .before .before .before .before .before .before .before .before .before .before .before .before .before .before .read-marker .ensures) (decoded (c .before .before .before .before .before .before .before .before .before .before .before .before .bit-in .result)) e _ (c .before .before .before .before .before .before .before .before .before .before .if2 .taken) (c .before .before .before .before .before .before .read-absent .ensures (s .args .records .now))
+    let s = c .before .before .before .before .before .before .before .before .before .before .before .before .before .before
+    .before .before .before .before .before .before .before .before .before .before .before in
+    let e = c .before .before .before .before .before .before .before .before .before .before .before .before .bit-in .ensures
+    ∙ ap (getBit (s .args .src .now))
+    (c .before .before .before .before .before .before .before .before .before .before .before .before .before .opj-bio-init-dec
+    .ensures) in
+    read-absent-is (s .args .state .now) (s .args .scratch .now) (s .args .m) (s .args .src .now) (s .args .reports .now)
+    (s .args .records .now)
+    (sym (c .before .before .before .before .before .before .before .before .before .before .before .before .before .before .before
+    .before .read-refusal .ensures)
+    ∙ c .before .before .before .before .before .before .before .before .before .before .before .before .before .before .before .if1
+    .left)
+    (markerRead (c .before .before .before .before .before .before .before .before .before .before .before .before .before .before
+    .read-marker .result))
+    (c .before .before .before .before .before .before .before .before .before .before .before .before .before .before .read-marker
+    .ensures)
+    (decoded (c .before .before .before .before .before .before .before .before .before .before .before .before .bit-in .result)) e
+    _ (c .before .before .before .before .before .before .before .before .before .before .if2 .taken)
+    (c .before .before .before .before .before .before .read-absent .ensures (s .args .records .now))
 
 read-present-requires : tie.Need-read-present-requires
 read-present-requires c κs =
-    let s = c .before .before .before .before .before .before .before .before .before .before .before .before .before .before .before .before .before .before .before in
-    let g = accepted (s .args .state .now) (s .args .scratch .now) (s .args .reports .now) (sym (c .before .before .before .before .before .before .before .before .before .before .read-refusal .ensures) ∙ c .before .before .before .before .before .before .before .before .before .if1 .left) in
-    let e = c .before .before .before .before .before .before .bit-in .ensures ∙ ap (getBit (s .args .src .now)) (c .before .before .before .before .before .before .before .opj-bio-init-dec .ensures) in
+    let s = c .before .before .before .before .before .before .before .before .before .before .before .before .before .before
+    .before .before .before .before .before in
+    let g = accepted (s .args .state .now) (s .args .scratch .now) (s .args .reports .now)
+    (sym (c .before .before .before .before .before .before .before .before .before .before .read-refusal .ensures)
+    ∙ c .before .before .before .before .before .before .before .before .before .if1 .left) in
+    let e = c .before .before .before .before .before .before .bit-in .ensures
+    ∙ ap (getBit (s .args .src .now)) (c .before .before .before .before .before .before .before .opj-bio-init-dec .ensures) in
     let k = ap (λ (f : MarkerRead). f .skip) (c .before .before .before .before .before .before .before .before .read-marker .ensures) in
     let b = bioAt (c .before .before .before .before .before .before .before .before .read-marker .result .skip) in
     let p = getBit-place (s .args .src .now) b (omega (arith, k, skip-inside (s .args .m .sop) 6 0x91 (s .args .src .now) 0)) in
-    let q = getBit-ct (s .args .src .now) b (omega arith) in
-    (g .valid, g .layers, g .listed, record { few = omega (arith, ap (λ (d : Decoded). d .bio .ct) e, q); place = omega (arith, ap (λ (d : Decoded). d .bio .bp) e, p) })
+    let q = getBit-ct (s .args .src .now) b (omega arith) in (
+      g .valid,
+      g .layers,
+      g .listed,
+      record {
+        few = omega (arith, ap (λ (d : Decoded). d .bio .ct) e, q);
+        place = omega (arith, ap (λ (d : Decoded). d .bio .bp) e, p);
+      },
+    )
 
 returns-3 : tie.Need-returns-3
 returns-3 c =
-    let s = c .before .before .before .before .before .before .before .before .before .before .before .before .before .before .before .before .before .before .before .before .before .before .before .before .before .before .before .before in
-    let e = c .before .before .before .before .before .before .before .before .before .before .before .before .before .before .before .bit-in .ensures ∙ ap (getBit (s .args .src .now)) (c .before .before .before .before .before .before .before .before .before .before .before .before .before .before .before .before .opj-bio-init-dec .ensures) in
-    read-present-is (s .args .state .now) (s .args .scratch .now) (s .args .m) (s .args .src .now) (s .args .reports .now) (s .args .records .now) (sym (c .before .before .before .before .before .before .before .before .before .before .before .before .before .before .before .before .before .before .before .read-refusal .ensures) ∙ c .before .before .before .before .before .before .before .before .before .before .before .before .before .before .before .before .before .before .if1 .left) (markerRead (c .before .before .before .before .before .before .before .before .before .before .before .before .before .before .before .before .before .read-marker .result)) (c .before .before .before .before .before .before .before .before .before .before .before .before .before .before .before .before .before .read-marker .ensures) (decoded (c .before .before .before .before .before .before .before .before .before .before .before .before .before .before .before .bit-in .result)) e _ (c .before .before .before .before .before .before .before .before .before .before .before .before .before .if2 .left) (c .before .before .before .before .before .before .before .before .read-present .ensures)
+    let s = c .before .before .before .before .before .before .before .before .before .before .before .before .before .before
+    .before .before .before .before .before .before .before .before .before .before .before .before .before .before in
+    let e = c .before .before .before .before .before .before .before .before .before .before .before .before .before .before
+    .before .bit-in .ensures
+    ∙ ap (getBit (s .args .src .now))
+    (c .before .before .before .before .before .before .before .before .before .before .before .before .before .before .before
+    .before .opj-bio-init-dec .ensures) in
+    read-present-is (s .args .state .now) (s .args .scratch .now) (s .args .m) (s .args .src .now) (s .args .reports .now)
+    (s .args .records .now)
+    (sym (c .before .before .before .before .before .before .before .before .before .before .before .before .before .before .before
+    .before .before .before .before .read-refusal .ensures)
+    ∙ c .before .before .before .before .before .before .before .before .before .before .before .before .before .before .before
+    .before .before .before .if1 .left)
+    (markerRead (c .before .before .before .before .before .before .before .before .before .before .before .before .before .before
+    .before .before .before .read-marker .result))
+    (c .before .before .before .before .before .before .before .before .before .before .before .before .before .before .before
+    .before .before .read-marker .ensures)
+    (decoded (c .before .before .before .before .before .before .before .before .before .before .before .before .before .before
+    .before .bit-in .result)) e _
+    (c .before .before .before .before .before .before .before .before .before .before .before .before .before .if2 .left)
+    (c .before .before .before .before .before .before .before .before .read-present .ensures)
 
 pub read-spec : {M : Type 1} → statement M
 read-spec =

@@ -24,9 +24,12 @@ use Rattle.t2_read_settle.specs.Results.{readResult}
 
 over-all : (lent : List ℕ) (rs : List BlockReport) → length lent ≡ 4 * length rs → overwrite lent (reportWords rs) ≡ reportWords rs
 unfolding overwrite
-over-all lent rs e = ap (λ (l : List ℕ). reportWords rs ++ l) (drop-of-length-le lent {i = length (reportWords rs)} (omega (arith, length-reports rs))) ∙ append-nil (reportWords rs)
+over-all lent rs e =
+    ap (λ (l : List ℕ). reportWords rs ++ l)
+    (drop-of-length-le lent {i = length (reportWords rs)} (omega (arith, length-reports rs))) ∙ append-nil (reportWords rs)
 
-module _ (ws scratch : List ℕ) (m : Markers) (src reports records : List ℕ) (s : MarkerRead) (b : Bio) (vs : List ℕ) (copied : vs ≡ ws) (a : Reading) (reads : ReadsHeader src reports records vs b a) where
+module _ (ws scratch : List ℕ) (m : Markers) (src reports records : List ℕ) (s : MarkerRead) (b : Bio) (vs : List ℕ)
+    (copied : vs ≡ ws) (a : Reading) (reads : ReadsHeader src reports records vs b a) where
   abbrev room : ℕ
   room = length records / recordWidth
 
@@ -36,22 +39,31 @@ module _ (ws scratch : List ℕ) (m : Markers) (src reports records : List ℕ) 
   reads-state : ReadsHeader src reports records ws b a
   reads-state = subst (λ (us : List ℕ). ReadsHeader src reports records us b a) copied reads
 
-  pub broken-is : (xs ys zs : List ℕ) (answer : ReadAnswer) → a .refusal ≢ 0 → length (a .words) ≡ length scratch → length (a .reports) ≡ length reports → length (a .records) ≡ length records
-      → xs ≡ wiped (a .words) → ys ≡ wiped (a .reports) → zs ≡ wiped (a .records) → answer ≡ refusedAnswer (a .refusal) → readResult ws xs ys zs answer ≡ presentOrBroken ws scratch m src reports records s header
+  pub broken-is : (xs ys zs : List ℕ) (answer : ReadAnswer) → a .refusal ≢ 0 → length (a .words) ≡ length scratch
+      → length (a .reports) ≡ length reports → length (a .records) ≡ length records
+      → xs ≡ wiped (a .words) → ys ≡ wiped (a .reports) → zs ≡ wiped (a .records) → answer ≡ refusedAnswer (a .refusal)
+      → readResult ws xs ys zs answer ≡ presentOrBroken ws scratch m src reports records s header
   unfolding presentOrBroken
   broken-is xs ys zs answer z kx ky kz ex ey ez ea =
       let f : a .refusal ≡ header .refusal = reads-state .follows .refuses in
-      (λ j. readResult ws ((ex ∙ ap (λ (n : ℕ). replicate n 0) kx) j) ((ey ∙ ap (λ (n : ℕ). replicate n 0) ky) j) ((ez ∙ ap (λ (n : ℕ). replicate n 0) kz) j) ((ea ∙ ap refusedAnswer f) j))
+      (λ j. readResult ws ((ex ∙ ap (λ (n : ℕ). replicate n 0) kx) j) ((ey ∙ ap (λ (n : ℕ). replicate n 0) ky) j)
+      ((ez ∙ ap (λ (n : ℕ). replicate n 0) kz) j) ((ea ∙ ap refusedAnswer f) j))
       ∙ sym (if-ne (header .refusal) 0 _ _ (λ y. z (f ∙ y)))
 
-  pub present-is : (xs ys : List ℕ) (answer : ReadAnswer) → a .refusal ≡ 0 → length reports ≡ reportWidth * length (blocks (bands ws)) → xs ≡ set (a .words) 3 (layer ws + 1) → ys ≡ set (a .words) 3 (layer ws + 1)
-      → answer ≡ doneAnswer m src s (a .bio) 1 (a .count) → readResult xs ys (a .reports) (a .records) answer ≡ presentOrBroken ws scratch m src reports records s header
+  pub present-is : (xs ys : List ℕ) (answer : ReadAnswer) → a .refusal ≡ 0 → length reports
+      ≡ reportWidth * length (blocks (bands ws)) → xs ≡ set (a .words) 3 (layer ws + 1) → ys ≡ set (a .words) 3 (layer ws + 1)
+      → answer ≡ doneAnswer m src s (a .bio) 1 (a .count) → readResult xs ys (a .reports) (a .records) answer
+      ≡ presentOrBroken ws scratch m src reports records s header
   unfolding presentOrBroken readPresent doneAnswer
   present-is xs ys answer z lent ex ey ea =
       let ok : header .refusal ≡ 0 = sym (reads-state .follows .refuses) ∙ z in
       let h : a ≡ heldBy reports records header = reads-state .follows .holds ok in
-      let o : overwrite reports (reportWords (header .reports)) ≡ reportWords (header .reports) = over-all reports (header .reports) (lent ∙ ap (λ (n : ℕ). 4 * n) (sym (reads-state .reported ok))) in
+      let o : overwrite reports (reportWords (header .reports))
+      ≡ reportWords (header .reports) =
+      over-all reports (header .reports) (lent ∙ ap (λ (n : ℕ). 4 * n) (sym (reads-state .reported ok))) in
       (λ j. readResult (ex j) (ey j) (a .reports) (a .records) (ea j))
-      ∙ ap (λ (x : Reading). readResult (set (x .words) 3 (layer ws + 1)) (set (x .words) 3 (layer ws + 1)) (x .reports) (x .records) (doneAnswer m src s (x .bio) 1 (x .count))) h
-      ∙ ap (λ (rows : List ℕ). readResult (set (header .words) 3 (layer ws + 1)) (set (header .words) 3 (layer ws + 1)) rows (heldBy reports records header .records) (doneAnswer m src s (header .bio) 1 (length (header .records)))) o
+      ∙ ap (λ (x : Reading). readResult (set (x .words) 3 (layer ws + 1)) (set (x .words) 3 (layer ws + 1)) (x .reports)
+      (x .records) (doneAnswer m src s (x .bio) 1 (x .count))) h
+      ∙ ap (λ (rows : List ℕ). readResult (set (header .words) 3 (layer ws + 1)) (set (header .words) 3 (layer ws + 1)) rows
+      (heldBy reports records header .records) (doneAnswer m src s (header .bio) 1 (length (header .records)))) o
       ∙ sym (if-eq (header .refusal) 0 _ _ ok)

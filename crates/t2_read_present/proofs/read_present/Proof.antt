@@ -30,7 +30,8 @@ opj-t2-read-packet-header-requires c κs =
     let ws = s .args .state .now in
     let v = valid-state reader ws (length (s .args .scratch .now)) (s .pre .0) in
     let e = c .before .before .before .before .before .copy .ensures in (
-      subst (λ (us : List ℕ). validState reader us (length us) ≡ true) (sym e) (subst (λ (n : ℕ). validState reader ws n ≡ true) (v .scratch-is) (s .pre .0)),
+      subst (λ (us : List ℕ). validState reader us (length us) ≡ true) (sym e)
+          (subst (λ (n : ℕ). validState reader ws n ≡ true) (v .scratch-is) (s .pre .0)),
       subst (λ (us : List ℕ). layer us < notYetIncluded) (sym e) (s .pre .1),
       subst (λ (us : List ℕ). length (s .args .reports .now) ≡ reportWidth * length (blocks (bands us))) (sym e) (s .pre .2),
       s .pre .3,
@@ -38,30 +39,60 @@ opj-t2-read-packet-header-requires c κs =
 
 returns : tie.Need-returns
 returns c =
-    let s = c .before .before .before .before .before .before .before .before .before .before .before .before .before .before .before .before .before .before .before .before .before .before .before .before .before .before .before .before .before .before .before .before .before in
+    let s = c .before .before .before .before .before .before .before .before .before .before .before .before .before .before
+    .before .before .before .before .before .before .before .before .before .before .before .before .before .before .before .before
+    .before .before .before in
     let a = s .args in
-    let h = c .before .before .before .before .before .before .before .before .before .before .before .before .before .before .before .before .before .before .before .opj-t2-read-packet-header in
+    let h = c .before .before .before .before .before .before .before .before .before .before .before .before .before .before
+    .before .before .before .before .before .opj-t2-read-packet-header in
     let w = c .before .before .before .before .before .before .before .wipe-all in
-    broken-is (a .state .now) (a .scratch .now) (a .m) (a .src .now) (a .reports .now) (a .records .now) (markerRead (a .s)) (a .b) (c .before .before .before .before .before .before .before .before .before .before .before .before .before .before .before .before .before .before .before .before .before .before .before .before .before .copy .last .1 .0) (c .before .before .before .before .before .before .before .before .before .before .before .before .before .before .before .before .before .before .before .before .before .before .before .before .before .copy .ensures) (reading (h .last .0) (h .last .1 .0) (h .last .1 .1 .0) (h .result)) (h .ensures) _ _ _ _ (c .before .before .before .before .before .before .before .before .before .before .before .if1 .taken) (h .kept .0 ∙ c .before .before .before .before .before .before .before .before .before .before .before .before .before .before .before .before .before .before .before .before .before .before .before .before .before .copy .kept .1 .0) (h .kept .1 .0) (h .kept .1 .1 .0) (w .ensures .0) (w .ensures .1) (w .ensures .2) (c .refused .ensures)
+    broken-is (a .state .now) (a .scratch .now) (a .m) (a .src .now) (a .reports .now) (a .records .now) (markerRead (a .s)) (a .b)
+    (c .before .before .before .before .before .before .before .before .before .before .before .before .before .before .before
+    .before .before .before .before .before .before .before .before .before .before .copy .last .1 .0)
+    (c .before .before .before .before .before .before .before .before .before .before .before .before .before .before .before
+    .before .before .before .before .before .before .before .before .before .before .copy .ensures)
+    (reading (h .last .0) (h .last .1 .0) (h .last .1 .1 .0) (h .result)) (h .ensures) _ _ _ _
+    (c .before .before .before .before .before .before .before .before .before .before .before .if1 .taken)
+    (h .kept .0 ∙ c .before .before .before .before .before .before .before .before .before .before .before .before .before .before
+    .before .before .before .before .before .before .before .before .before .before .before .copy .kept .1 .0) (h .kept .1 .0)
+    (h .kept .1 .1 .0) (w .ensures .0) (w .ensures .1) (w .ensures .2) (c .refused .ensures)
 
 settle-requires : tie.Need-settle-requires
 settle-requires c κs =
-    let s = c .before .before .before .before .before .before .before .before .before .before .before .before .before .before .before .before .before .before .before .before .before .before .before .before in
+    let s = c .before .before .before .before .before .before .before .before .before .before .before .before .before .before
+    .before .before .before .before .before .before .before .before .before .before in
     let ws = s .args .state .now in
     let v = valid-state reader ws (length (s .args .scratch .now)) (s .pre .0) in
-    let h = c .before .before .before .before .before .before .before .before .before .before .opj-t2-read-packet-header in
-    (h .kept .0 ∙ c .before .before .before .before .before .before .before .before .before .before .before .before .before .before .before .before .copy .kept .1 .0 ∙ v .scratch-is, omega (arith, thirteen-words ws (length (s .args .scratch .now)) v), s .pre .1)
+    let h = c .before .before .before .before .before .before .before .before .before .before .opj-t2-read-packet-header in (
+      h .kept .0 ∙ c .before .before .before .before .before .before .before .before .before .before .before .before .before .before
+          .before .before .copy .kept .1 .0
+          ∙ v .scratch-is,
+      omega (arith, thirteen-words ws (length (s .args .scratch .now)) v),
+      s .pre .1,
+    )
 
 done-requires : tie.Need-done-requires
-done-requires c κs = c .before .before .before .before .before .before .before .before .before .before .before .before .before .before .before .opj-t2-read-packet-header .ensures .bits .place
+done-requires c κs =
+    c .before .before .before .before .before .before .before .before .before .before .before .before .before .before .before
+    .opj-t2-read-packet-header .ensures .bits .place
 
 returns-2 : tie.Need-returns-2
 returns-2 c =
-    let s = c .before .before .before .before .before .before .before .before .before .before .before .before .before .before .before .before .before .before .before .before .before .before .before .before .before .before .before .before .before .before in
+    let s = c .before .before .before .before .before .before .before .before .before .before .before .before .before .before
+    .before .before .before .before .before .before .before .before .before .before .before .before .before .before .before
+    .before in
     let a = s .args in
-    let h = c .before .before .before .before .before .before .before .before .before .before .before .before .before .before .before .before .opj-t2-read-packet-header in
+    let h = c .before .before .before .before .before .before .before .before .before .before .before .before .before .before
+    .before .before .opj-t2-read-packet-header in
     let w = c .before .before .before .before .before .settle in
-    present-is (a .state .now) (a .scratch .now) (a .m) (a .src .now) (a .reports .now) (a .records .now) (markerRead (a .s)) (a .b) (c .before .before .before .before .before .before .before .before .before .before .before .before .before .before .before .before .before .before .before .before .before .before .copy .last .1 .0) (c .before .before .before .before .before .before .before .before .before .before .before .before .before .before .before .before .before .before .before .before .before .before .copy .ensures) (reading (h .last .0) (h .last .1 .0) (h .last .1 .1 .0) (h .result)) (h .ensures) _ _ _ (c .before .before .before .before .before .before .before .before .if1 .left) (s .pre .2) (w .ensures .0) (w .ensures .1) (c .done .ensures)
+    present-is (a .state .now) (a .scratch .now) (a .m) (a .src .now) (a .reports .now) (a .records .now) (markerRead (a .s)) (a .b)
+    (c .before .before .before .before .before .before .before .before .before .before .before .before .before .before .before
+    .before .before .before .before .before .before .before .copy .last .1 .0)
+    (c .before .before .before .before .before .before .before .before .before .before .before .before .before .before .before
+    .before .before .before .before .before .before .before .copy .ensures)
+    (reading (h .last .0) (h .last .1 .0) (h .last .1 .1 .0) (h .result)) (h .ensures) _ _ _
+    (c .before .before .before .before .before .before .before .before .if1 .left) (s .pre .2) (w .ensures .0) (w .ensures .1)
+    (c .done .ensures)
 
 pub read-present-spec : {M : Type 1} → statement M
 read-present-spec =

@@ -21,7 +21,8 @@ returns : tie.Need-returns
 unfolding reader
 returns c =
     let s = c .before .before .before .before .before in
-    refusal-5 (s .args .state .now) (s .args .scratch .now) (s .args .reports .now) (sym (c .before .valid-state .ensures) ∙ not-true _ (c .if1 .taken))
+    refusal-5 (s .args .state .now) (s .args .scratch .now) (s .args .reports .now)
+    (sym (c .before .valid-state .ensures) ∙ not-true _ (c .if1 .taken))
 
 shared-slice-read-if2 : tie.Need-shared-slice-read-if2
 unfolding reader
@@ -36,7 +37,8 @@ returns-2 : tie.Need-returns-2
 unfolding reader
 returns-2 c =
     let s = c .before .before .before .before .before .before .before in
-    refusal-6 (s .args .state .now) (s .args .scratch .now) (s .args .reports .now) (sym (c .before .before .before .valid-state .ensures) ∙ not-false _ (c .before .before .if1 .left)) (c .if2 .taken)
+    refusal-6 (s .args .state .now) (s .args .scratch .now) (s .args .reports .now)
+    (sym (c .before .before .before .valid-state .ensures) ∙ not-false _ (c .before .before .if1 .left)) (c .if2 .taken)
 
 bands-of-requires : tie.Need-bands-of-requires
 unfolding reader
@@ -51,7 +53,8 @@ unfolding reader
 shared-slice-read-n c =
     let s = c .before .before .before .before .before .before .before .before .before in
     let ws = s .args .state .now in
-    let e = sym (c .before .before .before .before .before .valid-state .ensures) ∙ not-false _ (c .before .before .before .before .if1 .left) in
+    let e = sym (c .before .before .before .before .before .valid-state .ensures)
+    ∙ not-false _ (c .before .before .before .before .if1 .left) in
     let v = valid-state reader ws (length (s .args .scratch .now)) e in
     omega (arith, thirteen-words ws (length (s .args .scratch .now)) v)
 
@@ -60,7 +63,8 @@ unfolding reader
 cast-n c =
     let s = c .before .before .before .before .before .before .before .before .before in
     let ws = s .args .state .now in
-    let e = sym (c .before .before .before .before .before .valid-state .ensures) ∙ not-false _ (c .before .before .before .before .if1 .left) in
+    let e = sym (c .before .before .before .before .before .valid-state .ensures)
+    ∙ not-false _ (c .before .before .before .before .if1 .left) in
     let v = valid-state reader ws (length (s .args .scratch .now)) e in
     omega (arith, v .three-bands)
 
@@ -69,7 +73,8 @@ unfolding reader
 num-blocks-requires c κs =
     let s = c .before .before .before .before .before .before .before .before .before in
     let ws = s .args .state .now in
-    let e = sym (c .before .before .before .before .before .valid-state .ensures) ∙ not-false _ (c .before .before .before .before .if1 .left) in
+    let e = sym (c .before .before .before .before .before .valid-state .ensures)
+    ∙ not-false _ (c .before .before .before .before .if1 .left) in
     let v = valid-state reader ws (length (s .args .scratch .now)) e in
     (v .three-bands, subst AllUpTo64 (sym (first-bands ws _ _ refl (c .before .bands-of .ensures))) (v .sides))
 
@@ -78,9 +83,11 @@ unfolding reader
 mul-if3 c =
     let s = c .before .before .before .before .before .before .before .before .before .before in
     let ws = s .args .state .now in
-    let e = sym (c .before .before .before .before .before .before .valid-state .ensures) ∙ not-false _ (c .before .before .before .before .before .if1 .left) in
+    let e = sym (c .before .before .before .before .before .before .valid-state .ensures)
+    ∙ not-false _ (c .before .before .before .before .before .if1 .left) in
     let v = valid-state reader ws (length (s .args .scratch .now)) e in
-    let b = blocks-up-to-12288 _ _ (v .three-bands) (subst AllUpTo64 (sym (first-bands ws _ _ refl (c .before .before .bands-of .ensures))) (v .sides)) in
+    let b = blocks-up-to-12288 _ _ (v .three-bands)
+    (subst AllUpTo64 (sym (first-bands ws _ _ refl (c .before .before .bands-of .ensures))) (v .sides)) in
     omega (arith, c .num-blocks .ensures, b)
 
 returns-3 : tie.Need-returns-3
@@ -88,16 +95,24 @@ unfolding reader
 returns-3 c =
     let s = c .before .before .before .before .before .before .before .before .before .before .before in
     let ws = s .args .state .now in
-    let m = c .before .num-blocks .ensures ∙ ap (λ (bs : List Band). length (blocks bs)) (first-bands ws _ _ refl (c .before .before .before .bands-of .ensures)) in
-    refusal-3 (s .args .state .now) (s .args .scratch .now) (s .args .reports .now) (sym (c .before .before .before .before .before .before .before .valid-state .ensures) ∙ not-false _ (c .before .before .before .before .before .before .if1 .left)) (c .before .before .before .before .if2 .left) (λ z. c .if3 .taken (z ∙ ap (λ (n : ℕ). 4 * n) (sym m)))
+    let m = c .before .num-blocks .ensures
+    ∙ ap (λ (bs : List Band). length (blocks bs)) (first-bands ws _ _ refl (c .before .before .before .bands-of .ensures)) in
+    refusal-3 (s .args .state .now) (s .args .scratch .now) (s .args .reports .now)
+    (sym (c .before .before .before .before .before .before .before .valid-state .ensures)
+    ∙ not-false _ (c .before .before .before .before .before .before .if1 .left)) (c .before .before .before .before .if2 .left)
+    (λ z. c .if3 .taken (z ∙ ap (λ (n : ℕ). 4 * n) (sym m)))
 
 returns-4 : tie.Need-returns-4
 unfolding reader
 returns-4 c =
     let s = c .before .before .before .before .before .before .before .before .before .before .before in
     let ws = s .args .state .now in
-    let m = c .before .num-blocks .ensures ∙ ap (λ (bs : List Band). length (blocks bs)) (first-bands ws _ _ refl (c .before .before .before .bands-of .ensures)) in
-    no-refusal (s .args .state .now) (s .args .scratch .now) (s .args .reports .now) (sym (c .before .before .before .before .before .before .before .valid-state .ensures) ∙ not-false _ (c .before .before .before .before .before .before .if1 .left)) (c .before .before .before .before .if2 .left) (c .if3 .left ∙ ap (λ (n : ℕ). 4 * n) m)
+    let m = c .before .num-blocks .ensures
+    ∙ ap (λ (bs : List Band). length (blocks bs)) (first-bands ws _ _ refl (c .before .before .before .bands-of .ensures)) in
+    no-refusal (s .args .state .now) (s .args .scratch .now) (s .args .reports .now)
+    (sym (c .before .before .before .before .before .before .before .valid-state .ensures)
+    ∙ not-false _ (c .before .before .before .before .before .before .if1 .left)) (c .before .before .before .before .if2 .left)
+    (c .if3 .left ∙ ap (λ (n : ℕ). 4 * n) m)
 
 pub read-refusal-spec : {M : Type 1} → statement M
 read-refusal-spec =

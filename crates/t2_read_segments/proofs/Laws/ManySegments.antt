@@ -27,7 +27,11 @@ To109 n = (1 ≤ n) × (n ≤ 109)
 
 limit-after-between : (s m : ℕ) → (1 ≤ limitAfter s m) × (limitAfter s m ≤ 109)
 unfolding limitAfter firstLimit nextLimit
-limit-after-between s m = either To109 (eqb m 0) _ _ (either To109 (termAll s) 1 _ (omega arith) (either To109 (bypass s) 10 109 (omega arith) (omega arith))) (either To109 (termAll s) 1 _ (omega arith) (either To109 (bypass s) _ 109 (either To109 (eqb m 2) 1 2 (omega arith) (omega arith)) (omega arith)))
+limit-after-between s m =
+    either To109 (eqb m 0) _ _
+    (either To109 (termAll s) 1 _ (omega arith) (either To109 (bypass s) 10 109 (omega arith) (omega arith)))
+    (either To109 (termAll s) 1 _ (omega arith)
+    (either To109 (bypass s) _ 109 (either To109 (eqb m 2) 1 2 (omega arith) (omega arith)) (omega arith)))
 
 abbrev HasRoom : Segment → Type 0
 HasRoom s = (s .used < s .limit) × (s .limit ≤ 109)
@@ -41,7 +45,8 @@ has-room ws at s e f =
     (λ q. subst HasRoom (segment-opens ws at (limitAfter (getD ws 2 0) m) q refl) (omega (arith, l .0), l .1))
     (λ q. subst HasRoom (segment-open ws at q) (omega (arith, f .used, q), f .limit)))
 
-pub taken-is : (ws : List ℕ) (at left n : ℕ) (s : Segment) → s ≡ currentSegment ws (blockAt at) → n ≡ min (s .limit - s .used) left → n ≡ passesTaken ws (blockAt at) left
+pub taken-is : (ws : List ℕ) (at left n : ℕ) (s : Segment) → s ≡ currentSegment ws (blockAt at) → n ≡ min (s .limit - s .used) left
+    → n ≡ passesTaken ws (blockAt at) left
 unfolding passesTaken currentSegment
 taken-is ws at left n s e q = q ∙ ap (λ (z : Segment). min (z .limit - z .used) left) e
 
@@ -59,11 +64,14 @@ pub record Leaves (at : ℕ) (a b : Reading) : Type 0 where
 
 segment-stored : (ws : List ℕ) (at m u : ℕ) → at + 3 < length ws → u ≤ m → m ≤ 109 → SegmentFits (set (set ws (at + 2) m) (at + 3) u) at
 segment-stored ws at m u h l k =
-    let x : getD (set (set ws (at + 2) m) (at + 3) u) (at + 2) 0 ≡ m = getD-set-other (set ws (at + 2) m) (at + 3) (at + 2) u 0 (omega arith) ∙ getD-set-same ws (at + 2) m 0 (omega arith) in
-    let y : getD (set (set ws (at + 2) m) (at + 3) u) (at + 3) 0 ≡ u = getD-set-same (set ws (at + 2) m) (at + 3) u 0 (omega (arith, length-set ws (at + 2) m)) in
+    let x : getD (set (set ws (at + 2) m) (at + 3) u) (at + 2) 0
+    ≡ m = getD-set-other (set ws (at + 2) m) (at + 3) (at + 2) u 0 (omega arith) ∙ getD-set-same ws (at + 2) m 0 (omega arith) in
+    let y : getD (set (set ws (at + 2) m) (at + 3) u) (at + 3) 0
+    ≡ u = getD-set-same (set ws (at + 2) m) (at + 3) u 0 (omega (arith, length-set ws (at + 2) m)) in
     record { used = omega arith; limit = omega arith }
 
-pub segment-leaves : (src : List ℕ) (i at n : ℕ) (a b : Reading) (s : Segment) → b ≡ nextSegment src i (blockAt at) n a → s ≡ currentSegment (a .words) (blockAt at) → a .bio .ct ≤ 8 → at + 3 < length (a .words)
+pub segment-leaves : (src : List ℕ) (i at n : ℕ) (a b : Reading) (s : Segment) → b ≡ nextSegment src i (blockAt at) n a → s
+    ≡ currentSegment (a .words) (blockAt at) → a .bio .ct ≤ 8 → at + 3 < length (a .words)
     → SegmentFits (a .words) at → s .used + n ≤ s .limit → Leaves at a b
 unfolding nextSegment currentSegment
 segment-leaves src i at n a b s e q c h f l =
@@ -77,15 +85,19 @@ segment-leaves src i at n a b s e q c h f l =
     let same : Leaves at a (stopped 9 a) = record { few = c; segment = f } in
     subst (Leaves at a) (sym e)
     (either (Leaves at a) (ltb 32 w) _ _ same
-    (either (Leaves at a) (leb _ (a .count)) (stopped 13 a) _ (record { few = c; segment = f }) (record { few = readBits-ct src w (a .bio) c; segment = t })))
+    (either (Leaves at a) (leb _ (a .count)) (stopped 13 a) _ (record { few = c; segment = f })
+    (record { few = readBits-ct src w (a .bio) c; segment = t })))
 
 -- ---- the next ones
 
-module _ (src : List ℕ) (i at f left n : ℕ) (a b : Reading) (some : 0 < left) (enough : left ≤ f) (takes : n ≡ passesTaken (a .words) (blockAt at) left) (is : b ≡ nextSegment src i (blockAt at) n a) where
-  first-is : (g : ℕ) → f ≡ suc g → nextSegments src i (blockAt at) f left a ≡ cond (eqb (b .refusal) 0) (nextSegments src i (blockAt at) g (left - n) b) b
+module _ (src : List ℕ) (i at f left n : ℕ) (a b : Reading) (some : 0 < left) (enough : left ≤ f)
+    (takes : n ≡ passesTaken (a .words) (blockAt at) left) (is : b ≡ nextSegment src i (blockAt at) n a) where
+  first-is : (g : ℕ) → f ≡ suc g → nextSegments src i (blockAt at) f left a
+      ≡ cond (eqb (b .refusal) 0) (nextSegments src i (blockAt at) g (left - n) b) b
   unfolding nextSegments
   first-is g e =
-      let r : nextSegment src i (blockAt at) (passesTaken (a .words) (blockAt at) left) a ≡ b = sym (is ∙ ap (λ (z : ℕ). nextSegment src i (blockAt at) z a) takes) in
+      let r : nextSegment src i (blockAt at) (passesTaken (a .words) (blockAt at) left) a
+      ≡ b = sym (is ∙ ap (λ (z : ℕ). nextSegment src i (blockAt at) z a) takes) in
       ap (λ (z : ℕ). nextSegments src i (blockAt at) z left a) e ∙ if-lt 0 left _ _ some
       ∙ (λ j. cond (eqb (r j .refusal) 0) (nextSegments src i (blockAt at) g (left - sym takes j) (r j)) (r j))
 

@@ -25,11 +25,13 @@ use Rattle.t2_read_segments.specs.Reading.{Reading, stopped, nextSegment
 abbrev segmentIs : ℕ → ℕ → ℕ → Segment
 segmentIs o m u = record { opens = o; limit = m; used = u }
 
-pub segment-opens : (ws : List ℕ) (at next : ℕ) → getD ws (at + 2) 0 ≡ getD ws (at + 3) 0 → next ≡ limitAfter (getD ws 2 0) (getD ws (at + 2) 0) → segmentIs 1 next 0 ≡ currentSegment ws (blockAt at)
+pub segment-opens : (ws : List ℕ) (at next : ℕ) → getD ws (at + 2) 0 ≡ getD ws (at + 3) 0 → next
+    ≡ limitAfter (getD ws 2 0) (getD ws (at + 2) 0) → segmentIs 1 next 0 ≡ currentSegment ws (blockAt at)
 unfolding currentSegment opensSegment currentLimit currentPasses limitAfter
 segment-opens ws at next e q = rw (q, eq-eqb (getD ws (at + 2) 0) (getD ws (at + 3) 0) e)
 
-pub segment-open : (ws : List ℕ) (at : ℕ) → getD ws (at + 2) 0 ≢ getD ws (at + 3) 0 → segmentIs 0 (getD ws (at + 2) 0) (getD ws (at + 3) 0) ≡ currentSegment ws (blockAt at)
+pub segment-open : (ws : List ℕ) (at : ℕ) → getD ws (at + 2) 0 ≢ getD ws (at + 3) 0
+    → segmentIs 0 (getD ws (at + 2) 0) (getD ws (at + 3) 0) ≡ currentSegment ws (blockAt at)
 unfolding currentSegment opensSegment currentLimit currentPasses
 segment-open ws at e = rw (ne-eqb (getD ws (at + 2) 0) (getD ws (at + 3) 0) e)
 
@@ -46,9 +48,17 @@ module _ (src : List ℕ) (i at n : ℕ) (a : Reading) (w : ℕ) (is : w ≡ wid
 
   abbrev stored : Segment → Decoded → List ℕ → Reading
   stored s len rows =
-      record { words = set (set (a .words) (at + 2) (s .limit)) (at + 3) (s .used + n); reports = a .reports; records = rows; bio = len .bio; count = a .count + 1; refusal = 0 }
+      record {
+        words = set (set (a .words) (at + 2) (s .limit)) (at + 3) (s .used + n);
+        reports = a .reports;
+        records = rows;
+        bio = len .bio;
+        count = a .count + 1;
+        refusal = 0;
+      }
 
-  pub segment-read : (s : Segment) (len : Decoded) (rows : List ℕ) → w ≤ 32 → a .count < length (a .records) / recordWidth → s ≡ currentSegment (a .words) (blockAt at) → len ≡ readBits src w (a .bio)
+  pub segment-read : (s : Segment) (len : Decoded) (rows : List ℕ) → w ≤ 32 → a .count < length (a .records) / recordWidth → s
+      ≡ currentSegment (a .words) (blockAt at) → len ≡ readBits src w (a .bio)
       → rows ≡ putRecord (a .records) (a .count) i (s .opens) n (len .value) → stored s len rows ≡ nextSegment src i (blockAt at) n a
   unfolding nextSegment currentSegment
   segment-read s len rows h l p q u =
@@ -59,8 +69,11 @@ module _ (src : List ℕ) (i at n : ℕ) (a : Reading) (w : ℕ) (is : w ≡ wid
 
 -- ---- pass count and increment
 
-pub passes-stored : (src : List ℕ) (at before bits : ℕ) (ws : List ℕ) (b : Bio) (n more : Decoded) → n ≡ readPasses src b → more ≡ readCommaLimited src (n .bio)
-    → _≡_ {A = ValueAfter} (record { words = set (set ws at (before + n .value)) (at + 1) (bits + more .value); bio = more .bio; value = n .value }) (passesRead src at before bits ws b)
+pub passes-stored : (src : List ℕ) (at before bits : ℕ) (ws : List ℕ) (b : Bio) (n more : Decoded) → n ≡ readPasses src b → more
+    ≡ readCommaLimited src (n .bio)
+    → _≡_ {A = ValueAfter}
+    (record { words = set (set ws at (before + n .value)) (at + 1) (bits + more .value); bio = more .bio; value = n .value })
+    (passesRead src at before bits ws b)
 unfolding passesRead
 passes-stored src at before bits ws b n more p q =
     let e : more ≡ readCommaLimited src (readPasses src b .bio) = q ∙ ap (λ (d : Decoded). readCommaLimited src (d .bio)) p in

@@ -5,10 +5,12 @@ use Rattle.t2_read_segments.proofs.current_segment.Statement.{statement
 use Rattle.t2_read_segments.proofs.current_segment.Tie as tie
 
 returns : tie.Need-returns
-returns c = segment-opens (c .before .before .before .before .before .before .args .words .now) (c .before .before .before .before .before .before .args .at) _ (c .before .before .if1 .taken) (c .limit-after .ensures)
+returns c = segment-opens (c .before .before .before .before .before .before .args .words .now)
+    (c .before .before .before .before .before .before .args .at) _ (c .before .before .if1 .taken) (c .limit-after .ensures)
 
 returns-2 : tie.Need-returns-2
-returns-2 c = segment-open (c .before .before .before .before .args .words .now) (c .before .before .before .before .args .at) (c .if1 .left)
+returns-2 c = segment-open (c .before .before .before .before .args .words .now) (c .before .before .before .before .args .at)
+    (c .if1 .left)
 
 pub current-segment-spec : {M : Type 1} → statement M
 current-segment-spec =

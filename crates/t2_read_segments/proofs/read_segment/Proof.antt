@@ -20,18 +20,28 @@ returns : tie.Need-returns
 returns c =
     let s = c .before .before .before .before .before .before .before in
     λ reports. ap (λ (o : Run). reading (s .args .words .now) reports (s .args .records .now) o) (c .refuse .ensures)
-    ∙ segment-wide (s .args .src .now) (s .args .block) (s .args .at) (s .args .n) (reading (s .args .words .now) reports (s .args .records .now) (s .args .r)) _ (c .before .before .field-width .ensures) (c .before .if1 .taken)
+    ∙ segment-wide (s .args .src .now) (s .args .block) (s .args .at) (s .args .n)
+    (reading (s .args .words .now) reports (s .args .records .now) (s .args .r)) _ (c .before .before .field-width .ensures)
+    (c .before .if1 .taken)
 
 returns-2 : tie.Need-returns-2
 returns-2 c =
     let s = c .before .before .before .before .before .before .before .before in
     λ reports. ap (λ (o : Run). reading (s .args .words .now) reports (s .args .records .now) o) (c .refuse2 .ensures)
-    ∙ segment-past-records (s .args .src .now) (s .args .block) (s .args .at) (s .args .n) (reading (s .args .words .now) reports (s .args .records .now) (s .args .r)) _ (c .before .before .before .field-width .ensures) (c .before .before .if1 .left) (c .before .if2 .taken)
+    ∙ segment-past-records (s .args .src .now) (s .args .block) (s .args .at) (s .args .n)
+    (reading (s .args .words .now) reports (s .args .records .now) (s .args .r)) _ (c .before .before .before .field-width .ensures)
+    (c .before .before .if1 .left) (c .before .if2 .taken)
 
 returns-3 : tie.Need-returns-3
 returns-3 c =
     let s = c .before .before .before .before .before .before .before .before .before .before .before .before .before .before in
-    λ reports. segment-read (s .args .src .now) (s .args .block) (s .args .at) (s .args .n) (reading (s .args .words .now) reports (s .args .records .now) (s .args .r)) _ (c .before .before .before .before .before .before .before .before .before .field-width .ensures) (s .args .s) (decoded (c .before .before .before .before .before .before .opj-bio-read .result)) _ (c .before .before .before .before .before .before .before .before .if1 .left) (c .before .before .before .before .before .before .before .if2 .left) (s .pre .3) (c .before .before .before .before .before .before .opj-bio-read .ensures) (c .before .before .before .put-record .ensures)
+    λ reports. segment-read (s .args .src .now) (s .args .block) (s .args .at) (s .args .n)
+    (reading (s .args .words .now) reports (s .args .records .now) (s .args .r)) _
+    (c .before .before .before .before .before .before .before .before .before .field-width .ensures) (s .args .s)
+    (decoded (c .before .before .before .before .before .before .opj-bio-read .result)) _
+    (c .before .before .before .before .before .before .before .before .if1 .left)
+    (c .before .before .before .before .before .before .before .if2 .left) (s .pre .3)
+    (c .before .before .before .before .before .before .opj-bio-read .ensures) (c .before .before .before .put-record .ensures)
 
 pub read-segment-spec : {M : Type 1} → statement M
 read-segment-spec =

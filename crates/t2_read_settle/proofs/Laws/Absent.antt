@@ -13,7 +13,8 @@ use Rattle.t800.specs.Packet.{readAbsent}
 use Rattle.t2_read_marks.specs.Marks.{doneAnswer}
 use Rattle.t2_read_settle.specs.Results.{readResult}
 
-pub absent-is : (ws : List ℕ) (m : Markers) (src reports records : List ℕ) (s : MarkerRead) (b : Bio) (scratch rows : List ℕ) (answer : ReadAnswer)
+pub absent-is : (ws : List ℕ) (m : Markers) (src reports records : List ℕ) (s : MarkerRead) (b : Bio) (scratch rows : List ℕ)
+    (answer : ReadAnswer)
     → scratch ≡ set ws 3 (layer ws + 1) → rows ≡ wiped reports → answer ≡ doneAnswer m src s b 0 0
     → readResult (set ws 3 (layer ws + 1)) scratch rows records answer ≡ readAbsent ws m src reports records s b
 unfolding readAbsent doneAnswer

@@ -35,7 +35,9 @@ copy-requires c κs =
 returns : tie.Need-returns
 returns c =
     let s = c .before .before .before .before .before .before .before .before .before .before .before .before .before .before .before in
-    λ records. absent-is (s .args .state .now) (s .args .m) (s .args .src .now) (s .args .reports .now) records (markerRead (s .args .s)) (s .args .b) _ _ _ (c .before .before .before .before .before .before .before .copy .ensures) (c .before .before .before .wipe .ensures) (c .done .ensures)
+    λ records. absent-is (s .args .state .now) (s .args .m) (s .args .src .now) (s .args .reports .now) records
+    (markerRead (s .args .s)) (s .args .b) _ _ _ (c .before .before .before .before .before .before .before .copy .ensures)
+    (c .before .before .before .wipe .ensures) (c .done .ensures)
 
 pub read-absent-spec : {M : Type 1} → statement M
 read-absent-spec =

@@ -83,8 +83,10 @@ none-long-first c cs ls ms h =
     let rest : Bool = segmentTooLong cs (drop c ls) (drop c ms) in
     (or-left here rest h, or-right here rest h)
 
-pub none-wide-first : (ws : List ℕ) (k : Block) (ks : List Block) (c : ℕ) (cs ls ms : List ℕ) → fieldTooWide ws (k ∷ ks) (c ∷ cs) ls ms ≡ false
-    → (blockTooWide (lengthBitsBefore ws k) (segmentsOf (take c ls) (take c ms)) ≡ false) × (fieldTooWide ws ks cs (drop c ls) (drop c ms) ≡ false)
+pub none-wide-first : (ws : List ℕ) (k : Block) (ks : List Block) (c : ℕ) (cs ls ms : List ℕ)
+    → fieldTooWide ws (k ∷ ks) (c ∷ cs) ls ms ≡ false
+    → (blockTooWide (lengthBitsBefore ws k) (segmentsOf (take c ls) (take c ms)) ≡ false)
+    × (fieldTooWide ws ks cs (drop c ls) (drop c ms) ≡ false)
 unfolding fieldTooWide
 none-wide-first ws k ks c cs ls ms h =
     let here : Bool = blockTooWide (lengthBitsBefore ws k) (segmentsOf (take c ls) (take c ms)) in

@@ -40,7 +40,10 @@ module _ (ws : List ℕ) (k : ℕ) (valid : validState writer ws k ≡ true) whe
     bands-are = first-bands ws n bs count three
 
     pub sides-are : (n ≤ 3) × AllUpTo64 (take n bs)
-    sides-are = (omega (arith, valid-state writer ws k valid .three-bands), subst AllUpTo64 (sym bands-are) (valid-state writer ws k valid .sides))
+    sides-are = (
+      omega (arith, valid-state writer ws k valid .three-bands),
+      subst AllUpTo64 (sym bands-are) (valid-state writer ws k valid .sides),
+    )
 
     pub length-is : length ws ≡ stateLength (take n bs)
     length-is = valid-state writer ws k valid .length-is ∙ ap stateLength (sym bands-are)
@@ -51,12 +54,14 @@ blocks-of-valid ws n v = let k = valid-state writer ws n v in blocks-up-to-12288
 
 -- ---- in order
 
-pub contribution-parts : (ws : List ℕ) (p : Contribution) (a b : Bool) (r : ℕ) → a ≡ wrongLists p (length (blocks (bands ws))) → b ≡ any (λ c. ltb 164 c) (p .counts)
+pub contribution-parts : (ws : List ℕ) (p : Contribution) (a b : Bool) (r : ℕ) → a ≡ wrongLists p (length (blocks (bands ws))) → b
+    ≡ any (λ c. ltb 164 c) (p .counts)
     → r ≡ segmentsRefusal ws (blocks (bands ws)) (p .counts) (p .lengths) (p .marks) → cond a 3 (cond b 7 r) ≡ contributionRefusal ws p
 unfolding contributionRefusal segmentsRefusal
 contribution-parts ws p a b r ea eb er = rw (ea, eb, er)
 
-pub measure-parts : (ws : List ℕ) (n : ℕ) (p : Contribution) (v t : Bool) (r : ℕ) → v ≡ validState writer ws n → t ≡ eqb (layer ws) notYetIncluded → r ≡ contributionRefusal ws p
+pub measure-parts : (ws : List ℕ) (n : ℕ) (p : Contribution) (v t : Bool) (r : ℕ) → v ≡ validState writer ws n → t
+    ≡ eqb (layer ws) notYetIncluded → r ≡ contributionRefusal ws p
     → cond (not v) 5 (cond t 6 r) ≡ measureRefusalFor ws n p
 unfolding measureRefusalFor
 measure-parts ws n p v t r ev et er = rw (ev, et, er)

@@ -7,6 +7,7 @@ use Rattle.t800.specs.WriteHeader.{Contribution}
 use Rattle.t800.specs.Packet.{measureRefusal}
 use Rattle.t2_refusals.specs.Refusals.{contributionRefusal, measureRefusalFor}
 
-pub refusal-by-scratch-length : (ws scratch : List ℕ) (p : Contribution) → measureRefusal ws scratch p ≡ measureRefusalFor ws (length scratch) p
+pub refusal-by-scratch-length : (ws scratch : List ℕ) (p : Contribution) → measureRefusal ws scratch p
+    ≡ measureRefusalFor ws (length scratch) p
 unfolding measureRefusal measureRefusalFor contributionRefusal
 refusal-by-scratch-length ws scratch p = refl

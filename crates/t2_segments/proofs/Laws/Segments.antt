@@ -76,7 +76,8 @@ splits n b l (x ∷ ls) m (y ∷ ms) e = go (eqb m 0) refl (splits (n + 1) (b + 
           passes-are = ap (λ (s : Segment). s .passes) (first-goes-on n b l m (x ∷ ls) (y ∷ ms) t) ∙ r .passes-are ∙ omega arith;
           rest =
               pass-goes-on n b l x m y ls ms t ∙ r .rest
-              ∙ ap (λ (s : Segment). s ∷ segmentsFrom 0 0 (drop (r .more) (x ∷ ls)) (drop (r .more) (y ∷ ms))) (sym (first-goes-on n b l m (x ∷ ls) (y ∷ ms) t));
+              ∙ ap (λ (s : Segment). s ∷ segmentsFrom 0 0 (drop (r .more) (x ∷ ls)) (drop (r .more) (y ∷ ms)))
+              (sym (first-goes-on n b l m (x ∷ ls) (y ∷ ms) t));
         }
     go false t r =
         record {
@@ -84,7 +85,8 @@ splits n b l (x ∷ ls) m (y ∷ ms) e = go (eqb m 0) refl (splits (n + 1) (b + 
           some = omega arith;
           enough = omega arith;
           passes-are = ap (λ (s : Segment). s .passes) (first-ends n b l m (x ∷ ls) (y ∷ ms) t);
-          rest = pass-ends n b l x m y ls ms t ∙ ap (λ (s : Segment). s ∷ segmentsFrom 0 0 (x ∷ ls) (y ∷ ms)) (sym (first-ends n b l m (x ∷ ls) (y ∷ ms) t));
+          rest = pass-ends n b l x m y ls ms t
+              ∙ ap (λ (s : Segment). s ∷ segmentsFrom 0 0 (x ∷ ls) (y ∷ ms)) (sym (first-ends n b l m (x ∷ ls) (y ∷ ms) t));
         }
 
 -- the segment of p passes and b bytes that begins at a pass of a block
@@ -93,7 +95,8 @@ pub record Next (ls ms : List ℕ) (at p b : ℕ) : Type 0 where
   pub enough : at + p ≤ length ls
   pub is : segmentsOf (drop at ls) (drop at ms) ≡ segment p b ∷ segmentsOf (drop (at + p) ls) (drop (at + p) ms)
 
-next-of-split : (ls ms : List ℕ) (at p b : ℕ) → segment p b ≡ firstSegment (drop at ls) (drop at ms) → at < length ls → Split 0 0 (drop at ls) (drop at ms) → Next ls ms at p b
+next-of-split : (ls ms : List ℕ) (at p b : ℕ) → segment p b ≡ firstSegment (drop at ls) (drop at ms) → at < length ls
+    → Split 0 0 (drop at ls) (drop at ms) → Next ls ms at p b
 unfolding segmentsOf firstSegment
 next-of-split ls ms at p b q h s =
     let n : length (drop at ls) ≡ length ls - at = length-drop at ls in
@@ -110,14 +113,16 @@ next-of-split ls ms at p b q h s =
           (drop-drop (s .more) at ms ∙ ap (λ (z : ℕ). drop z ms) j);
     }
 
-pub next-segment : (ls ms : List ℕ) (at p b : ℕ) → length ls ≡ length ms → at < length ls → segment p b ≡ firstSegment (drop at ls) (drop at ms) → Next ls ms at p b
+pub next-segment : (ls ms : List ℕ) (at p b : ℕ) → length ls ≡ length ms → at < length ls → segment p b
+    ≡ firstSegment (drop at ls) (drop at ms) → Next ls ms at p b
 next-segment ls ms at p b e h q =
     let n₁ : length (drop (suc at) ls) ≡ length ls - suc at = length-drop (suc at) ls in
     let n₂ : length (drop (suc at) ms) ≡ length ms - suc at = length-drop (suc at) ms in
     let l : List ℕ = drop (suc at) ls in
     next-of-split ls ms at p b q h
     (subst (λ (z : List ℕ). Split 0 0 z (drop at ms)) (sym (drop-cons ls at 0 h))
-    (subst (λ (z : List ℕ). Split 0 0 (getD ls at 0 ∷ l) z) (sym (drop-cons ms at 0 (omega arith))) (splits 0 0 (getD ls at 0) l (getD ms at 0) (drop (suc at) ms) (omega arith))))
+    (subst (λ (z : List ℕ). Split 0 0 (getD ls at 0 ∷ l) z) (sym (drop-cons ms at 0 (omega arith)))
+    (splits 0 0 (getD ls at 0) l (getD ms at 0) (drop (suc at) ms) (omega arith))))
 
 pub no-segment-left : (ls ms : List ℕ) (at : ℕ) → length ls ≤ at → segmentsOf (drop at ls) (drop at ms) ≡ []
 unfolding segmentsOf segmentsFrom
@@ -130,15 +135,18 @@ next-entry l i h = drop-cons l i 0 h ∙ rw (add-one i)
 
 -- pass i into the segment
 module _ (ls ms : List ℕ) (i p b : ℕ) where
-  pass-splits : i < length ls → length ls ≡ length ms → firstFrom p b (drop i ls) (drop i ms) ≡ firstFrom p b (getD ls i 0 ∷ drop (i + 1) ls) (getD ms i 0 ∷ drop (i + 1) ms)
+  pass-splits : i < length ls → length ls ≡ length ms → firstFrom p b (drop i ls) (drop i ms)
+      ≡ firstFrom p b (getD ls i 0 ∷ drop (i + 1) ls) (getD ms i 0 ∷ drop (i + 1) ms)
   pass-splits h e =
       ap₂ (λ (x y : List ℕ). firstFrom p b x y)
       (next-entry ls i h) (next-entry ms i (omega arith))
 
-  pub pass-stays : i < length ls → length ls ≡ length ms → eqb (getD ms i 0) 0 ≡ true → firstFrom (p + 1) (b + getD ls i 0) (drop (i + 1) ls) (drop (i + 1) ms) ≡ firstFrom p b (drop i ls) (drop i ms)
+  pub pass-stays : i < length ls → length ls ≡ length ms → eqb (getD ms i 0) 0 ≡ true
+      → firstFrom (p + 1) (b + getD ls i 0) (drop (i + 1) ls) (drop (i + 1) ms) ≡ firstFrom p b (drop i ls) (drop i ms)
   pass-stays h e t = sym (pass-splits h e ∙ first-goes-on p b (getD ls i 0) (getD ms i 0) (drop (i + 1) ls) (drop (i + 1) ms) t)
 
-  pub pass-is-last : i < length ls → length ls ≡ length ms → eqb (getD ms i 0) 0 ≡ false → segment (p + 1) (b + getD ls i 0) ≡ firstFrom p b (drop i ls) (drop i ms)
+  pub pass-is-last : i < length ls → length ls ≡ length ms → eqb (getD ms i 0) 0 ≡ false → segment (p + 1) (b + getD ls i 0)
+      ≡ firstFrom p b (drop i ls) (drop i ms)
   pass-is-last h e t = sym (pass-splits h e ∙ first-ends p b (getD ls i 0) (getD ms i 0) (drop (i + 1) ls) (drop (i + 1) ms) t)
 
 pub no-pass-left : (ls ms : List ℕ) (i p b : ℕ) → length ls ≤ i → segment p b ≡ firstFrom p b (drop i ls) (drop i ms)
@@ -151,17 +159,23 @@ unfolding increment
 increment-turn lb most ss s rest e = rw e (omega arith)
 
 -- what is so of no segment is so neither of the first nor of those after it
-pub first-not-long : (ss : List Segment) (s : Segment) (rest : List Segment) → ss ≡ s ∷ rest → anyTooLong ss ≡ false → (s .bytes < 2 ^ 31) × (anyTooLong rest ≡ false)
+pub first-not-long : (ss : List Segment) (s : Segment) (rest : List Segment) → ss ≡ s ∷ rest → anyTooLong ss ≡ false
+    → (s .bytes < 2 ^ 31) × (anyTooLong rest ≡ false)
 unfolding any
 first-not-long ss s rest e h =
-    let k : anyTooLong (s ∷ rest) ≡ false = ap anyTooLong (sym e) ∙ h in
-    (leb-false (2 ^ 31) (s .bytes) (or-left (leb (2 ^ 31) (s .bytes)) (anyTooLong rest) k), or-right (leb (2 ^ 31) (s .bytes)) (anyTooLong rest) k)
+    let k : anyTooLong (s ∷ rest) ≡ false = ap anyTooLong (sym e) ∙ h in (
+      leb-false (2 ^ 31) (s .bytes) (or-left (leb (2 ^ 31) (s .bytes)) (anyTooLong rest) k),
+      or-right (leb (2 ^ 31) (s .bytes)) (anyTooLong rest) k,
+    )
 
-pub first-not-wide : (lb : ℕ) (ss : List Segment) (s : Segment) (rest : List Segment) → ss ≡ s ∷ rest → anyTooWide lb ss ≡ false → (width lb (s .passes) ≤ 32) × (anyTooWide lb rest ≡ false)
+pub first-not-wide : (lb : ℕ) (ss : List Segment) (s : Segment) (rest : List Segment) → ss ≡ s ∷ rest → anyTooWide lb ss ≡ false
+    → (width lb (s .passes) ≤ 32) × (anyTooWide lb rest ≡ false)
 unfolding any
 first-not-wide lb ss s rest e h =
-    let k : anyTooWide lb (s ∷ rest) ≡ false = ap (λ (z : List Segment). anyTooWide lb z) (sym e) ∙ h in
-    (ltb-false 32 (width lb (s .passes)) (or-left (ltb 32 (width lb (s .passes))) (anyTooWide lb rest) k), or-right (ltb 32 (width lb (s .passes))) (anyTooWide lb rest) k)
+    let k : anyTooWide lb (s ∷ rest) ≡ false = ap (λ (z : List Segment). anyTooWide lb z) (sym e) ∙ h in (
+      ltb-false 32 (width lb (s .passes)) (or-left (ltb 32 (width lb (s .passes))) (anyTooWide lb rest) k),
+      or-right (ltb 32 (width lb (s .passes))) (anyTooWide lb rest) k,
+    )
 
 -- ---- logarithms
 

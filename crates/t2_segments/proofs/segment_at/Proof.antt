@@ -10,7 +10,9 @@ use Rattle.t2_segments.proofs.segment_at.Statement.{statement}
 use Rattle.t2_segments.proofs.segment_at.Tie as tie
 
 abbrev Inv-loop : tie.InvT-loop
-Inv-loop lengths marks at passes₀ bytes₀ i₀ passes bytes i = (at + passes ≡ i) × (i ≤ length lengths) × (bytes ≤ 4294967295 * passes) × (firstFrom passes bytes (drop i lengths) (drop i marks) ≡ firstSegment (drop at lengths) (drop at marks))
+Inv-loop lengths marks at passes₀ bytes₀ i₀ passes bytes i = (at + passes ≡ i) × (i ≤ length lengths)
+    × (bytes ≤ 4294967295 * passes)
+    × (firstFrom passes bytes (drop i lengths) (drop i marks) ≡ firstSegment (drop at lengths) (drop at marks))
 
 abbrev μ-loop : tie.MeasureT-loop
 μ-loop lengths marks at passes₀ bytes₀ i₀ passes bytes i = length lengths - i
@@ -29,7 +31,8 @@ returns : tie.Need-returns Inv-loop μ-loop
 returns c =
     let s = c .before .before .before .before .before in
     let l = c .before .before .before .before .loop in
-    pass-is-last (s .args .lengths .now) (s .args .marks .now) (l .i) (l .passes) (l .bytes) (omega arith) (s .pre .0 .0) (ne-eqb _ _ (c .if1 .taken)) ∙ l .inv .3
+    pass-is-last (s .args .lengths .now) (s .args .marks .now) (l .i) (l .passes) (l .bytes) (omega arith) (s .pre .0 .0)
+    (ne-eqb _ _ (c .if1 .taken)) ∙ l .inv .3
 
 loop-again : tie.Need-loop-again Inv-loop μ-loop
 loop-again c =
@@ -38,7 +41,8 @@ loop-again c =
       omega arith,
       omega arith,
       omega (arith, c .before .before .shared-slice-known .given (l .i)),
-      pass-stays (s .args .lengths .now) (s .args .marks .now) (l .i) (l .passes) (l .bytes) (omega arith) (s .pre .0 .0) (eq-eqb _ _ (c .if1 .left)) ∙ l .inv .3,
+      pass-stays (s .args .lengths .now) (s .args .marks .now) (l .i) (l .passes) (l .bytes) (omega arith) (s .pre .0 .0)
+          (eq-eqb _ _ (c .if1 .left)) ∙ l .inv .3,
     )
 
 returns-2 : tie.Need-returns-2 Inv-loop μ-loop

@@ -11,7 +11,9 @@ use Rattle.t2_segments.proofs.segment_increment.Statement.{statement}
 use Rattle.t2_segments.proofs.segment_increment.Tie as tie
 
 abbrev Inv-loop : tie.InvT-loop
-Inv-loop lengths marks length-bits most₀ at₀ most at = (at ≤ length lengths) × (max most (increment length-bits (segmentsOf (drop at lengths) (drop at marks))) ≡ increment length-bits (segmentsOf lengths marks)) × (anyTooLong (segmentsOf (drop at lengths) (drop at marks)) ≡ false)
+Inv-loop lengths marks length-bits most₀ at₀ most at = (at ≤ length lengths)
+    × (max most (increment length-bits (segmentsOf (drop at lengths) (drop at marks)))
+    ≡ increment length-bits (segmentsOf lengths marks)) × (anyTooLong (segmentsOf (drop at lengths) (drop at marks)) ≡ false)
 
 abbrev μ-loop : tie.MeasureT-loop
 μ-loop lengths marks length-bits most₀ at₀ most at = length lengths - at
@@ -23,7 +25,8 @@ cast-bytes : tie.Need-cast-bytes Inv-loop μ-loop
 cast-bytes c =
     let s = c .before .before .before .before .before .before in
     let l = c .before .before .before .loop in
-    let n = next-segment (s .args .lengths .now) (s .args .marks .now) (l .at) _ _ (omega arith) (omega arith) (c .before .segment-at .ensures) in
+    let n = next-segment (s .args .lengths .now) (s .args .marks .now) (l .at) _ _ (omega arith) (omega arith)
+    (c .before .segment-at .ensures) in
     let k = first-not-long _ _ _ (n .is) (l .inv .2) in
     omega (arith, k .0)
 
@@ -31,30 +34,40 @@ cast-at : tie.Need-cast-at Inv-loop μ-loop
 cast-at c =
     let s = c .before .before .before .before .before .before .before .before .before in
     let l = c .before .before .before .before .before .before .loop in
-    let n = next-segment (s .args .lengths .now) (s .args .marks .now) (l .at) _ _ (omega arith) (omega arith) (c .before .before .before .before .segment-at .ensures) in
+    let n = next-segment (s .args .lengths .now) (s .args .marks .now) (l .at) _ _ (omega arith) (omega arith)
+    (c .before .before .before .before .segment-at .ensures) in
     omega (arith, n .enough)
 
 add-at : tie.Need-add-at Inv-loop μ-loop
 add-at c =
     let s = c .before .before .before .before .before .before .before .before .before in
     let l = c .before .before .before .before .before .before .loop in
-    let n = next-segment (s .args .lengths .now) (s .args .marks .now) (l .at) _ _ (omega arith) (omega arith) (c .before .before .before .before .segment-at .ensures) in
+    let n = next-segment (s .args .lengths .now) (s .args .marks .now) (l .at) _ _ (omega arith) (omega arith)
+    (c .before .before .before .before .segment-at .ensures) in
     omega (arith, n .enough)
 
 loop-less : tie.Need-loop-less Inv-loop μ-loop
 loop-less c =
     let s = c .before .before .before .before .before .before .before .before .before in
     let l = c .before .before .before .before .before .before .loop in
-    let n = next-segment (s .args .lengths .now) (s .args .marks .now) (l .at) _ _ (omega arith) (omega arith) (c .before .before .before .before .segment-at .ensures) in
+    let n = next-segment (s .args .lengths .now) (s .args .marks .now) (l .at) _ _ (omega arith) (omega arith)
+    (c .before .before .before .before .segment-at .ensures) in
     omega (arith, n .enough, n .some)
 
 loop-again : tie.Need-loop-again Inv-loop μ-loop
 loop-again c =
     let s = c .before .before .before .before .before .before .before .before .before in
     let l = c .before .before .before .before .before .before .loop in
-    let n = next-segment (s .args .lengths .now) (s .args .marks .now) (l .at) _ _ (omega arith) (omega arith) (c .before .before .before .before .segment-at .ensures) in (
+    let n = next-segment (s .args .lengths .now) (s .args .marks .now) (l .at) _ _ (omega arith) (omega arith)
+    (c .before .before .before .before .segment-at .ensures) in (
       n .enough,
-      omega (arith, c .before .opj-uint-max .ensures, c .before .before .bits-missing .ensures, increment-turn (s .args .length-bits) (l .most) _ _ _ (n .is), l .inv .1),
+      omega (
+        arith,
+        c .before .opj-uint-max .ensures,
+        c .before .before .bits-missing .ensures,
+        increment-turn (s .args .length-bits) (l .most) _ _ _ (n .is),
+        l .inv .1,
+      ),
       first-not-long _ _ _ (n .is) (l .inv .2) .1,
     )
 
@@ -64,7 +77,8 @@ returns c =
     let s = c .before .before .before .before in
     let l = c .before .loop in
     let z = no-segment-left (s .args .lengths .now) (s .args .marks .now) (l .at) (omega arith) in
-    let e : max (l .most) 0 ≡ increment (s .args .length-bits) (segmentsOf (s .args .lengths .now) (s .args .marks .now)) = rw z at (l .inv .1) in
+    let e : max (l .most) 0
+    ≡ increment (s .args .length-bits) (segmentsOf (s .args .lengths .now) (s .args .marks .now)) = rw z at (l .inv .1) in
     omega arith
 
 pub segment-increment-spec : {M : Type 1} → statement M

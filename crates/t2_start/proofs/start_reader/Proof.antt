@@ -8,7 +8,8 @@ use Rattle.t2_start.proofs.start_reader.Tie as tie
 
 returns : tie.Need-returns
 unfolding reader
-returns c = let s = c .before .before .before .before .before .before .args in c .before .before .begin .ensures ∙ reader-begun (s .count) (s .bands) (s .style) (s .planes .now) (s .state .now)
+returns c = let s = c .before .before .before .before .before .before .args in c .before .before .begin .ensures
+    ∙ reader-begun (s .count) (s .bands) (s .style) (s .planes .now) (s .state .now)
 
 pub start-reader-spec : {M : Type 1} → statement M
 start-reader-spec = tie.close (tie.spec (λ c κs. search needs) (λ c. search needs) returns)

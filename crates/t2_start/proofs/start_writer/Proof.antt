@@ -7,15 +7,23 @@ use Rattle.t2_start.proofs.start_writer.Tie as tie
 
 returns : tie.Need-returns
 unfolding writer
-returns c = let s = c .before .before .before .before .before .before .before .args in start-refused writer (s .count) (s .bands) (s .style) (s .planes .now) (s .state .now) (c .before .before .before .begin .result) _ (c .before .before .before .begin .ensures) (c .if1 .taken)
+returns c = let s = c .before .before .before .before .before .before .before .args in
+    start-refused writer (s .count) (s .bands) (s .style) (s .planes .now) (s .state .now)
+    (c .before .before .before .begin .result) _ (c .before .before .before .begin .ensures) (c .if1 .taken)
 
 set-zero-planes-requires : tie.Need-set-zero-planes-requires
 unfolding writer
-set-zero-planes-requires c κs = let s = c .before .before .before .before .before .before .before .before .args in writer-begun (s .count) (s .bands) (s .style) (s .planes .now) (s .state .now) (c .before .before .before .before .begin .result) _ (c .before .before .before .before .begin .ensures) (c .before .if1 .left)
+set-zero-planes-requires c κs = let s = c .before .before .before .before .before .before .before .before .args in
+    writer-begun (s .count) (s .bands) (s .style) (s .planes .now) (s .state .now)
+    (c .before .before .before .before .begin .result) _ (c .before .before .before .before .begin .ensures) (c .before .if1 .left)
 
 returns-2 : tie.Need-returns-2
 unfolding writer
-returns-2 c = let s = c .before .before .before .before .before .before .before .before .before .before .before .args in start-set writer (s .count) (s .bands) (s .style) (s .planes .now) (s .state .now) (c .before .before .before .before .before .before .before .begin .result) _ _ (c .before .before .before .before .before .before .before .begin .ensures) (c .before .before .before .before .if1 .left) (c .before .before .set-zero-planes .ensures)
+returns-2 c = let s = c .before .before .before .before .before .before .before .before .before .before .before .args in
+    start-set writer (s .count) (s .bands) (s .style) (s .planes .now) (s .state .now)
+    (c .before .before .before .before .before .before .before .begin .result) _ _
+    (c .before .before .before .before .before .before .before .begin .ensures) (c .before .before .before .before .if1 .left)
+    (c .before .before .set-zero-planes .ensures)
 
 pub start-writer-spec : {M : Type 1} → statement M
 start-writer-spec =

@@ -41,7 +41,8 @@ module _ (r n : ℕ) (given : List Band) (s : ℕ) (planes lent : List ℕ) wher
 
   module _ (three : length given ≡ 3) (shape : badShape n (take n given) ≡ false) where
     shaped : (badShape n (take n given) || ltb (length given) n) ≡ false
-    shaped = or-false (badShape n (take n given)) (ltb (length given) n) shape (le-ltb (length given) n (omega (arith, shape-not-refused n given shape .1)))
+    shaped = or-false (badShape n (take n given)) (ltb (length given) n) shape
+        (le-ltb (length given) n (omega (arith, shape-not-refused n given shape .1)))
 
     pub gives-2 : badStyle s ≡ true → startRefusal r n given s planes lent ≡ 2
     unfolding startRefusal
@@ -52,11 +53,13 @@ module _ (r n : ℕ) (given : List Band) (s : ℕ) (planes lent : List ℕ) wher
       unfolding startRefusal planesWanted
       gives-3 e = if-false _ 1 _ shaped ∙ if-false _ 2 _ style ∙ if-true _ 3 _ e
 
-      pub gives-4 : wrongList r (take n given) planes lent ≡ false → tooDeep (take n given) planes ≡ true → startRefusal r n given s planes lent ≡ 4
+      pub gives-4 : wrongList r (take n given) planes lent ≡ false → tooDeep (take n given) planes ≡ true
+          → startRefusal r n given s planes lent ≡ 4
       unfolding startRefusal planesWanted
       gives-4 e d = if-false _ 1 _ shaped ∙ if-false _ 2 _ style ∙ if-false _ 3 _ e ∙ if-true _ 4 _ d
 
-      pub gives-none : wrongList r (take n given) planes lent ≡ false → tooDeep (take n given) planes ≡ false → startRefusal r n given s planes lent ≡ 0
+      pub gives-none : wrongList r (take n given) planes lent ≡ false → tooDeep (take n given) planes ≡ false
+          → startRefusal r n given s planes lent ≡ 0
       unfolding startRefusal planesWanted
       gives-none e d = if-false _ 1 _ shaped ∙ if-false _ 2 _ style ∙ if-false _ 3 _ e ∙ if-false _ 4 _ d
 
@@ -76,13 +79,16 @@ module _ (r n : ℕ) (given : List Band) (s : ℕ) (planes lent : List ℕ) wher
   pub begun-refused : (why : ℕ) → why ≡ startRefusal r n given s planes lent → why ≢ 0 → answered why lent ≡ begun r n given s planes lent
   unfolding begun
   begun-refused why e h =
-      let q : lent ≡ cond (eqb (startRefusal r n given s planes lent) 0) (freshState r s (take n given)) lent = sym (if-false _ _ _ (ne-eqb _ 0 (λ z. h (e ∙ z)))) in
+      let q : lent ≡ cond (eqb (startRefusal r n given s planes lent) 0) (freshState r s (take n given)) lent =
+      sym (if-false _ _ _ (ne-eqb _ 0 (λ z. h (e ∙ z)))) in
       λ i. record { answer = e i; state = q i }
 
-  pub begun-fresh : (ws : List ℕ) → startRefusal r n given s planes lent ≡ 0 → ws ≡ freshState r s (take n given) → answered 0 ws ≡ begun r n given s planes lent
+  pub begun-fresh : (ws : List ℕ) → startRefusal r n given s planes lent ≡ 0 → ws ≡ freshState r s (take n given) → answered 0 ws
+      ≡ begun r n given s planes lent
   unfolding begun
   begun-fresh ws e f =
-      let q : ws ≡ cond (eqb (startRefusal r n given s planes lent) 0) (freshState r s (take n given)) lent = f ∙ sym (if-true _ _ _ (eq-eqb _ 0 e)) in
+      let q : ws ≡ cond (eqb (startRefusal r n given s planes lent) 0) (freshState r s (take n given)) lent = f
+      ∙ sym (if-true _ _ _ (eq-eqb _ 0 e)) in
       let a = sym e in
       λ i. record { answer = a i; state = q i }
 
@@ -97,7 +103,8 @@ module _ (r n : ℕ) (given : List Band) (s : ℕ) (planes lent : List ℕ) wher
 
   begun-state : (why : ℕ) (ws : List ℕ) → answered why ws ≡ begun r n given s planes lent → why ≡ 0 → ws ≡ freshState r s (take n given)
   unfolding begun
-  begun-state why ws e z = ap (λ (k : StartResult). k .state) e ∙ if-true _ _ _ (eq-eqb (startRefusal r n given s planes lent) 0 (sym (begun-answer why ws e) ∙ z))
+  begun-state why ws e z = ap (λ (k : StartResult). k .state) e
+      ∙ if-true _ _ _ (eq-eqb (startRefusal r n given s planes lent) 0 (sym (begun-answer why ws e) ∙ z))
 
   refused-too : startRefusal r n given s planes lent ≢ 0 → begun r n given s planes lent ≡ start r n given s planes lent
   unfolding begun start
@@ -106,7 +113,8 @@ module _ (r n : ℕ) (given : List Band) (s : ℕ) (planes lent : List ℕ) wher
       let q : begun r n given s planes lent .state ≡ start r n given s planes lent .state = if-false _ _ _ t ∙ sym (if-false _ _ _ t) in
       λ i. record { answer = startRefusal r n given s planes lent; state = q i }
 
-  pub start-refused : (why : ℕ) (ws : List ℕ) → answered why ws ≡ begun r n given s planes lent → why ≢ 0 → answered why ws ≡ start r n given s planes lent
+  pub start-refused : (why : ℕ) (ws : List ℕ) → answered why ws ≡ begun r n given s planes lent → why ≢ 0 → answered why ws
+      ≡ start r n given s planes lent
   start-refused why ws e h = e ∙ refused-too (λ z. h (begun-answer why ws e ∙ z))
 
   pub start-set : (why : ℕ) (ws vs : List ℕ) → answered why ws ≡ begun r n given s planes lent → why ≡ 0
@@ -114,29 +122,41 @@ module _ (r n : ℕ) (given : List Band) (s : ℕ) (planes lent : List ℕ) wher
   unfolding start
   start-set why ws vs e z f =
       let a : 0 ≡ startRefusal r n given s planes lent = sym z ∙ begun-answer why ws e in
-      let q : vs ≡ start r n given s planes lent .state = f ∙ ap (λ (l : List ℕ). setZeroPlanes (blocks (take n given)) planes l) (begun-state why ws e z) ∙ sym (if-true _ _ _ (eq-eqb (startRefusal r n given s planes lent) 0 (sym a))) in
+      let q : vs ≡ start r n given s planes lent .state = f
+      ∙ ap (λ (l : List ℕ). setZeroPlanes (blocks (take n given)) planes l) (begun-state why ws e z)
+      ∙ sym (if-true _ _ _ (eq-eqb (startRefusal r n given s planes lent) 0 (sym a))) in
       λ i. record { answer = a i; state = q i }
 
 -- what a writer's zero planes are set in
 pub writer-begun : (n : ℕ) (given : List Band) (s : ℕ) (planes lent : List ℕ) (why : ℕ) (ws : List ℕ)
     → answered why ws ≡ begun writer n given s planes lent → why ≡ 0
-    → (n ≤ 3) × AllUpTo64 (take n given) × (length ws ≡ stateLength (take n given)) × (length planes ≡ length (blocks (take n given))) × (blockTooDeep (blocks (take n given)) planes ≡ false)
+    → (n ≤ 3) × AllUpTo64 (take n given) × (length ws ≡ stateLength (take n given))
+    × (length planes ≡ length (blocks (take n given))) × (blockTooDeep (blocks (take n given)) planes ≡ false)
 unfolding writer stateLength
 writer-begun n given s planes lent why ws e z =
     let A = accepted writer n given s planes lent (sym (begun-answer writer n given s planes lent why ws e) ∙ z) in
-    let h = shape-not-refused n given (A .shape) in
-    (h .1, h .2, ap length (begun-state writer n given s planes lent why ws e z) ∙ fresh-length writer s (take n given), A .planes-length, A .blocks-in)
+    let h = shape-not-refused n given (A .shape) in (
+      h .1,
+      h .2,
+      ap length (begun-state writer n given s planes lent why ws e z)
+          ∙ fresh-length writer s (take n given),
+      A .planes-length,
+      A .blocks-in,
+    )
 
 -- a reader's zero planes stay as they are
-pub reader-begun : (n : ℕ) (given : List Band) (s : ℕ) (planes lent : List ℕ) → begun reader n given s planes lent ≡ start reader n given s planes lent
+pub reader-begun : (n : ℕ) (given : List Band) (s : ℕ) (planes lent : List ℕ) → begun reader n given s planes lent
+    ≡ start reader n given s planes lent
 unfolding reader writer
 reader-begun n given s planes lent =
     on-eq (startRefusal reader n given s planes lent) 0
     (λ e. let A = accepted reader n given s planes lent e in
     let f = begun-fresh reader n given s planes lent (freshState reader s (take n given)) e refl in
-    sym f ∙ start-set reader n given s planes lent 0 (freshState reader s (take n given)) (freshState reader s (take n given)) f refl (none planes (A .planes-length)))
+    sym f ∙ start-set reader n given s planes lent 0 (freshState reader s (take n given)) (freshState reader s (take n given)) f
+    refl (none planes (A .planes-length)))
     (λ h. refused-too reader n given s planes lent h)
   where
-    none : (ps : List ℕ) → length ps ≡ 0 → freshState reader s (take n given) ≡ setZeroPlanes (blocks (take n given)) ps (freshState reader s (take n given))
+    none : (ps : List ℕ) → length ps ≡ 0 → freshState reader s (take n given)
+        ≡ setZeroPlanes (blocks (take n given)) ps (freshState reader s (take n given))
     none [] l = sym (no-planes (blocks (take n given)) (freshState reader s (take n given)))
     none (p ∷ ps) l = absurd (omega arith)

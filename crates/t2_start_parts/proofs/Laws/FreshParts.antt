@@ -15,7 +15,8 @@ use Rattle.t2_start_planes.proofs.Laws.Runs.{sets-after, sets-whole, part-lengt
 
 -- ---- the words of bands in front
 
-words-turn : (bs : List Band) (i m : ℕ) → bandWords (drop i bs) (suc m) ≡ getD bs i noBand .across ∷ getD bs i noBand .down ∷ getD bs i noBand .planes ∷ bandWords (drop (suc i) bs) m
+words-turn : (bs : List Band) (i m : ℕ) → bandWords (drop i bs) (suc m)
+    ≡ getD bs i noBand .across ∷ getD bs i noBand .down ∷ getD bs i noBand .planes ∷ bandWords (drop (suc i) bs) m
 unfolding bandWords
 words-turn [] zero m = refl
 words-turn [] (suc i) m = refl
@@ -24,7 +25,8 @@ words-turn (b ∷ bs) (suc i) m = words-turn bs i m
 
 -- band i of three, 0 where there is none
 pub put-turn : (ws : List ℕ) (bs : List Band) (i at : ℕ) (b : Band) → i < 3 → b ≡ getD bs i noBand
-    → sets (sets ws at (b .across ∷ b .down ∷ b .planes ∷ [])) (at + 3) (bandWords (drop (i + 1) bs) (3 - (i + 1))) ≡ sets ws at (bandWords (drop i bs) (3 - i))
+    → sets (sets ws at (b .across ∷ b .down ∷ b .planes ∷ [])) (at + 3) (bandWords (drop (i + 1) bs) (3 - (i + 1)))
+    ≡ sets ws at (bandWords (drop i bs) (3 - i))
 put-turn ws bs i at b h e =
     let rest : List ℕ = bandWords (drop (i + 1) bs) (3 - (i + 1)) in
     let n : 3 - i ≡ suc (3 - (i + 1)) = omega arith in
@@ -40,16 +42,19 @@ put-turn ws bs i at b h e =
 blocks-are-zeros : (n : ℕ) → freshBlocks n ≡ replicate (4 * n) 0
 unfolding freshBlocks
 blocks-are-zeros zero = refl
-blocks-are-zeros (suc n) = let e : 4 * suc n ≡ suc (suc (suc (suc (4 * n)))) = omega arith in rw e (ap (λ (z : List ℕ). 0 ∷ 0 ∷ 0 ∷ 0 ∷ z) (blocks-are-zeros n))
+blocks-are-zeros (suc n) = let e : 4 * suc n
+    ≡ suc (suc (suc (suc (4 * n)))) = omega arith in rw e (ap (λ (z : List ℕ). 0 ∷ 0 ∷ 0 ∷ 0 ∷ z) (blocks-are-zeros n))
 
 -- blocks that are wiped where they stand
-pub blocks-wiped : (l part : List ℕ) (from blocks : ℕ) → from + 4 * blocks ≤ length l → part ≡ wiped (take (from + 4 * blocks - from) (drop from l))
+pub blocks-wiped : (l part : List ℕ) (from blocks : ℕ) → from + 4 * blocks ≤ length l → part
+    ≡ wiped (take (from + 4 * blocks - from) (drop from l))
     → take from l ++ (part ++ drop (from + 4 * blocks - from) (drop from l)) ≡ sets l from (freshBlocks blocks)
 blocks-wiped l part from blocks h e =
     let to : ℕ = from + 4 * blocks in
     let n : length (take (to - from) (drop from l)) ≡ 4 * blocks = part-length l from to (omega arith) (omega arith) ∙ omega arith in
     let p : part ≡ freshBlocks blocks = e ∙ ap (λ (k : ℕ). replicate k 0) n ∙ sym (blocks-are-zeros blocks) in
-    part-set l part from to (omega arith) (omega arith) (ap length p ∙ length-blocks blocks ∙ omega arith) ∙ ap (λ (xs : List ℕ). sets l from xs) p
+    part-set l part from to (omega arith) (omega arith) (ap length p ∙ length-blocks blocks ∙ omega arith)
+    ∙ ap (λ (xs : List ℕ). sets l from xs) p
 
 abbrev pub bandOwn : ℕ → ℕ → List ℕ
 bandOwn n k = freshNodes notYetIncluded n ++ freshNodes notYetPlanes n ++ freshBlocks k
@@ -57,16 +62,21 @@ bandOwn n k = freshNodes notYetIncluded n ++ freshNodes notYetPlanes n ++ freshB
 length-trees : (n : ℕ) → length (freshNodes notYetIncluded n ++ freshNodes notYetPlanes n) ≡ 6 * n
 length-trees n =
     length-append (freshNodes notYetIncluded n) (freshNodes notYetPlanes n)
-    ∙ ap₂ (λ (x y : ℕ). x + y) (length-nodes notYetIncluded n) (length-nodes notYetPlanes n) ∙ (let e : 3 * n + 3 * n ≡ 6 * n = omega arith in e)
+    ∙ ap₂ (λ (x y : ℕ). x + y) (length-nodes notYetIncluded n) (length-nodes notYetPlanes n)
+    ∙ (let e : 3 * n + 3 * n ≡ 6 * n = omega arith in e)
 
 length-own : (n k : ℕ) → length (bandOwn n k) ≡ 6 * n + 4 * k
-length-own n k = length-append (freshNodes notYetIncluded n ++ freshNodes notYetPlanes n) (freshBlocks k) ∙ ap₂ (λ (x y : ℕ). x + y) (length-trees n) (length-blocks k)
+length-own n k = length-append (freshNodes notYetIncluded n ++ freshNodes notYetPlanes n) (freshBlocks k)
+    ∙ ap₂ (λ (x y : ℕ). x + y) (length-trees n) (length-blocks k)
 
 -- both trees and the blocks
-pub own-set : (ws : List ℕ) (at n k : ℕ) → sets (sets (sets ws at (freshNodes notYetIncluded n)) (at + 3 * n) (freshNodes notYetPlanes n)) (at + 3 * n + 3 * n) (freshBlocks k) ≡ sets ws at (bandOwn n k)
+pub own-set : (ws : List ℕ) (at n k : ℕ)
+    → sets (sets (sets ws at (freshNodes notYetIncluded n)) (at + 3 * n) (freshNodes notYetPlanes n)) (at + 3 * n + 3 * n)
+    (freshBlocks k) ≡ sets ws at (bandOwn n k)
 own-set ws at n k =
     let e : at + 3 * n + 3 * n ≡ at + 6 * n = omega arith in
-    ap (λ (z : List ℕ). sets z (at + 3 * n + 3 * n) (freshBlocks k)) (sets-after ws at (3 * n) (freshNodes notYetIncluded n) (freshNodes notYetPlanes n) (length-nodes notYetIncluded n))
+    ap (λ (z : List ℕ). sets z (at + 3 * n + 3 * n) (freshBlocks k))
+    (sets-after ws at (3 * n) (freshNodes notYetIncluded n) (freshNodes notYetPlanes n) (length-nodes notYetIncluded n))
     ∙ ap (λ (j : ℕ). sets (sets ws at (freshNodes notYetIncluded n ++ freshNodes notYetPlanes n)) j (freshBlocks k)) e
     ∙ sets-after ws at (6 * n) (freshNodes notYetIncluded n ++ freshNodes notYetPlanes n) (freshBlocks k) (length-trees n)
 

@@ -20,7 +20,15 @@ first-words-requires c κs = let s = c .before .before in omega (arith, s .pre .
 
 put-bands-requires : tie.Need-put-bands-requires
 unfolding stateLength
-put-bands-requires c κs = let s = c .before .before .before .before .before .before in (s .pre .0, omega (arith, c .before .before .before .first-words .kept .0, s .pre .2, end-after 13 (take (s .args .count) (s .args .bands))))
+put-bands-requires c κs = let s = c .before .before .before .before .before .before in (
+  s .pre .0,
+  omega (
+    arith,
+    c .before .before .before .first-words .kept .0,
+    s .pre .2,
+    end-after 13 (take (s .args .count) (s .args .bands)),
+  ),
+)
 
 returns : tie.Need-returns
 returns c =
@@ -29,8 +37,10 @@ returns c =
     let g : length (s .args .bands) ≡ 3 = search needs in
     c .before .before .fresh-bands .ensures
     ∙ ap (λ (z : List ℕ). sets z 13 (freshBands bs)) (c .before .before .before .before .before .before .put-bands .ensures)
-    ∙ ap (λ (z : List ℕ). sets (sets z 4 (bandWords bs 3)) 13 (freshBands bs)) (c .before .before .before .before .before .before .before .before .before .before .first-words .ensures)
-    ∙ state-set (s .args .state .now) (s .args .role) (s .args .count) (s .args .style) bs (all-given (s .args .count) (s .args .bands) (omega (arith, s .pre .0))) (s .pre .2)
+    ∙ ap (λ (z : List ℕ). sets (sets z 4 (bandWords bs 3)) 13 (freshBands bs))
+    (c .before .before .before .before .before .before .before .before .before .before .first-words .ensures)
+    ∙ state-set (s .args .state .now) (s .args .role) (s .args .count) (s .args .style) bs
+    (all-given (s .args .count) (s .args .bands) (omega (arith, s .pre .0))) (s .pre .2)
 
 pub fill-spec : {M : Type 1} → statement M
 fill-spec =

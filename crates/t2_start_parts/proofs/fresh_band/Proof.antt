@@ -15,8 +15,11 @@ returns c =
     let s = c .before .before .before .before .before .before .before .before .before .before .before .before .before .args in
     let n : ℕ = s .nodes in
     c .before .before .zero-blocks .ensures
-    ∙ ap (λ (z : List ℕ). sets z (s .at + 3 * n + 3 * n) (freshBlocks (s .blocks))) (c .before .before .before .before .before .before .opj-tgt-reset2 .ensures)
-    ∙ ap (λ (z : List ℕ). sets (sets z (s .at + 3 * n) (freshNodes notYetPlanes n)) (s .at + 3 * n + 3 * n) (freshBlocks (s .blocks))) (c .before .before .before .before .before .before .before .before .before .before .opj-tgt-reset .ensures)
+    ∙ ap (λ (z : List ℕ). sets z (s .at + 3 * n + 3 * n) (freshBlocks (s .blocks)))
+    (c .before .before .before .before .before .before .opj-tgt-reset2 .ensures)
+    ∙ ap (λ (z : List ℕ). sets (sets z (s .at + 3 * n) (freshNodes notYetPlanes n)) (s .at + 3 * n + 3 * n)
+    (freshBlocks (s .blocks)))
+    (c .before .before .before .before .before .before .before .before .before .before .opj-tgt-reset .ensures)
     ∙ own-set (s .state .now) (s .at) n (s .blocks)
 
 pub fresh-band-spec : {M : Type 1} → statement M

@@ -18,7 +18,9 @@ use Rattle.t2_start_parts.proofs.fresh_bands.Statement.{statement}
 use Rattle.t2_start_parts.proofs.fresh_bands.Tie as tie
 
 abbrev Inv-loop : tie.InvT-loop
-Inv-loop state₀ n bands at₀ i₀ state at i = (i ≤ n) × (length state ≡ length state₀) × (endOf at (drop i (take n bands)) ≡ length state₀) × (sets state at (freshBands (drop i (take n bands))) ≡ sets state₀ 13 (freshBands (take n bands)))
+Inv-loop state₀ n bands at₀ i₀ state at i = (i ≤ n) × (length state ≡ length state₀)
+    × (endOf at (drop i (take n bands)) ≡ length state₀)
+    × (sets state at (freshBands (drop i (take n bands))) ≡ sets state₀ 13 (freshBands (take n bands)))
 
 abbrev μ-loop : tie.MeasureT-loop
 μ-loop state₀ n bands at₀ i₀ state at i = n - i
@@ -60,7 +62,14 @@ add-at c =
     let q = band-length (getD (s .args .t2) (l .i) noBand) in
     let e = band-inside (s .args .t2) (s .args .n) (l .i) (l .at) _ (omega (arith, s .pre .0)) (omega arith) (l .inv .2) in
     let f : length (s .args .state .now) < 0x1_0000_0000_0000_0000 = search needs in
-    omega (arith, e, q, f, c .before .before .before .before .band-blocks .ensures, c .before .before .before .before .before .band-nodes .ensures)
+    omega (
+      arith,
+      e,
+      q,
+      f,
+      c .before .before .before .before .band-blocks .ensures,
+      c .before .before .before .before .before .band-nodes .ensures,
+    )
 
 mul-words : tie.Need-mul-words Inv-loop μ-loop
 mul-words c = omega (arith, add-at c)
@@ -82,12 +91,22 @@ loop-again c =
     let k : s .args .n ≤ length (s .args .t2) = omega (arith, s .pre .0) in
     let b : Band = getD (s .args .t2) (l .i) noBand in
     let rest : List Band = drop (l .i + 1) (take (s .args .n) (s .args .t2)) in
-    let w : 6 * c .before .before .before .before .before .band-nodes .result + 4 * c .before .before .before .before .band-blocks .result ≡ bandLength b = omega (arith, band-length b, c .before .before .before .before .before .band-nodes .ensures, c .before .before .before .before .band-blocks .ensures) in (
+    let w : 6 * c .before .before .before .before .before .band-nodes .result + 4 * c .before .before .before .before .band-blocks
+    .result ≡ bandLength b =
+    omega (
+      arith,
+      band-length b,
+      c .before .before .before .before .before .band-nodes .ensures,
+      c .before .before .before .before .band-blocks .ensures,
+    ) in (
       omega arith,
       c .before .before .fresh-band .kept .0 ∙ l .inv .1,
       ap (λ (z : ℕ). endOf (l .at + z) rest) w ∙ end-turn (s .args .t2) (s .args .n) (l .i) (l .at) k (omega arith) ∙ l .inv .2,
-      ap (λ (z : List ℕ). sets z (l .at + (6 * c .before .before .before .before .before .band-nodes .result + 4 * c .before .before .before .before .band-blocks .result)) (freshBands rest)) (c .before .before .fresh-band .ensures)
-          ∙ own-turn (l .state) _ b rest (l .at) _ _ (next-band (s .args .t2) (s .args .n) (l .i) k (omega arith)) (c .before .before .before .before .before .band-nodes .ensures) (c .before .before .before .before .band-blocks .ensures)
+      ap (λ (z : List ℕ). sets z
+          (l .at + (6 * c .before .before .before .before .before .band-nodes .result + 4 * c .before .before .before .before
+          .band-blocks .result)) (freshBands rest)) (c .before .before .fresh-band .ensures)
+          ∙ own-turn (l .state) _ b rest (l .at) _ _ (next-band (s .args .t2) (s .args .n) (l .i) k (omega arith))
+          (c .before .before .before .before .before .band-nodes .ensures) (c .before .before .before .before .band-blocks .ensures)
           ∙ l .inv .3,
     )
 
@@ -96,7 +115,8 @@ same-length c = c .before .loop .inv .1
 
 returns : tie.Need-returns Inv-loop μ-loop
 unfolding freshBands
-returns c = let l = c .before .loop in let s = c .before .before .before in let z = drop-of-length-le (take (s .args .n) (s .args .t2)) {i = l .i} (simp length-take (omega arith)) in rw z at (l .inv .3)
+returns c = let l = c .before .loop in let s = c .before .before .before in let z =
+    drop-of-length-le (take (s .args .n) (s .args .t2)) {i = l .i} (simp length-take (omega arith)) in rw z at (l .inv .3)
 
 pub fresh-bands-spec : {M : Type 1} → statement M
 fresh-bands-spec =

@@ -11,7 +11,8 @@ use Rattle.t2_start_parts.proofs.put_bands.Statement.{statement}
 use Rattle.t2_start_parts.proofs.put_bands.Tie as tie
 
 abbrev Inv-loop : tie.InvT-loop
-Inv-loop state₀ bands n at₀ i₀ state at i = (i ≤ 3) × (at ≡ 4 + 3 * i) × (length state ≡ length state₀) × (sets state at (bandWords (drop i (take n bands)) (3 - i)) ≡ sets state₀ 4 (bandWords (take n bands) 3))
+Inv-loop state₀ bands n at₀ i₀ state at i = (i ≤ 3) × (at ≡ 4 + 3 * i) × (length state ≡ length state₀)
+    × (sets state at (bandWords (drop i (take n bands)) (3 - i)) ≡ sets state₀ 4 (bandWords (take n bands) 3))
 
 abbrev μ-loop : tie.MeasureT-loop
 μ-loop state₀ bands n at₀ i₀ state at i = 3 - i
@@ -37,7 +38,8 @@ loop-again c =
       omega arith,
       c .before .before .put-band .kept .0 ∙ l .inv .2,
       ap (λ (z : List ℕ). sets z (l .at + 3) rest) (c .before .before .put-band .ensures)
-          ∙ put-turn (l .state) (take (s .n) (s .bands)) (l .i) (l .at) _ (omega arith) (c .before .before .before .before .used-band .ensures)
+          ∙ put-turn (l .state) (take (s .n) (s .bands)) (l .i) (l .at) _ (omega arith)
+          (c .before .before .before .before .used-band .ensures)
           ∙ l .inv .3,
     )
 

@@ -13,7 +13,9 @@ returns : tie.Need-returns
 returns c = simp (ne-eqb _ _ (λ e. c .if1 .taken (e ∙ sym (c .before .state-length .ensures))))
 
 returns-2 : tie.Need-returns-2
-returns-2 c = let s = c .before .before .before .before .before .args in ap (λ (k : ℕ). not (eqb (length (s .planes .now)) k)) (c .planes-wanted .ensures) ∙ simp (eq-eqb _ _ (c .before .if1 .left ∙ c .before .before .state-length .ensures))
+returns-2 c = let s = c .before .before .before .before .before .args in
+    ap (λ (k : ℕ). not (eqb (length (s .planes .now)) k)) (c .planes-wanted .ensures)
+    ∙ simp (eq-eqb _ _ (c .before .if1 .left ∙ c .before .before .state-length .ensures))
 
 pub wrong-list-spec : {M : Type 1} → statement M
 wrong-list-spec =

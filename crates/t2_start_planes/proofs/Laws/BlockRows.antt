@@ -20,8 +20,10 @@ use Rattle.tgt.proofs.Laws.Path.{TreeLevels, climb, path-climbs, path-in}
 use Rattle.t2_start_planes.specs.Rows.{ColumnsIn}
 
 -- band i of the first n, the words of which begin at `at`, ends before the last of them does
-pub band-inside : (bs : List Band) (n i at size : ℕ) → n ≤ length bs → i < n → endOf at (drop i (take n bs)) ≡ size → at + bandLength (getD bs i noBand) ≤ size
-band-inside bs n i at size h k e = le-trans (end-after (at + bandLength (getD bs i noBand)) (drop (i + 1) (take n bs))) (le-of-eq (end-turn bs n i at h k ∙ e))
+pub band-inside : (bs : List Band) (n i at size : ℕ) → n ≤ length bs → i < n → endOf at (drop i (take n bs)) ≡ size
+    → at + bandLength (getD bs i noBand) ≤ size
+band-inside bs n i at size h k e =
+    le-trans (end-after (at + bandLength (getD bs i noBand)) (drop (i + 1) (take n bs))) (le-of-eq (end-turn bs n i at h k ∙ e))
 
 module _ (at : ℕ) (b : Band) where
   -- block j of n from block i on
@@ -29,10 +31,12 @@ module _ (at : ℕ) (b : Band) where
   unfolding blocksFrom
   block-at zero i j d h = absurd (omega arith)
   block-at (suc n) i zero d h = ap (blockOf at b) (let e : i ≡ i + 0 = omega arith in e)
-  block-at (suc n) i (suc j) d h = block-at n (i + 1) j d (omega arith) ∙ ap (blockOf at b) (let e : i + 1 + j ≡ i + suc j = omega arith in e)
+  block-at (suc n) i (suc j) d h = block-at n (i + 1) j d (omega arith)
+      ∙ ap (blockOf at b) (let e : i + 1 + j ≡ i + suc j = omega arith in e)
 
   -- in row y, column x
-  pub block-in-row : (y x : ℕ) (d : Block) → y < b .down → x < b .across → getD (blocksFrom at b (blocksIn b) 0) (y * b .across + x) d ≡ blockOf at b (y * b .across + x)
+  pub block-in-row : (y x : ℕ) (d : Block) → y < b .down → x < b .across
+      → getD (blocksFrom at b (blocksIn b) 0) (y * b .across + x) d ≡ blockOf at b (y * b .across + x)
   unfolding blocksIn
   block-in-row y x d h k =
       block-at (b .across * b .down) 0 (y * b .across + x) d (omega (arith, digits-lt h k, mul-comm (b .down) (b .across)))
@@ -40,7 +44,8 @@ module _ (at : ℕ) (b : Band) where
 
   -- row y, and the rows below it
   pub rows-turn : (y : ℕ) → y < b .down
-      → blocksFrom at b (blocksIn b - y * b .across) (y * b .across) ≡ blocksFrom at b (b .across) (y * b .across) ++ blocksFrom at b (blocksIn b - (y + 1) * b .across) ((y + 1) * b .across)
+      → blocksFrom at b (blocksIn b - y * b .across) (y * b .across)
+      ≡ blocksFrom at b (b .across) (y * b .across) ++ blocksFrom at b (blocksIn b - (y + 1) * b .across) ((y + 1) * b .across)
   unfolding blocksIn
   rows-turn y h =
       let w : ℕ = b .across in
@@ -67,7 +72,8 @@ module _ (at : ℕ) (b : Band) where
 
   -- the block in row y, column x, and those after it in the row
   pub columns-turn : (y x : ℕ) → x < b .across
-      → blocksFrom at b (b .across - x) (y * b .across + x) ≡ blockOf at b (y * b .across + x) ∷ blocksFrom at b (b .across - (x + 1)) (y * b .across + (x + 1))
+      → blocksFrom at b (b .across - x) (y * b .across + x)
+      ≡ blockOf at b (y * b .across + x) ∷ blocksFrom at b (b .across - (x + 1)) (y * b .across + (x + 1))
   unfolding blocksFrom
   columns-turn y x h =
       let n : b .across - x ≡ suc (b .across - (x + 1)) = omega arith in
@@ -76,11 +82,13 @@ module _ (at : ℕ) (b : Band) where
       ∙ ap (λ (k : ℕ). blockOf at b (y * b .across + x) ∷ blocksFrom at b (b .across - (x + 1)) k) q
 
 -- the path of the block in row y, column x
-pub path-in-row : (w h : ℕ) (ls : List Level) (depth : ℕ) → TreeLevels w h ls depth → (y x : ℕ) → y < h → x < w → pathOver (rowOver ls depth y) depth x ≡ pathToRoot w h (y * w + x)
+pub path-in-row : (w h : ℕ) (ls : List Level) (depth : ℕ) → TreeLevels w h ls depth → (y x : ℕ) → y < h → x < w
+    → pathOver (rowOver ls depth y) depth x ≡ pathToRoot w h (y * w + x)
 path-in-row w h ls depth t y x k l = path-climbs w h ls depth t x y l k ∙ sym (climb w h ls depth t x y l k .is)
 
 -- a band's levels as the code holds them
-pub tree-of-band : (w h : ℕ) (ls : List Level) (depth : ℕ) → ls ≡ padded (levels w h) → depth ≡ length (levels w h) → TreeLevels w h ls depth
+pub tree-of-band : (w h : ℕ) (ls : List Level) (depth : ℕ) → ls ≡ padded (levels w h) → depth ≡ length (levels w h)
+    → TreeLevels w h ls depth
 tree-of-band w h ls depth e n = record { are = ap₂ (λ (d : ℕ) (l : List Level). take d l) n e ∙ padded-front (levels w h); many = sym n }
 
 -- row y ends before the band's last block does
@@ -91,7 +99,8 @@ row-inside b y from h e =
     omega (arith, l, mul-comm (b .across) (b .down))
 
 -- the nodes of its zero-plane tree over the first n columns lie in a list that holds the band's words
-pub row-in : (at : ℕ) (b : Band) (ls : List Level) (depth : ℕ) → TreeLevels (b .across) (b .down) ls depth → (y : ℕ) → y < b .down → (row : List ℕ) → row ≡ rowOver ls depth y
+pub row-in : (at : ℕ) (b : Band) (ls : List Level) (depth : ℕ) → TreeLevels (b .across) (b .down) ls depth → (y : ℕ) → y < b .down
+    → (row : List ℕ) → row ≡ rowOver ls depth y
     → (base size n : ℕ) → base ≡ at + 3 * bandNodes b → at + bandLength b ≤ size → n ≤ b .across → ColumnsIn size base row depth n
 unfolding bandNodes
 row-in at b ls depth t y k row e base size n q fits few = λ x h.

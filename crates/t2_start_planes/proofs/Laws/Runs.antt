@@ -27,7 +27,8 @@ module _ {ℓ} {A : Type ℓ} where
   part-length l from to h k = length-take (to - from) (drop from l) ∙ omega (arith, length-drop from l)
 
   -- a part that is lent and comes back with other words
-  pub part-set : (l xs : List A) (from to : ℕ) → from ≤ to → to ≤ length l → length xs ≡ to - from → take from l ++ (xs ++ drop (to - from) (drop from l)) ≡ sets l from xs
+  pub part-set : (l xs : List A) (from to : ℕ) → from ≤ to → to ≤ length l → length xs ≡ to - from
+      → take from l ++ (xs ++ drop (to - from) (drop from l)) ≡ sets l from xs
   part-set l xs from to h k e =
       let q : from + (to - from) ≡ from + length xs = omega arith in
       ap (λ (z : List A). take from l ++ (xs ++ z)) (drop-drop (to - from) from l ∙ ap (λ (m : ℕ). drop m l) q)

@@ -22,7 +22,8 @@ abbrev Inv-loop : tie.InvT-loop
 Inv-loop state₀ at nodes band tree depth planes base across down from₀ y₀ state from y = (y ≤ band .down)
     × (from ≡ y * band .across)
     × (length state ≡ length state₀)
-    × (setZeroPlanes (blocksFrom at band (blocksIn band - y * band .across) (y * band .across)) (drop from planes) state ≡ setZeroPlanes (blocksFrom at band (blocksIn band) 0) planes state₀)
+    × (setZeroPlanes (blocksFrom at band (blocksIn band - y * band .across) (y * band .across)) (drop from planes) state
+    ≡ setZeroPlanes (blocksFrom at band (blocksIn band) 0) planes state₀)
 
 abbrev μ-loop : tie.MeasureT-loop
 μ-loop state₀ at nodes band tree depth planes base across down from₀ y₀ state from y = band .down - y
@@ -38,15 +39,22 @@ mul-base c = omega (arith, add-base c)
 
 loop-holds : tie.Need-loop-holds Inv-loop μ-loop
 loop-holds c =
-    let s = c .before .before .before .before .args in
-    (omega arith, omega arith, refl, ap (λ (ks : List Block). setZeroPlanes ks (s .planes .now) (s .state .now)) (rows-first (s .at) (s .band)))
+    let s = c .before .before .before .before .args in (
+      omega arith,
+      omega arith,
+      refl,
+      ap (λ (ks : List Block). setZeroPlanes ks (s .planes .now) (s .state .now)) (rows-first (s .at) (s .band)),
+    )
 
 opj-tgt-row-requires : tie.Need-opj-tgt-row-requires Inv-loop μ-loop
 opj-tgt-row-requires c κs =
     let s = c .before .before .before .before .before .before .before in
     let b : Band = s .args .band in
-    let t = tree-of-band (b .across) (b .down) (s .args .tree) (s .args .depth) (s .pre .2) (s .pre .3) in
-    (small-levels (b .across) (b .down) (s .args .tree) (s .args .depth) t (s .pre .0 .0) (s .pre .0 .1), omega (arith, c .before .loop-test .taken, s .pre .0 .1), refl)
+    let t = tree-of-band (b .across) (b .down) (s .args .tree) (s .args .depth) (s .pre .2) (s .pre .3) in (
+      small-levels (b .across) (b .down) (s .args .tree) (s .args .depth) t (s .pre .0 .0) (s .pre .0 .1),
+      omega (arith, c .before .loop-test .taken, s .pre .0 .1),
+      refl,
+    )
 
 add-to : tie.Need-add-to Inv-loop μ-loop
 add-to c =
@@ -79,13 +87,21 @@ set-row-requires c κs =
     let k : l .y < b .down = c .before .before .before .before .before .loop-test .taken in
     let e = row-inside b (l .y) (l .from) k (l .inv .1) in
     let to : ℕ = l .from + b .across in
-    let n : length (take (to - l .from) (drop (l .from) (s .args .planes .now))) ≡ to - l .from = part-length (s .args .planes .now) (l .from) to (omega arith) (omega (arith, e, s .pre .5)) in (
-      row-in (s .args .at) b (s .args .tree) (s .args .depth) t (l .y) k (c .before .before .before .opj-tgt-row .last .1 .1 .1 .0) (c .before .before .before .opj-tgt-row .ensures) _ _ _ (ap (λ (m : ℕ). s .args .at + 3 * m) (s .pre .1)) (omega (arith, s .pre .4, l .inv .2)) (omega (arith, n)),
-      none-before (λ p. ltb (b .planes) p) (to - l .from) (drop (l .from) (s .args .planes .now)) (none-after (λ p. ltb (b .planes) p) (l .from) (s .args .planes .now) (s .pre .6)),
+    let n : length (take (to - l .from) (drop (l .from) (s .args .planes .now)))
+    ≡ to - l .from = part-length (s .args .planes .now) (l .from) to (omega arith) (omega (arith, e, s .pre .5)) in (
+      row-in (s .args .at) b (s .args .tree) (s .args .depth) t (l .y) k (c .before .before .before .opj-tgt-row .last .1 .1 .1 .0)
+          (c .before .before .before .opj-tgt-row .ensures) _ _ _ (ap (λ (m : ℕ). s .args .at + 3 * m) (s .pre .1))
+          (omega (arith, s .pre .4, l .inv .2)) (omega (arith, n)),
+      none-before (λ p. ltb (b .planes) p) (to - l .from) (drop (l .from) (s .args .planes .now))
+          (none-after (λ p. ltb (b .planes) p) (l .from) (s .args .planes .now) (s .pre .6)),
     )
 
 add-y : tie.Need-add-y Inv-loop μ-loop
-add-y c = omega (arith, c .before .before .before .before .before .before .before .before .loop-test .taken, c .before .before .before .before .before .before .before .before .before .before .before .before .before .before .pre .0 .1)
+add-y c = omega (
+  arith,
+  c .before .before .before .before .before .before .before .before .loop-test .taken,
+  c .before .before .before .before .before .before .before .before .before .before .before .before .before .before .pre .0 .1,
+)
 
 loop-less : tie.Need-loop-less Inv-loop μ-loop
 loop-less c = omega (arith, c .before .before .before .before .before .before .before .before .loop-test .taken)
@@ -100,14 +116,19 @@ loop-again c =
     let e = row-inside b (l .y) (l .from) k (l .inv .1) in
     let to : ℕ = l .from + b .across in
     let part : List ℕ = take (to - l .from) (drop (l .from) (s .args .planes .now)) in
-    let n : length part ≡ b .across = part-length (s .args .planes .now) (l .from) to (omega arith) (omega (arith, e, s .pre .5)) ∙ omega arith in (
+    let n : length part ≡ b .across = part-length (s .args .planes .now) (l .from) to (omega arith) (omega (arith, e, s .pre .5))
+    ∙ omega arith in (
       omega arith,
       omega (arith, l .inv .1),
       c .before .before .set-row .kept .0 ∙ l .inv .2,
-      row-turn (s .args .at) b (s .args .tree) (s .args .depth) t (l .y) k (s .args .planes .now) part (l .state) _ (l .from) to (l .inv .1) refl refl n
+      row-turn (s .args .at) b (s .args .tree) (s .args .depth) t (l .y) k (s .args .planes .now) part (l .state) _ (l .from) to
+          (l .inv .1) refl refl n
           (c .before .before .set-row .ensures
-          ∙ ap (λ (m : ℕ). setRow (s .args .at + 3 * m) (c .before .before .before .before .before .before .opj-tgt-row .last .1 .1 .1 .0) (s .args .depth) (b .planes) 0 part (l .state)) (s .pre .1)
-          ∙ ap (λ (r : List ℕ). setRow (s .args .at + 3 * bandNodes b) r (s .args .depth) (b .planes) 0 part (l .state)) (c .before .before .before .before .before .before .opj-tgt-row .ensures))
+          ∙ ap (λ (m : ℕ). setRow (s .args .at + 3 * m)
+          (c .before .before .before .before .before .before .opj-tgt-row .last .1 .1 .1 .0) (s .args .depth) (b .planes) 0 part
+          (l .state)) (s .pre .1)
+          ∙ ap (λ (r : List ℕ). setRow (s .args .at + 3 * bandNodes b) r (s .args .depth) (b .planes) 0 part (l .state))
+          (c .before .before .before .before .before .before .opj-tgt-row .ensures))
           ∙ l .inv .3,
     )
 
@@ -116,7 +137,8 @@ same-length c = c .before .loop .inv .2
 
 returns : tie.Need-returns Inv-loop μ-loop
 unfolding setZeroPlanes
-returns c = let l = c .before .loop in let s = c .before .before .before .before .before .before .args in rw (rows-end (s .at) (s .band) (l .y) (c .loop-test .left)) at (l .inv .3)
+returns c = let l = c .before .loop in let s = c .before .before .before .before .before .before .args in
+    rw (rows-end (s .at) (s .band) (l .y) (c .loop-test .left)) at (l .inv .3)
 
 pub set-rows-spec : {M : Type 1} → statement M
 set-rows-spec =

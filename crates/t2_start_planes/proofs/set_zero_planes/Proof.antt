@@ -87,7 +87,8 @@ set-band-requires c κs =
       sides-of-first (s .args .t1) (s .args .n) (l .i) k (omega arith) (s .pre .1),
       omega (arith, l .inv .1, band-inside (s .args .t1) (s .args .n) (l .i) (l .at) _ k (omega arith) (l .inv .2)),
       part-length (s .args .planes .now) (l .from) to (omega arith) (omega (arith, e, q, l .inv .3)) ∙ omega (arith, q),
-      shallow-turn _ b _ (s .args .planes .now) (l .from) to (next-band (s .args .t1) (s .args .n) (l .i) k (omega arith)) (ap (λ (m : ℕ). l .from + m) q) (l .inv .4) .0,
+      shallow-turn _ b _ (s .args .planes .now) (l .from) to (next-band (s .args .t1) (s .args .n) (l .i) k (omega arith))
+          (ap (λ (m : ℕ). l .from + m) q) (l .inv .4) .0,
     )
 
 band-length-requires : tie.Need-band-length-requires Inv-loop μ-loop
@@ -127,11 +128,14 @@ loop-again c =
     let r : to ≡ l .from + blocksIn b = ap (λ (m : ℕ). l .from + m) q in (
       omega arith,
       c .before .before .before .set-band .kept .0 ∙ l .inv .1,
-      ap (λ (z : ℕ). endOf (l .at + z) rest) (c .band-length .ensures) ∙ end-turn (s .args .t1) (s .args .n) (l .i) (l .at) k (omega arith) ∙ l .inv .2,
+      ap (λ (z : ℕ). endOf (l .at + z) rest) (c .band-length .ensures)
+          ∙ end-turn (s .args .t1) (s .args .n) (l .i) (l .at) k (omega arith) ∙ l .inv .2,
       omega (arith, e, q, l .inv .3),
       shallow-turn _ b rest (s .args .planes .now) (l .from) to next r (l .inv .4) .1,
-      ap (λ (z : ℕ). setZeroPlanes (blocksAt (l .at + z) rest) (drop to (s .args .planes .now)) (c .before .before .before .set-band .last .0)) (c .band-length .ensures)
-          ∙ band-turn _ b rest (l .at) (s .args .planes .now) (l .state) (c .before .before .before .set-band .last .0) (l .from) to next r (c .before .before .before .set-band .ensures)
+      ap (λ (z : ℕ). setZeroPlanes (blocksAt (l .at + z) rest) (drop to (s .args .planes .now))
+          (c .before .before .before .set-band .last .0)) (c .band-length .ensures)
+          ∙ band-turn _ b rest (l .at) (s .args .planes .now) (l .state) (c .before .before .before .set-band .last .0) (l .from) to
+          next r (c .before .before .before .set-band .ensures)
           ∙ l .inv .5,
     )
 
@@ -140,7 +144,8 @@ same-length c = c .before .loop .inv .1
 
 returns : tie.Need-returns Inv-loop μ-loop
 unfolding blocksAt setZeroPlanes
-returns c = let l = c .before .loop in let s = c .before .before .before .before in let z = drop-of-length-le (take (s .args .n) (s .args .t1)) {i = l .i} (simp length-take (omega arith)) in rw z at (l .inv .5)
+returns c = let l = c .before .loop in let s = c .before .before .before .before in let z =
+    drop-of-length-le (take (s .args .n) (s .args .t1)) {i = l .i} (simp length-take (omega arith)) in rw z at (l .inv .5)
 
 pub set-zero-planes-spec : {M : Type 1} → statement M
 set-zero-planes-spec =

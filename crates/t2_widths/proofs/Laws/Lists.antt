@@ -20,7 +20,8 @@ part-lists ls ms from to c e h l k =
     (omega arith, omega arith)
 
 -- the passes that are left
-pub passes-left-after : (cs ls ms : List ℕ) (first from : ℕ) → from + sum (drop first cs) ≡ sum cs → PassesLeft cs ls ms → PassesLeft (drop first cs) (drop from ls) (drop from ms)
+pub passes-left-after : (cs ls ms : List ℕ) (first from : ℕ) → from + sum (drop first cs) ≡ sum cs → PassesLeft cs ls ms
+    → PassesLeft (drop first cs) (drop from ls) (drop from ms)
 passes-left-after cs ls ms first from e h =
     let d : length (drop from ls) ≡ length ls - from = length-drop from ls in
     let f : length (drop from ms) ≡ length ms - from = length-drop from ms in
@@ -28,17 +29,22 @@ passes-left-after cs ls ms first from e h =
 
 -- a part up to a list's end
 pub rest-is : (l : List ℕ) (from : ℕ) → take (length l - from) (drop from l) ≡ drop from l
-rest-is l from = take-all (length l - from) (drop from l) (let d : length (drop from l) ≡ length l - from = length-drop from l in omega arith)
+rest-is l from = take-all (length l - from) (drop from l)
+    (let d : length (drop from l) ≡ length l - from = length-drop from l in omega arith)
 
-pub of-rests : (P : List ℕ → List ℕ → List ℕ → Type 0) (cs ls ms : List ℕ) (first from : ℕ) → P (drop first cs) (drop from ls) (drop from ms)
+pub of-rests : (P : List ℕ → List ℕ → List ℕ → Type 0) (cs ls ms : List ℕ) (first from : ℕ)
+    → P (drop first cs) (drop from ls) (drop from ms)
     → P (take (length cs - first) (drop first cs)) (take (length ls - from) (drop from ls)) (take (length ms - from) (drop from ms))
 of-rests P cs ls ms first from h =
     subst (λ (z : List ℕ). P z (take (length ls - from) (drop from ls)) (take (length ms - from) (drop from ms))) (sym (rest-is cs first))
-    (subst (λ (z : List ℕ). P (drop first cs) z (take (length ms - from) (drop from ms))) (sym (rest-is ls from)) (subst (λ (z : List ℕ). P (drop first cs) (drop from ls) z) (sym (rest-is ms from)) h))
+    (subst (λ (z : List ℕ). P (drop first cs) z (take (length ms - from) (drop from ms))) (sym (rest-is ls from))
+    (subst (λ (z : List ℕ). P (drop first cs) (drop from ls) z) (sym (rest-is ms from)) h))
 
 pub on-rests : {A : Type 0} (f : List ℕ → List ℕ → List ℕ → A) (cs ls ms : List ℕ) (first from : ℕ)
-    → f (take (length cs - first) (drop first cs)) (take (length ls - from) (drop from ls)) (take (length ms - from) (drop from ms)) ≡ f (drop first cs) (drop from ls) (drop from ms)
-on-rests f cs ls ms first from = of-rests (λ (x y z : List ℕ). f x y z ≡ f (drop first cs) (drop from ls) (drop from ms)) cs ls ms first from refl
+    → f (take (length cs - first) (drop first cs)) (take (length ls - from) (drop from ls)) (take (length ms - from) (drop from ms))
+    ≡ f (drop first cs) (drop from ls) (drop from ms)
+on-rests f cs ls ms first from =
+    of-rests (λ (x y z : List ℕ). f x y z ≡ f (drop first cs) (drop from ls) (drop from ms)) cs ls ms first from refl
 
 pub part-length : (l : List ℕ) (k from : ℕ) → length (take k (drop from l)) ≤ length l
 part-length l k from = omega (arith, length-take k (drop from l), length-drop from l)

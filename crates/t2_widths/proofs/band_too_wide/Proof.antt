@@ -33,7 +33,10 @@ blocks-too-wide-requires c κs =
 returns : tie.Need-returns
 returns c =
     let s = c .before .before .before .before .before .before .before in
-    c .blocks-too-wide .ensures ∙ wide-band (s .args .state .now) (s .args .at) (s .args .band) _ _ (s .args .counts .now) (s .args .lengths .now) (s .args .marks .now) (ap (λ (k : ℕ). s .args .at + 6 * k) (c .before .before .band-nodes .ensures)) (c .before .band-blocks .ensures)
+    c .blocks-too-wide .ensures
+    ∙ wide-band (s .args .state .now) (s .args .at) (s .args .band) _ _ (s .args .counts .now) (s .args .lengths .now)
+    (s .args .marks .now) (ap (λ (k : ℕ). s .args .at + 6 * k) (c .before .before .band-nodes .ensures))
+    (c .before .band-blocks .ensures)
 
 pub band-too-wide-spec : {M : Type 1} → statement M
 band-too-wide-spec =

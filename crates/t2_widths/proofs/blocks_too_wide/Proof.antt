@@ -17,30 +17,40 @@ use Rattle.t2_widths.proofs.blocks_too_wide.Statement.{statement}
 use Rattle.t2_widths.proofs.blocks_too_wide.Tie as tie
 
 abbrev Inv-loop : tie.InvT-loop
-Inv-loop state at n counts lengths marks block₀ from₀ i₀ block from i = (i ≤ n) × (block + 4 * (n - i) ≡ at + 4 * n) × (from + sum (drop i counts) ≡ sum counts) × (segmentTooLong (drop i counts) (drop from lengths) (drop from marks) ≡ false) × (wideFrom state block (n - i) (drop i counts) (drop from lengths) (drop from marks) ≡ wideFrom state at n counts lengths marks)
+Inv-loop state at n counts lengths marks block₀ from₀ i₀ block from i = (i ≤ n) × (block + 4 * (n - i) ≡ at + 4 * n)
+    × (from + sum (drop i counts) ≡ sum counts) × (segmentTooLong (drop i counts) (drop from lengths) (drop from marks) ≡ false)
+    × (wideFrom state block (n - i) (drop i counts) (drop from lengths) (drop from marks)
+    ≡ wideFrom state at n counts lengths marks)
 
 abbrev μ-loop : tie.MeasureT-loop
 μ-loop state at n counts lengths marks block₀ from₀ i₀ block from i = n - i
 
--- What a need asks is proved of variables, or once where it first holds: `omega` at a need reads all that its `c` holds, up to half a second
+-- What a need asks is proved of variables, or once where it first holds: `omega` at a need reads all that its `c` holds, up to half
+-- a second
 -- each time.
 
 -- block i's count, words and passes lie in the lists
 abbrev Inside : List ℕ → List ℕ → List ℕ → List ℕ → ℕ → ℕ → ℕ → Type 0
-Inside ws cs ls ms i block from = (i < length cs) × (block + 4 ≤ length ws) × (from + getD cs i 0 ≤ length ls) × (from + getD cs i 0 ≤ length ms)
+Inside ws cs ls ms i block from = (i < length cs) × (block + 4 ≤ length ws) × (from + getD cs i 0 ≤ length ls)
+    × (from + getD cs i 0 ≤ length ms)
 
-inside : (ws cs ls ms : List ℕ) (at n i block from : ℕ) → i < n → n ≤ length cs → at + 4 * n ≤ length ws → block + 4 * (n - i) ≡ at + 4 * n → from + sum (drop i cs) ≡ sum cs → PassesLeft cs ls ms → Inside ws cs ls ms i block from
+inside : (ws cs ls ms : List ℕ) (at n i block from : ℕ) → i < n → n ≤ length cs → at + 4 * n ≤ length ws → block + 4 * (n - i)
+    ≡ at + 4 * n → from + sum (drop i cs) ≡ sum cs → PassesLeft cs ls ms → Inside ws cs ls ms i block from
 inside ws cs ls ms at n i block from h k w b f p =
     let q = sum-turn cs i (omega arith) in
     (omega arith, omega arith, omega (arith, q, p .0), omega (arith, q, p .0, p .1))
 
-here : (c : tie.In-loop Inv-loop μ-loop) → let s = c .before .before .before .before .before .before .args in let l = c .before .loop in Inside (s .state .now) (s .counts .now) (s .lengths .now) (s .marks .now) (l .i) (l .block) (l .from)
+here : (c : tie.In-loop Inv-loop μ-loop)
+    → let s = c .before .before .before .before .before .before .args in let l = c .before .loop in
+    Inside (s .state .now) (s .counts .now) (s .lengths .now) (s .marks .now) (l .i) (l .block) (l .from)
 here c =
     let s = c .before .before .before .before .before .before in
     let l = c .before .loop in
-    inside (s .args .state .now) (s .args .counts .now) (s .args .lengths .now) (s .args .marks .now) (s .args .at) (s .args .n) (l .i) (l .block) (l .from) (c .loop-test .taken) (s .pre .1) (s .pre .0) (l .inv .1) (l .inv .2) (s .pre .2)
+    inside (s .args .state .now) (s .args .counts .now) (s .args .lengths .now) (s .args .marks .now) (s .args .at) (s .args .n)
+    (l .i) (l .block) (l .from) (c .loop-test .taken) (s .pre .1) (s .pre .0) (l .inv .1) (l .inv .2) (s .pre .2)
 
-rooms : (s : tie.Start Inv-loop μ-loop) → Fits w64 (length (s .args .state .now) * 4) × Fits w64 (length (s .args .counts .now) * 4) × Fits w64 (length (s .args .lengths .now) * 4)
+rooms : (s : tie.Start Inv-loop μ-loop) → Fits w64 (length (s .args .state .now) * 4) × Fits w64 (length (s .args .counts .now) * 4)
+    × Fits w64 (length (s .args .lengths .now) * 4)
 rooms s = (omega arith, omega arith, omega arith)
 
 index-fits : (a b : ℕ) → a ≤ b → Fits w64 (b * 4) → Fits w64 (a * 4)
@@ -76,7 +86,8 @@ fewer a b h = omega arith
 words-left : (block n i end : ℕ) → i < n → block + 4 * (n - i) ≡ end → block + 4 + 4 * (n - (i + 1)) ≡ end
 words-left block n i end h e = omega arith
 
-passes-left : (cs : List ℕ) (i from : ℕ) → i < length cs → from + sum (drop i cs) ≡ sum cs → from + getD cs i 0 + sum (drop (i + 1) cs) ≡ sum cs
+passes-left : (cs : List ℕ) (i from : ℕ) → i < length cs → from + sum (drop i cs) ≡ sum cs
+    → from + getD cs i 0 + sum (drop (i + 1) cs) ≡ sum cs
 passes-left cs i from h e = let q = sum-turn cs i h in omega arith
 
 loop-holds : tie.Need-loop-holds Inv-loop μ-loop
@@ -148,7 +159,8 @@ mul-block-too-wide : tie.Need-mul-block-too-wide Inv-loop μ-loop
 mul-block-too-wide c =
     let s = c .before .before .before .before .before .before .before .before .before in
     let l = c .before .before .before .before .loop in
-    index-fits (l .from) (length (s .args .lengths .now)) (part-from _ (getD (s .args .counts .now) (l .i) 0) _ (here (c .before .before .before) .2)) (rooms s .2)
+    index-fits (l .from) (length (s .args .lengths .now))
+    (part-from _ (getD (s .args .counts .now) (l .i) 0) _ (here (c .before .before .before) .2)) (rooms s .2)
 
 sub-block-too-wide : tie.Need-sub-block-too-wide Inv-loop μ-loop
 sub-block-too-wide c =
@@ -191,15 +203,20 @@ block-too-wide-requires c κs =
     let s = c .before .before .before .before .before .before .before .before .before .before .before in
     let l = c .before .before .before .before .before .before .loop in
     let h = here (c .before .before .before .before .before) in (
-      part-lists (s .args .lengths .now) (s .args .marks .now) (l .from) (l .from + getD (s .args .counts .now) (l .i) 0) _ refl (h .2) (s .pre .2 .1) (up-to _ (c .before .before .before .before .shared-slice-known5 .given (l .i))),
-      none-long-here (s .args .counts .now) (s .args .lengths .now) (s .args .marks .now) (l .i) (l .from) (l .from + getD (s .args .counts .now) (l .i) 0) (h .0) refl (l .inv .3) .0,
+      part-lists (s .args .lengths .now) (s .args .marks .now) (l .from) (l .from + getD (s .args .counts .now) (l .i) 0) _ refl
+          (h .2) (s .pre .2 .1) (up-to _ (c .before .before .before .before .shared-slice-known5 .given (l .i))),
+      none-long-here (s .args .counts .now) (s .args .lengths .now) (s .args .marks .now) (l .i) (l .from)
+          (l .from + getD (s .args .counts .now) (l .i) 0) (h .0) refl (l .inv .3) .0,
     )
 
 returns : tie.Need-returns Inv-loop μ-loop
 returns c =
     let s = c .before .before .before .before .before .before .before .before .before .before .before .before .before in
     let l = c .before .before .before .before .before .before .before .before .loop in
-    sym (wide-turn (s .args .state .now) (s .args .counts .now) (s .args .lengths .now) (s .args .marks .now) (s .args .n) (l .i) (l .block) (l .from) (l .from + getD (s .args .counts .now) (l .i) 0) true (c .before .before .before .before .before .before .before .loop-test .taken) (s .pre .1) refl (sym (c .if1 .taken) ∙ c .before .block-too-wide .ensures)) ∙ l .inv .4
+    sym (wide-turn (s .args .state .now) (s .args .counts .now) (s .args .lengths .now) (s .args .marks .now) (s .args .n) (l .i)
+    (l .block) (l .from) (l .from + getD (s .args .counts .now) (l .i) 0) true
+    (c .before .before .before .before .before .before .before .loop-test .taken) (s .pre .1) refl
+    (sym (c .if1 .taken) ∙ c .before .block-too-wide .ensures)) ∙ l .inv .4
 
 add-block : tie.Need-add-block Inv-loop μ-loop
 add-block c =
@@ -227,15 +244,20 @@ loop-again c =
       below _ _ (c .before .before .before .before .before .before .before .loop-test .taken) .1,
       words-left (l .block) (s .args .n) (l .i) _ (c .before .before .before .before .before .before .before .loop-test .taken) (l .inv .1),
       passes-left (s .args .counts .now) (l .i) (l .from) (h .0) (l .inv .2),
-      none-long-here (s .args .counts .now) (s .args .lengths .now) (s .args .marks .now) (l .i) (l .from) (l .from + getD (s .args .counts .now) (l .i) 0) (h .0) refl (l .inv .3) .1,
-      sym (wide-turn (s .args .state .now) (s .args .counts .now) (s .args .lengths .now) (s .args .marks .now) (s .args .n) (l .i) (l .block) (l .from) (l .from + getD (s .args .counts .now) (l .i) 0) false (c .before .before .before .before .before .before .before .loop-test .taken) (s .pre .1) refl (sym (c .if1 .left) ∙ c .before .block-too-wide .ensures)) ∙ l .inv .4,
+      none-long-here (s .args .counts .now) (s .args .lengths .now) (s .args .marks .now) (l .i) (l .from)
+          (l .from + getD (s .args .counts .now) (l .i) 0) (h .0) refl (l .inv .3) .1,
+      sym (wide-turn (s .args .state .now) (s .args .counts .now) (s .args .lengths .now) (s .args .marks .now) (s .args .n) (l .i)
+          (l .block) (l .from) (l .from + getD (s .args .counts .now) (l .i) 0) false
+          (c .before .before .before .before .before .before .before .loop-test .taken) (s .pre .1) refl
+          (sym (c .if1 .left) ∙ c .before .block-too-wide .ensures)) ∙ l .inv .4,
     )
 
 returns-2 : tie.Need-returns-2 Inv-loop μ-loop
 returns-2 c =
     let s = c .before .before .before .before .before .before in
     let l = c .before .loop in
-    sym (wide-end (s .args .state .now) (s .args .counts .now) (s .args .lengths .now) (s .args .marks .now) (s .args .n) (l .i) (l .block) (l .from) (c .loop-test .left)) ∙ l .inv .4
+    sym (wide-end (s .args .state .now) (s .args .counts .now) (s .args .lengths .now) (s .args .marks .now) (s .args .n) (l .i)
+    (l .block) (l .from) (c .loop-test .left)) ∙ l .inv .4
 
 pub blocks-too-wide-spec : {M : Type 1} → statement M
 blocks-too-wide-spec =

@@ -24,37 +24,52 @@ use Rattle.t2_widths.proofs.field_too_wide.Statement.{statement}
 use Rattle.t2_widths.proofs.field_too_wide.Tie as tie
 
 abbrev Inv-loop : tie.InvT-loop
-Inv-loop state n counts lengths marks bands at₀ first₀ from₀ i₀ at first from i = (i ≤ n) × (endOf at (drop i (take n bands)) ≡ length state) × (first + sum (map blocksIn (drop i (take n bands))) ≡ length counts) × (from + sum (drop first counts) ≡ sum counts) × (segmentTooLong (drop first counts) (drop from lengths) (drop from marks) ≡ false) × (fieldTooWide state (blocksAt at (drop i (take n bands))) (drop first counts) (drop from lengths) (drop from marks) ≡ fieldTooWide state (blocks (take n bands)) counts lengths marks)
+Inv-loop state n counts lengths marks bands at₀ first₀ from₀ i₀ at first from i = (i ≤ n)
+    × (endOf at (drop i (take n bands)) ≡ length state) × (first + sum (map blocksIn (drop i (take n bands))) ≡ length counts)
+    × (from + sum (drop first counts) ≡ sum counts)
+    × (segmentTooLong (drop first counts) (drop from lengths) (drop from marks) ≡ false)
+    × (fieldTooWide state (blocksAt at (drop i (take n bands))) (drop first counts) (drop from lengths) (drop from marks)
+    ≡ fieldTooWide state (blocks (take n bands)) counts lengths marks)
 
 abbrev μ-loop : tie.MeasureT-loop
 μ-loop state n counts lengths marks bands at₀ first₀ from₀ i₀ at first from i = n - i
 
--- What a need asks is proved of variables, or once where it first holds: `omega` and `search` at a need read all that its `c` holds, up to half a
+-- What a need asks is proved of variables, or once where it first holds: `omega` and `search` at a need read all that its `c`
+-- holds, up to half a
 -- second each time.
 
 all-three : (s : tie.Start Inv-loop μ-loop) → s .args .n ≤ length (s .args .t2)
 all-three s = let g : length (s .args .t2) ≡ 3 = search needs in omega (arith, s .pre .0)
 
-rooms : (s : tie.Start Inv-loop μ-loop) → Fits w64 (length (s .args .state .now) * 4) × Fits w64 (length (s .args .counts .now) * 4) × Fits w64 (length (s .args .lengths .now) * 4)
+rooms : (s : tie.Start Inv-loop μ-loop) → Fits w64 (length (s .args .state .now) * 4) × Fits w64 (length (s .args .counts .now) * 4)
+    × Fits w64 (length (s .args .lengths .now) * 4)
 rooms s = (omega arith, omega arith, omega arith)
 
 -- band b's blocks, words and passes lie in the lists
 abbrev Inside : Band → List ℕ → List ℕ → List ℕ → List ℕ → ℕ → ℕ → ℕ → Type 0
-Inside b ws cs ls ms at first from = (first + blocksIn b ≤ length cs) × (at + bandLength b ≤ length ws) × (from ≤ length ls) × (from ≤ length ms)
+Inside b ws cs ls ms at first from = (first + blocksIn b ≤ length cs) × (at + bandLength b ≤ length ws) × (from ≤ length ls)
+    × (from ≤ length ms)
 
-inside : (bs : List Band) (n i : ℕ) (ws cs ls ms : List ℕ) (at first from : ℕ) → n ≤ length bs → i < n → endOf at (drop i (take n bs)) ≡ length ws
-    → first + sum (map blocksIn (drop i (take n bs))) ≡ length cs → from + sum (drop first cs) ≡ sum cs → PassesLeft cs ls ms → Inside (getD bs i noBand) ws cs ls ms at first from
+inside : (bs : List Band) (n i : ℕ) (ws cs ls ms : List ℕ) (at first from : ℕ) → n ≤ length bs → i < n
+    → endOf at (drop i (take n bs)) ≡ length ws
+    → first + sum (map blocksIn (drop i (take n bs))) ≡ length cs → from + sum (drop first cs) ≡ sum cs → PassesLeft cs ls ms
+    → Inside (getD bs i noBand) ws cs ls ms at first from
 inside bs n i ws cs ls ms at first from h k w b f p =
     let q = blocks-turn bs n i first h k in
     let e = end-turn bs n i at h k in
     let a = end-after (at + bandLength (getD bs i noBand)) (drop (i + 1) (take n bs)) in
     (omega arith, omega arith, omega (arith, p .0), omega (arith, p .0, p .1))
 
-here : (c : tie.In-loop Inv-loop μ-loop) → let s = c .before .before .before .before .before .before .args in let l = c .before .loop in Inside (getD (s .t2) (l .i) noBand) (s .state .now) (s .counts .now) (s .lengths .now) (s .marks .now) (l .at) (l .first) (l .from)
+here : (c : tie.In-loop Inv-loop μ-loop)
+    → let s = c .before .before .before .before .before .before .args in let l = c .before .loop in
+    Inside (getD (s .t2) (l .i) noBand) (s .state .now) (s .counts .now) (s .lengths .now) (s .marks .now) (l .at) (l .first)
+    (l .from)
 here c =
     let s = c .before .before .before .before .before .before in
     let l = c .before .loop in
-    inside (s .args .t2) (s .args .n) (l .i) (s .args .state .now) (s .args .counts .now) (s .args .lengths .now) (s .args .marks .now) (l .at) (l .first) (l .from) (all-three s) (c .loop-test .taken) (l .inv .1) (l .inv .2) (l .inv .3) (s .pre .4)
+    inside (s .args .t2) (s .args .n) (l .i) (s .args .state .now) (s .args .counts .now) (s .args .lengths .now)
+    (s .args .marks .now) (l .at) (l .first) (l .from) (all-three s) (c .loop-test .taken) (l .inv .1) (l .inv .2) (l .inv .3)
+    (s .pre .4)
 
 index-fits : (a b : ℕ) → a ≤ b → Fits w64 (b * 4) → Fits w64 (a * 4)
 index-fits a b h f = omega arith
@@ -191,7 +206,13 @@ band-too-wide-requires c κs =
     let l = c .before .before .before .before .before .loop in
     let b : Band = getD (s .args .t2) (l .i) noBand in
     let h = here (c .before .before .before .before) in
-    let r = of-rests (λ (x y z : List ℕ). (blocksIn b ≤ length x) × PassesLeft x y z × (segmentTooLong x y z ≡ false)) (s .args .counts .now) (s .args .lengths .now) (s .args .marks .now) (l .first) (l .from) (room-after (s .args .counts .now) (l .first) (blocksIn b) (h .0), passes-left-after (s .args .counts .now) (s .args .lengths .now) (s .args .marks .now) (l .first) (l .from) (l .inv .3) (s .pre .4), l .inv .4) in (
+    let r = of-rests (λ (x y z : List ℕ). (blocksIn b ≤ length x) × PassesLeft x y z × (segmentTooLong x y z ≡ false))
+    (s .args .counts .now) (s .args .lengths .now) (s .args .marks .now) (l .first) (l .from) (
+      room-after (s .args .counts .now) (l .first) (blocksIn b) (h .0),
+      passes-left-after (s .args .counts .now) (s .args .lengths .now) (s .args .marks .now) (l .first) (l .from) (l .inv .3)
+          (s .pre .4),
+      l .inv .4,
+    ) in (
       sides-of-first (s .args .t2) (s .args .n) (l .i) (all-three s) (c .before .before .before .before .loop-test .taken) (s .pre .1),
       h .1,
       r .0,
@@ -204,19 +225,28 @@ returns c =
     let s = c .before .before .before .before .before .before .before .before .before .before .before .before in
     let l = c .before .before .before .before .before .before .before .loop in
     let b : Band = getD (s .args .t2) (l .i) noBand in
-    sym (band-wide-turn (s .args .counts .now) (s .args .lengths .now) (s .args .marks .now) b (l .first) _ (l .from) _ refl refl (s .args .state .now) (l .at) _ _ true (next-band (s .args .t2) (s .args .n) (l .i) (all-three s) (c .before .before .before .before .before .before .loop-test .taken)) (sym (c .if1 .taken) ∙ c .before .band-too-wide .ensures ∙ on-rests (λ (x y z : List ℕ). fieldTooWide (s .args .state .now) (blocksFrom (l .at) b (blocksIn b) 0) x y z) (s .args .counts .now) (s .args .lengths .now) (s .args .marks .now) (l .first) (l .from))) ∙ l .inv .5
+    sym (band-wide-turn (s .args .counts .now) (s .args .lengths .now) (s .args .marks .now) b (l .first) _ (l .from) _ refl refl
+    (s .args .state .now) (l .at) _ _ true
+    (next-band (s .args .t2) (s .args .n) (l .i) (all-three s)
+    (c .before .before .before .before .before .before .loop-test .taken))
+    (sym (c .if1 .taken) ∙ c .before .band-too-wide .ensures
+    ∙ on-rests (λ (x y z : List ℕ). fieldTooWide (s .args .state .now) (blocksFrom (l .at) b (blocksIn b) 0) x y z)
+    (s .args .counts .now) (s .args .lengths .now) (s .args .marks .now) (l .first) (l .from))) ∙ l .inv .5
 
 add-next : tie.Need-add-next Inv-loop μ-loop
 add-next c =
     let s = c .before .before .before .before .before .before .before .before .before .before .before .before .before in
     let l = c .before .before .before .before .before .before .before .before .loop in
-    place-fits _ (length (s .args .counts .now)) (with-length (l .first) _ _ _ (c .band-blocks .ensures) (here (c .before .before .before .before .before .before .before) .0)) (rooms s .1)
+    place-fits _ (length (s .args .counts .now))
+    (with-length (l .first) _ _ _ (c .band-blocks .ensures) (here (c .before .before .before .before .before .before .before) .0))
+    (rooms s .1)
 
 mul-total : tie.Need-mul-total Inv-loop μ-loop
 mul-total c =
     let s = c .before .before .before .before .before .before .before .before .before .before .before .before .before in
     let l = c .before .before .before .before .before .before .before .before .loop in
-    index-fits (l .first) (length (s .args .counts .now)) (part-from _ _ _ (here (c .before .before .before .before .before .before .before) .0)) (rooms s .1)
+    index-fits (l .first) (length (s .args .counts .now))
+    (part-from _ _ _ (here (c .before .before .before .before .before .before .before) .0)) (rooms s .1)
 
 sub-total : tie.Need-sub-total Inv-loop μ-loop
 sub-total c =
@@ -234,71 +264,99 @@ part-total-end : tie.Need-part-total-end Inv-loop μ-loop
 part-total-end c =
     let s = c .before .before .before .before .before .before .before .before .before .before .before .before .before in
     let l = c .before .before .before .before .before .before .before .before .loop in
-    with-length (l .first) (c .band-blocks .result) (blocksIn (getD (s .args .t2) (l .i) noBand)) (length (s .args .counts .now)) (c .band-blocks .ensures) (here (c .before .before .before .before .before .before .before) .0)
+    with-length (l .first) (c .band-blocks .result) (blocksIn (getD (s .args .t2) (l .i) noBand)) (length (s .args .counts .now))
+    (c .band-blocks .ensures) (here (c .before .before .before .before .before .before .before) .0)
 
 total-requires : tie.Need-total-requires Inv-loop μ-loop
 total-requires c κs =
     let s = c .before .before .before .before .before .before .before .before .before .before .before .before .before .before in
     let l = c .before .before .before .before .before .before .before .before .before .loop in
-    le-trans (part-length (s .args .counts .now) (l .first + c .before .band-blocks .result - l .first) (l .first)) (up-to-12288 _ _ (s .pre .3) (blocks-up-to-12288 (s .args .n) (s .args .t2) (s .pre .0) (s .pre .1)))
+    le-trans (part-length (s .args .counts .now) (l .first + c .before .band-blocks .result - l .first) (l .first))
+    (up-to-12288 _ _ (s .pre .3) (blocks-up-to-12288 (s .args .n) (s .args .t2) (s .pre .0) (s .pre .1)))
 
 add-from : tie.Need-add-from Inv-loop μ-loop
 add-from c =
     let s = c .before .before .before .before .before .before .before .before .before .before .before .before .before .before .before in
     let l = c .before .before .before .before .before .before .before .before .before .before .loop in
     let b : Band = getD (s .args .t2) (l .i) noBand in
-    let p = passes-here (s .args .counts .now) b (l .first) _ _ (ap (λ (z : ℕ). l .first + z) (c .before .before .band-blocks .ensures)) (c .total .ensures) in
-    place-fits _ (length (s .args .lengths .now)) (passes-inside (drop (l .first) (s .args .counts .now)) (blocksIn b) (l .from) _ _ _ p (l .inv .3) (s .pre .4 .0)) (rooms s .2)
+    let p = passes-here (s .args .counts .now) b (l .first) _ _
+    (ap (λ (z : ℕ). l .first + z) (c .before .before .band-blocks .ensures)) (c .total .ensures) in
+    place-fits _ (length (s .args .lengths .now))
+    (passes-inside (drop (l .first) (s .args .counts .now)) (blocksIn b) (l .from) _ _ _ p (l .inv .3) (s .pre .4 .0)) (rooms s .2)
 
 band-length-requires : tie.Need-band-length-requires Inv-loop μ-loop
 band-length-requires c κs =
     let s = c .before .before .before .before .before .before .before .before .before .before .before .before .before .before .before in
     let l = c .before .before .before .before .before .before .before .before .before .before .loop in
-    sides-of-first (s .args .t2) (s .args .n) (l .i) (all-three s) (c .before .before .before .before .before .before .before .before .before .loop-test .taken) (s .pre .1)
+    sides-of-first (s .args .t2) (s .args .n) (l .i) (all-three s)
+    (c .before .before .before .before .before .before .before .before .before .loop-test .taken) (s .pre .1)
 
 add-at : tie.Need-add-at Inv-loop μ-loop
 add-at c =
-    let s = c .before .before .before .before .before .before .before .before .before .before .before .before .before .before .before .before in
+    let s = c .before .before .before .before .before .before .before .before .before .before .before .before .before .before
+    .before .before in
     let l = c .before .before .before .before .before .before .before .before .before .before .before .loop in
-    place-fits _ (length (s .args .state .now)) (with-length (l .at) _ _ _ (c .band-length .ensures) (here (c .before .before .before .before .before .before .before .before .before .before) .1)) (rooms s .0)
+    place-fits _ (length (s .args .state .now))
+    (with-length (l .at) _ _ _ (c .band-length .ensures)
+    (here (c .before .before .before .before .before .before .before .before .before .before) .1)) (rooms s .0)
 
 add-i : tie.Need-add-i Inv-loop μ-loop
 add-i c =
-    let s = c .before .before .before .before .before .before .before .before .before .before .before .before .before .before .before .before in
+    let s = c .before .before .before .before .before .before .before .before .before .before .before .before .before .before
+    .before .before in
     let l = c .before .before .before .before .before .before .before .before .before .before .before .loop in
-    counted (l .i) (s .args .n) (c .before .before .before .before .before .before .before .before .before .before .loop-test .taken) (s .fits .n)
+    counted (l .i) (s .args .n)
+    (c .before .before .before .before .before .before .before .before .before .before .loop-test .taken) (s .fits .n)
 
 loop-less : tie.Need-loop-less Inv-loop μ-loop
 loop-less c =
-    let s = c .before .before .before .before .before .before .before .before .before .before .before .before .before .before .before .before in
+    let s = c .before .before .before .before .before .before .before .before .before .before .before .before .before .before
+    .before .before in
     let l = c .before .before .before .before .before .before .before .before .before .before .before .loop in
     fewer (l .i) (s .args .n) (c .before .before .before .before .before .before .before .before .before .before .loop-test .taken)
 
 loop-again : tie.Need-loop-again Inv-loop μ-loop
 loop-again c =
-    let s = c .before .before .before .before .before .before .before .before .before .before .before .before .before .before .before .before in
+    let s = c .before .before .before .before .before .before .before .before .before .before .before .before .before .before
+    .before .before in
     let l = c .before .before .before .before .before .before .before .before .before .before .before .loop in
     let b : Band = getD (s .args .t2) (l .i) noBand in
-    let q = blocks-turn (s .args .t2) (s .args .n) (l .i) (l .first) (all-three s) (c .before .before .before .before .before .before .before .before .before .before .loop-test .taken) in
+    let q = blocks-turn (s .args .t2) (s .args .n) (l .i) (l .first) (all-three s)
+    (c .before .before .before .before .before .before .before .before .before .before .loop-test .taken) in
     let ls : List ℕ = drop (l .from + c .before .total .result) (s .args .lengths .now) in
     let ms : List ℕ = drop (l .from + c .before .total .result) (s .args .marks .now) in
     let size = ap (λ (z : ℕ). l .first + z) (c .before .before .before .band-blocks .ensures) in
     let p = passes-here (s .args .counts .now) b (l .first) _ _ size (c .before .total .ensures) in
     let rest : List Band = drop (l .i + 1) (take (s .args .n) (s .args .t2)) in (
       next (l .i) (s .args .n) (c .before .before .before .before .before .before .before .before .before .before .loop-test .taken),
-      ap (λ (w : ℕ). endOf (l .at + w) rest) (c .band-length .ensures) ∙ end-turn (s .args .t2) (s .args .n) (l .i) (l .at) (all-three s) (c .before .before .before .before .before .before .before .before .before .before .loop-test .taken) ∙ l .inv .1,
+      ap (λ (w : ℕ). endOf (l .at + w) rest) (c .band-length .ensures)
+          ∙ end-turn (s .args .t2) (s .args .n) (l .i) (l .at) (all-three s)
+          (c .before .before .before .before .before .before .before .before .before .before .loop-test .taken) ∙ l .inv .1,
       blocks-left (l .first) _ _ _ _ _ (c .before .before .before .band-blocks .ensures) q (l .inv .2),
       passes-after-band (s .args .counts .now) (s .args .lengths .now) (s .args .marks .now) b (l .first) _ (l .from) _ size p (l .inv .3),
-      none-long-after-band (s .args .counts .now) (s .args .lengths .now) (s .args .marks .now) b (l .first) _ (l .from) _ size p (l .inv .4),
-      ap (λ (w : ℕ). fieldTooWide (s .args .state .now) (blocksAt (l .at + w) rest) (drop (l .first + c .before .before .before .band-blocks .result) (s .args .counts .now)) ls ms) (c .band-length .ensures) ∙ sym (band-wide-turn (s .args .counts .now) (s .args .lengths .now) (s .args .marks .now) b (l .first) _ (l .from) _ size p (s .args .state .now) (l .at) _ _ false (next-band (s .args .t2) (s .args .n) (l .i) (all-three s) (c .before .before .before .before .before .before .before .before .before .before .loop-test .taken)) (sym (c .before .before .before .before .if1 .left) ∙ c .before .before .before .before .before .band-too-wide .ensures ∙ on-rests (λ (x y z : List ℕ). fieldTooWide (s .args .state .now) (blocksFrom (l .at) b (blocksIn b) 0) x y z) (s .args .counts .now) (s .args .lengths .now) (s .args .marks .now) (l .first) (l .from))) ∙ l .inv .5,
+      none-long-after-band (s .args .counts .now) (s .args .lengths .now) (s .args .marks .now) b (l .first) _ (l .from) _ size p
+          (l .inv .4),
+      ap (λ (w : ℕ). fieldTooWide (s .args .state .now) (blocksAt (l .at + w) rest)
+          (drop (l .first + c .before .before .before .band-blocks .result) (s .args .counts .now)) ls ms) (c .band-length .ensures)
+          ∙ sym (band-wide-turn (s .args .counts .now) (s .args .lengths .now) (s .args .marks .now) b (l .first) _ (l .from) _ size p
+          (s .args .state .now) (l .at) _ _ false
+          (next-band (s .args .t2) (s .args .n) (l .i) (all-three s)
+          (c .before .before .before .before .before .before .before .before .before .before .loop-test .taken))
+          (sym (c .before .before .before .before .if1 .left) ∙ c .before .before .before .before .before .band-too-wide .ensures
+          ∙ on-rests (λ (x y z : List ℕ). fieldTooWide (s .args .state .now) (blocksFrom (l .at) b (blocksIn b) 0) x y z)
+          (s .args .counts .now) (s .args .lengths .now) (s .args .marks .now) (l .first) (l .from))) ∙ l .inv .5,
     )
 
 returns-2 : tie.Need-returns-2 Inv-loop μ-loop
 returns-2 c =
     let l = c .before .loop in
     let s = c .before .before .before .before .before .before in
-    let z = drop-of-length-le (take (s .args .n) (s .args .t2)) {i = l .i} (none-left (s .args .t2) (s .args .n) (l .i) (c .loop-test .left)) in
-    sym (no-band-left (s .args .state .now) (l .at) (drop (l .first) (s .args .counts .now)) (drop (l .from) (s .args .lengths .now)) (drop (l .from) (s .args .marks .now))) ∙ ap (λ (k : List Band). fieldTooWide (s .args .state .now) (blocksAt (l .at) k) (drop (l .first) (s .args .counts .now)) (drop (l .from) (s .args .lengths .now)) (drop (l .from) (s .args .marks .now))) (sym z) ∙ l .inv .5
+    let z = drop-of-length-le (take (s .args .n) (s .args .t2)) {i = l .i}
+    (none-left (s .args .t2) (s .args .n) (l .i) (c .loop-test .left)) in
+    sym (no-band-left (s .args .state .now) (l .at) (drop (l .first) (s .args .counts .now))
+    (drop (l .from) (s .args .lengths .now)) (drop (l .from) (s .args .marks .now)))
+    ∙ ap (λ (k : List Band). fieldTooWide (s .args .state .now) (blocksAt (l .at) k) (drop (l .first) (s .args .counts .now))
+    (drop (l .from) (s .args .lengths .now)) (drop (l .from) (s .args .marks .now))) (sym z) ∙ l .inv .5
 
 pub field-too-wide-spec : {M : Type 1} → statement M
 field-too-wide-spec =

@@ -13,7 +13,8 @@ use Rattle.t2_widths.proofs.segment_too_long.Statement.{statement}
 use Rattle.t2_widths.proofs.segment_too_long.Tie as tie
 
 abbrev Inv-loop : tie.InvT-loop
-Inv-loop counts lengths marks from₀ i₀ from i = (i ≤ length counts) × (from + sum (drop i counts) ≡ sum counts) × (segmentTooLong (drop i counts) (drop from lengths) (drop from marks) ≡ segmentTooLong counts lengths marks)
+Inv-loop counts lengths marks from₀ i₀ from i = (i ≤ length counts) × (from + sum (drop i counts) ≡ sum counts)
+    × (segmentTooLong (drop i counts) (drop from lengths) (drop from marks) ≡ segmentTooLong counts lengths marks)
 
 abbrev μ-loop : tie.MeasureT-loop
 μ-loop counts lengths marks from₀ i₀ from i = length counts - i
@@ -85,13 +86,16 @@ any-segment-too-long-requires c κs =
     let s = c .before .before .before .before .before .before .before .before in
     let l = c .before .before .before .before .loop in
     let k = sum-turn (s .args .counts .now) (l .i) (omega arith) in
-    part-lists (s .args .lengths .now) (s .args .marks .now) (l .from) (l .from + getD (s .args .counts .now) (l .i) 0) _ refl (omega (arith, k, l .inv .1, s .pre .0)) (s .pre .1) (omega (arith, c .before .before .shared-slice-known4 .given (l .i)))
+    part-lists (s .args .lengths .now) (s .args .marks .now) (l .from) (l .from + getD (s .args .counts .now) (l .i) 0) _ refl
+    (omega (arith, k, l .inv .1, s .pre .0)) (s .pre .1) (omega (arith, c .before .before .shared-slice-known4 .given (l .i)))
 
 returns : tie.Need-returns Inv-loop μ-loop
 returns c =
     let s = c .before .before .before .before .before .before .before .before .before .before in
     let l = c .before .before .before .before .before .before .loop in
-    sym (long-turn (s .args .counts .now) (s .args .lengths .now) (s .args .marks .now) (l .i) (l .from) (l .from + getD (s .args .counts .now) (l .i) 0) true (omega arith) refl (sym (c .if1 .taken) ∙ c .before .any-segment-too-long .ensures)) ∙ l .inv .2
+    sym (long-turn (s .args .counts .now) (s .args .lengths .now) (s .args .marks .now) (l .i) (l .from)
+    (l .from + getD (s .args .counts .now) (l .i) 0) true (omega arith) refl
+    (sym (c .if1 .taken) ∙ c .before .any-segment-too-long .ensures)) ∙ l .inv .2
 
 loop-again : tie.Need-loop-again Inv-loop μ-loop
 loop-again c =
@@ -100,7 +104,9 @@ loop-again c =
     let k = sum-turn (s .args .counts .now) (l .i) (omega arith) in (
       omega arith,
       omega (arith, k, l .inv .1),
-      sym (long-turn (s .args .counts .now) (s .args .lengths .now) (s .args .marks .now) (l .i) (l .from) (l .from + getD (s .args .counts .now) (l .i) 0) false (omega arith) refl (sym (c .if1 .left) ∙ c .before .any-segment-too-long .ensures)) ∙ l .inv .2,
+      sym (long-turn (s .args .counts .now) (s .args .lengths .now) (s .args .marks .now) (l .i) (l .from)
+          (l .from + getD (s .args .counts .now) (l .i) 0) false (omega arith) refl
+          (sym (c .if1 .left) ∙ c .before .any-segment-too-long .ensures)) ∙ l .inv .2,
     )
 
 returns-2 : tie.Need-returns-2 Inv-loop μ-loop

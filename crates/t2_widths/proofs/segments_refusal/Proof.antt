@@ -11,12 +11,14 @@ use Rattle.t2_widths.proofs.segments_refusal.Tie as tie
 returns : tie.Need-returns
 returns c =
     let s = c .before .before .before .before .before .before in
-    few-not-refused (s .args .state .now) (take (s .args .n) (s .args .bands)) (s .args .counts .now) (s .args .lengths .now) (s .args .marks .now) (sym (c .before .surely-narrow .ensures) ∙ c .if1 .taken) (s .pre .6)
+    few-not-refused (s .args .state .now) (take (s .args .n) (s .args .bands)) (s .args .counts .now) (s .args .lengths .now)
+    (s .args .marks .now) (sym (c .before .surely-narrow .ensures) ∙ c .if1 .taken) (s .pre .6)
 
 returns-2 : tie.Need-returns-2
 returns-2 c =
     let s = c .before .before .before .before .before .before .before .before in
-    refusal-parts (s .args .state .now) (blocks (take (s .args .n) (s .args .bands))) (s .args .counts .now) (s .args .lengths .now) (s .args .marks .now) true _ (sym (c .if2 .taken) ∙ c .before .segment-too-long .ensures) refl
+    refusal-parts (s .args .state .now) (blocks (take (s .args .n) (s .args .bands))) (s .args .counts .now) (s .args .lengths .now)
+    (s .args .marks .now) true _ (sym (c .if2 .taken) ∙ c .before .segment-too-long .ensures) refl
 
 field-too-wide-requires : tie.Need-field-too-wide-requires
 field-too-wide-requires c κs =
@@ -26,12 +28,16 @@ field-too-wide-requires c κs =
 returns-3 : tie.Need-returns-3
 returns-3 c =
     let s = c .before .before .before .before .before .before .before .before .before .before in
-    refusal-parts (s .args .state .now) (blocks (take (s .args .n) (s .args .bands))) (s .args .counts .now) (s .args .lengths .now) (s .args .marks .now) false true (sym (c .before .before .if2 .left) ∙ c .before .before .before .segment-too-long .ensures) (sym (c .if3 .taken) ∙ c .before .field-too-wide .ensures)
+    refusal-parts (s .args .state .now) (blocks (take (s .args .n) (s .args .bands))) (s .args .counts .now) (s .args .lengths .now)
+    (s .args .marks .now) false true (sym (c .before .before .if2 .left) ∙ c .before .before .before .segment-too-long .ensures)
+    (sym (c .if3 .taken) ∙ c .before .field-too-wide .ensures)
 
 returns-4 : tie.Need-returns-4
 returns-4 c =
     let s = c .before .before .before .before .before .before .before .before .before .before in
-    refusal-parts (s .args .state .now) (blocks (take (s .args .n) (s .args .bands))) (s .args .counts .now) (s .args .lengths .now) (s .args .marks .now) false false (sym (c .before .before .if2 .left) ∙ c .before .before .before .segment-too-long .ensures) (sym (c .if3 .left) ∙ c .before .field-too-wide .ensures)
+    refusal-parts (s .args .state .now) (blocks (take (s .args .n) (s .args .bands))) (s .args .counts .now) (s .args .lengths .now)
+    (s .args .marks .now) false false (sym (c .before .before .if2 .left) ∙ c .before .before .before .segment-too-long .ensures)
+    (sym (c .if3 .left) ∙ c .before .field-too-wide .ensures)
 
 pub segments-refusal-spec : {M : Type 1} → statement M
 segments-refusal-spec =

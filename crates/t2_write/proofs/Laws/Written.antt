@@ -34,11 +34,13 @@ measure-not-11 ws scratch p =
     (either (λ (k : ℕ). k ≢ 11) (wrongLists p (length (blocks (bands ws)))) 3 _ (omega arith)
     (either (λ (k : ℕ). k ≢ 11) (any (λ c. ltb 164 c) (p .counts)) 7 _ (omega arith)
     (either (λ (k : ℕ). k ≢ 11) (segmentTooLong (p .counts) (p .lengths) (p .marks)) 8 _ (omega arith)
-    (either (λ (k : ℕ). k ≢ 11) (fieldTooWide ws (blocks (bands ws)) (p .counts) (p .lengths) (p .marks)) 9 0 (omega arith) (omega arith))))))
+    (either (λ (k : ℕ). k ≢ 11) (fieldTooWide ws (blocks (bands ws)) (p .counts) (p .lengths) (p .marks)) 9 0 (omega arith)
+    (omega arith))))))
 
 module _ (ws scratch : List ℕ) (p : Contribution) (body : List ℕ) (m : Markers) (number : ℕ) (output : List ℕ) where
   abbrev answered : ℕ → ℕ → List ℕ → List ℕ → List ℕ → WriteResult
-  answered why bytes state scratch output = record { answer = record { refusal = why; bytes = bytes }; state = state; scratch = scratch; output = output }
+  answered why bytes state scratch output =
+      record { answer = record { refusal = why; bytes = bytes }; state = state; scratch = scratch; output = output }
 
   abbrev made : List ℕ
   made = packet ws p body m number
@@ -51,7 +53,8 @@ module _ (ws scratch : List ℕ) (p : Contribution) (body : List ℕ) (m : Marke
   unfolding write
   write-by why e = ap chosen e
 
-  unchanged : (why : ℕ) → why ≢ 0 → why ≢ 11 → why ≡ writeRefusal ws scratch p body m number output → answered why 0 ws scratch output ≡ write ws scratch p body m number output
+  unchanged : (why : ℕ) → why ≢ 0 → why ≢ 11 → why ≡ writeRefusal ws scratch p body m number output
+      → answered why 0 ws scratch output ≡ write ws scratch p body m number output
   unchanged why h k e = sym (if-ne why 0 _ _ h ∙ if-ne why 11 _ _ k) ∙ write-by why e
 
   module _ (why : ℕ) (is : why ≡ measureRefusalFor ws (length scratch) p) where
@@ -62,7 +65,8 @@ module _ (ws scratch : List ℕ) (p : Contribution) (body : List ℕ) (m : Marke
     unfolding writeRefusal
     write-refused h =
         unchanged why h (λ e. measure-not-11 ws scratch p (sym why-is ∙ e))
-        (why-is ∙ sym (if-true (not (eqb (measureRefusal ws scratch p) 0)) _ _ (ap not (ne-eqb (measureRefusal ws scratch p) 0 (λ e. h (why-is ∙ e))))))
+        (why-is ∙ sym (if-true (not (eqb (measureRefusal ws scratch p) 0)) _ _
+        (ap not (ne-eqb (measureRefusal ws scratch p) 0 (λ e. h (why-is ∙ e))))))
 
     module _ (z : why ≡ 0) where
       abbrev space : ℕ
@@ -71,15 +75,21 @@ module _ (ws scratch : List ℕ) (p : Contribution) (body : List ℕ) (m : Marke
       -- none of measuring's
       then-body : writeRefusal ws scratch p body m number output ≡ cond (not (eqb (length body) (sum (p .lengths)))) 10 space
       unfolding writeRefusal
-      then-body = if-false (not (eqb (measureRefusal ws scratch p) 0)) _ _ (ap not (eq-eqb (measureRefusal ws scratch p) 0 (sym why-is ∙ z)))
+      then-body = if-false (not (eqb (measureRefusal ws scratch p) 0)) _ _
+          (ap not (eq-eqb (measureRefusal ws scratch p) 0 (sym why-is ∙ z)))
 
-      pub write-body-refused : (n : ℕ) → n ≡ sum (p .lengths) → length body ≢ n → answered 10 0 ws scratch output ≡ write ws scratch p body m number output
+      pub write-body-refused : (n : ℕ) → n ≡ sum (p .lengths) → length body ≢ n → answered 10 0 ws scratch output
+          ≡ write ws scratch p body m number output
       write-body-refused n e h =
-          unchanged 10 (omega arith) (omega arith) (sym (then-body ∙ if-true (not (eqb (length body) (sum (p .lengths)))) 10 space (ap not (ne-eqb (length body) (sum (p .lengths)) (λ q. h (q ∙ sym e))))))
+          unchanged 10 (omega arith) (omega arith)
+          (sym (then-body ∙ if-true (not (eqb (length body) (sum (p .lengths)))) 10 space
+          (ap not (ne-eqb (length body) (sum (p .lengths)) (λ q. h (q ∙ sym e))))))
 
       module _ (n : ℕ) (sums : n ≡ sum (p .lengths)) (l : length body ≡ n) where
         then-space : writeRefusal ws scratch p body m number output ≡ space
-        then-space = then-body ∙ if-false (not (eqb (length body) (sum (p .lengths)))) 10 space (ap not (eq-eqb (length body) (sum (p .lengths)) (l ∙ sums)))
+        then-space = then-body
+            ∙ if-false (not (eqb (length body) (sum (p .lengths)))) 10 space
+            (ap not (eq-eqb (length body) (sum (p .lengths)) (l ∙ sums)))
 
         bytes-made : length made ≡ length (front ws p m number) + length body
         unfolding packet
@@ -90,24 +100,35 @@ module _ (ws scratch : List ℕ) (p : Contribution) (body : List ℕ) (m : Marke
           unfolding putFront
           end-is = ap (λ (k : HeaderCoded). k .end) f
 
-          pub write-no-space : (t : Bool) (vs os : List ℕ) → t ≡ leb (h .end + length body) (length (h .bytes)) → not t ≡ true → length (h .words) ≡ length scratch → length (h .bytes) ≡ length output
+          pub write-no-space : (t : Bool) (vs os : List ℕ) → t ≡ leb (h .end + length body) (length (h .bytes)) → not t ≡ true
+              → length (h .words) ≡ length scratch → length (h .bytes) ≡ length output
               → vs ≡ wiped (h .words) → os ≡ wiped (h .bytes) → answered 11 0 ws vs os ≡ write ws scratch p body m number output
           write-no-space t vs os r k a b v o =
-              let e : 11 ≡ writeRefusal ws scratch p body m number output = sym (then-space ∙ if-true (ltb (length output) (length made)) 11 0 (lt-ltb (length output) (length made) (omega (arith, end-is, bytes-made, leb-false (h .end + length body) (length (h .bytes)) (sym r ∙ not-true t k), b)))) in
+              let e : 11 ≡ writeRefusal ws scratch p body m number output =
+              sym (then-space ∙ if-true (ltb (length output) (length made)) 11 0
+              (lt-ltb (length output) (length made)
+              (omega (arith, end-is, bytes-made, leb-false (h .end + length body) (length (h .bytes)) (sym r ∙ not-true t k), b))))
+              in
               (λ i. answered 11 0 ws ((v ∙ ap (λ (x : ℕ). replicate x 0) a) i) ((o ∙ ap (λ (x : ℕ). replicate x 0) b) i)) ∙ write-by 11 e
 
-          pub write-done : (o : BytesPut) (vs us : List ℕ) → h .end + length body ≤ length output → o ≡ putBytes (bytesPut (h .bytes) (h .end)) body → vs ≡ h .words → us ≡ h .words
+          pub write-done : (o : BytesPut) (vs us : List ℕ) → h .end + length body ≤ length output → o
+              ≡ putBytes (bytesPut (h .bytes) (h .end)) body → vs ≡ h .words → us ≡ h .words
               → answered 0 (o .end) vs us (o .bytes) ≡ write ws scratch p body m number output
           unfolding putFront packet overwrite
           write-done o vs us k b v u =
               let head : List ℕ = front ws p m number in
               let n : length made ≡ length head + length body = bytes-made in
-              let e : 0 ≡ writeRefusal ws scratch p body m number output = sym (then-space ∙ if-false (ltb (length output) (length made)) 11 0 (le-ltb (length output) (length made) (omega (arith, end-is, n)))) in
+              let e : 0 ≡ writeRefusal ws scratch p body m number output =
+              sym (then-space ∙ if-false (ltb (length output) (length made)) 11 0
+              (le-ltb (length output) (length made) (omega (arith, end-is, n)))) in
               let from : length head ≡ 0 + length head = omega arith in
               let to : 0 + length made ≡ length made = omega arith in
               let q : o ≡ putBytes (bytesPut output 0) (head ++ body) =
-              b ∙ ap (λ (z : HeaderCoded). putBytes (bytesPut (z .bytes) (z .end)) body) f ∙ ap (λ (z : ℕ). putBytes (bytesPut (sets output 0 head) z) body) from ∙ put-append (bytesPut output 0) head body in
-              let r : sets output 0 made ≡ overwrite output made = sets-eq made output 0 (omega (arith, end-is, n)) ∙ ap (λ (z : ℕ). made ++ drop z output) to in
-              (λ i. answered 0 (q i .end) ((v ∙ ap (λ (z : HeaderCoded). z .words) f) i) ((u ∙ ap (λ (z : HeaderCoded). z .words) f) i) (q i .bytes))
+              b ∙ ap (λ (z : HeaderCoded). putBytes (bytesPut (z .bytes) (z .end)) body) f
+              ∙ ap (λ (z : ℕ). putBytes (bytesPut (sets output 0 head) z) body) from ∙ put-append (bytesPut output 0) head body in
+              let r : sets output 0 made ≡ overwrite output made = sets-eq made output 0 (omega (arith, end-is, n))
+              ∙ ap (λ (z : ℕ). made ++ drop z output) to in
+              (λ i. answered 0 (q i .end) ((v ∙ ap (λ (z : HeaderCoded). z .words) f) i)
+              ((u ∙ ap (λ (z : HeaderCoded). z .words) f) i) (q i .bytes))
               ∙ (λ i. answered 0 (to i) (codeHeader p ws .words) (codeHeader p ws .words) (r i))
               ∙ write-by 0 e

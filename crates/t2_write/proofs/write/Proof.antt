@@ -17,7 +17,8 @@ returns c =
     let a = c .before .before .before .before .before .before .before .before .before .before .args in
     let p = contribution (a .counts .now) (a .lengths .now) (a .marks .now) in
     let g = c .before .measure-refusal in
-    write-refused (a .state .now) (a .scratch .now) p (a .body .now) (a .markers) (a .number) (a .output .now) (g .result) (g .ensures) (c .if1 .taken)
+    write-refused (a .state .now) (a .scratch .now) p (a .body .now) (a .markers) (a .number) (a .output .now) (g .result)
+    (g .ensures) (c .if1 .taken)
 
 total-requires : tie.Need-total-requires
 total-requires c κs =
@@ -32,7 +33,8 @@ returns-2 c =
     let a = c .before .before .before .before .before .before .before .before .before .before .before .before .args in
     let p = contribution (a .counts .now) (a .lengths .now) (a .marks .now) in
     let g = c .before .before .before .measure-refusal in
-    write-body-refused (a .state .now) (a .scratch .now) p (a .body .now) (a .markers) (a .number) (a .output .now) (g .result) (g .ensures) (c .before .before .if1 .left) _ (c .before .total .ensures) (c .if2 .taken)
+    write-body-refused (a .state .now) (a .scratch .now) p (a .body .now) (a .markers) (a .number) (a .output .now) (g .result)
+    (g .ensures) (c .before .before .if1 .left) _ (c .before .total .ensures) (c .if2 .taken)
 
 copy-requires : tie.Need-copy-requires
 copy-requires c κs =
@@ -43,20 +45,38 @@ copy-requires c κs =
 
 put-front-requires : tie.Need-put-front-requires
 put-front-requires c κs =
-    let a = c .before .before .before .before .before .before .before .before .before .before .before .before .before .before .before .before .before .before .before .args in
+    let a = c .before .before .before .before .before .before .before .before .before .before .before .before .before .before
+    .before .before .before .before .before .args in
     let p = contribution (a .counts .now) (a .lengths .now) (a .marks .now) in
     let g = c .before .before .before .before .before .before .before .before .before .before .measure-refusal in
-    copy-accepted (a .state .now) (a .scratch .now) p (g .result) (g .ensures) (c .before .before .before .before .before .before .before .before .before .if1 .left) _ (c .before .before .before .before .copy .ensures)
+    copy-accepted (a .state .now) (a .scratch .now) p (g .result) (g .ensures)
+    (c .before .before .before .before .before .before .before .before .before .if1 .left) _
+    (c .before .before .before .before .copy .ensures)
 
 returns-3 : tie.Need-returns-3
 returns-3 c =
-    let a = c .before .before .before .before .before .before .before .before .before .before .before .before .before .before .before .before .before .before .before .before .before .before .before .before .before .before .before .before .before .before .before .before .before .before .args in
+    let a = c .before .before .before .before .before .before .before .before .before .before .before .before .before .before
+    .before .before .before .before .before .before .before .before .before .before .before .before .before .before .before .before
+    .before .before .before .before .args in
     let p = contribution (a .counts .now) (a .lengths .now) (a .marks .now) in
-    let g = c .before .before .before .before .before .before .before .before .before .before .before .before .before .before .before .before .before .before .before .before .before .before .before .before .before .measure-refusal in
+    let g = c .before .before .before .before .before .before .before .before .before .before .before .before .before .before
+    .before .before .before .before .before .before .before .before .before .before .before .measure-refusal in
     let k = c .before .before .before .before .before .before .before .before .before .before .before .before .before .before .put-front in
-    let f = k .ensures ∙ ap (λ (ws : List ℕ). putFront p ws (a .markers) (a .number) (a .output .now)) (c .before .before .before .before .before .before .before .before .before .before .before .before .before .before .before .before .before .before .before .copy .ensures) in
-    write-no-space (a .state .now) (a .scratch .now) p (a .body .now) (a .markers) (a .number) (a .output .now) (g .result) (g .ensures) (c .before .before .before .before .before .before .before .before .before .before .before .before .before .before .before .before .before .before .before .before .before .before .before .before .if1 .left) _ (c .before .before .before .before .before .before .before .before .before .before .before .before .before .before .before .before .before .before .before .before .before .before .before .total .ensures) (c .before .before .before .before .before .before .before .before .before .before .before .before .before .before .before .before .before .before .before .before .before .before .if2 .left) _ f _ _ _ (c .before .before .before .before .before .before .before .before .before .has-room .ensures) (c .before .before .before .before .before .before .before .before .if3 .taken)
-    (k .kept .0 ∙ c .before .before .before .before .before .before .before .before .before .before .before .before .before .before .before .before .before .before .before .copy .kept .1 .0) (k .kept .1 .0) (c .before .before .before .before .before .before .wipe .ensures) (c .before .before .wipe-bytes .ensures)
+    let f = k .ensures ∙ ap (λ (ws : List ℕ). putFront p ws (a .markers) (a .number) (a .output .now))
+    (c .before .before .before .before .before .before .before .before .before .before .before .before .before .before .before
+    .before .before .before .before .copy .ensures) in
+    write-no-space (a .state .now) (a .scratch .now) p (a .body .now) (a .markers) (a .number) (a .output .now) (g .result)
+    (g .ensures) (c .before .before .before .before .before .before .before .before .before .before .before .before .before .before
+    .before .before .before .before .before .before .before .before .before .before .if1 .left) _
+    (c .before .before .before .before .before .before .before .before .before .before .before .before .before .before .before
+    .before .before .before .before .before .before .before .before .total .ensures)
+    (c .before .before .before .before .before .before .before .before .before .before .before .before .before .before .before
+    .before .before .before .before .before .before .before .if2 .left) _ f _ _ _
+    (c .before .before .before .before .before .before .before .before .before .has-room .ensures)
+    (c .before .before .before .before .before .before .before .before .if3 .taken)
+    (k .kept .0 ∙ c .before .before .before .before .before .before .before .before .before .before .before .before .before .before
+    .before .before .before .before .before .copy .kept .1 .0) (k .kept .1 .0)
+    (c .before .before .before .before .before .before .wipe .ensures) (c .before .before .wipe-bytes .ensures)
 
 put-body-requires : tie.Need-put-body-requires
 put-body-requires c κs =
@@ -64,20 +84,43 @@ put-body-requires c κs =
 
 copy-requires-2 : tie.Need-copy-requires-2
 copy-requires-2 c κs =
-    let a = c .before .before .before .before .before .before .before .before .before .before .before .before .before .before .before .before .before .before .before .before .before .before .before .before .before .before .before .before .before .before .before .before .args in
+    let a = c .before .before .before .before .before .before .before .before .before .before .before .before .before .before
+    .before .before .before .before .before .before .before .before .before .before .before .before .before .before .before .before
+    .before .before .args in
     let p = contribution (a .counts .now) (a .lengths .now) (a .marks .now) in
-    let g = c .before .before .before .before .before .before .before .before .before .before .before .before .before .before .before .before .before .before .before .before .before .before .before .measure-refusal in
-    c .before .before .before .before .before .before .before .before .before .before .before .before .put-front .kept .0 ∙ c .before .before .before .before .before .before .before .before .before .before .before .before .before .before .before .before .before .copy .kept .1 .0 ∙ sym (as-long (a .state .now) (a .scratch .now) p (g .result) (g .ensures) (c .before .before .before .before .before .before .before .before .before .before .before .before .before .before .before .before .before .before .before .before .before .before .if1 .left))
+    let g = c .before .before .before .before .before .before .before .before .before .before .before .before .before .before
+    .before .before .before .before .before .before .before .before .before .measure-refusal in
+    c .before .before .before .before .before .before .before .before .before .before .before .before .put-front .kept .0
+    ∙ c .before .before .before .before .before .before .before .before .before .before .before .before .before .before .before
+    .before .before .copy .kept .1 .0
+    ∙ sym (as-long (a .state .now) (a .scratch .now) p (g .result) (g .ensures)
+    (c .before .before .before .before .before .before .before .before .before .before .before .before .before .before .before
+    .before .before .before .before .before .before .before .if1 .left))
 
 returns-4 : tie.Need-returns-4
 returns-4 c =
-    let a = c .before .before .before .before .before .before .before .before .before .before .before .before .before .before .before .before .before .before .before .before .before .before .before .before .before .before .before .before .before .before .before .before .before .before .before .args in
+    let a = c .before .before .before .before .before .before .before .before .before .before .before .before .before .before
+    .before .before .before .before .before .before .before .before .before .before .before .before .before .before .before .before
+    .before .before .before .before .before .args in
     let p = contribution (a .counts .now) (a .lengths .now) (a .marks .now) in
-    let g = c .before .before .before .before .before .before .before .before .before .before .before .before .before .before .before .before .before .before .before .before .before .before .before .before .before .before .measure-refusal in
-    let k = c .before .before .before .before .before .before .before .before .before .before .before .before .before .before .before .put-front in
-    let f = k .ensures ∙ ap (λ (ws : List ℕ). putFront p ws (a .markers) (a .number) (a .output .now)) (c .before .before .before .before .before .before .before .before .before .before .before .before .before .before .before .before .before .before .before .before .copy .ensures) in
-    let room : k .result + length (a .body .now) ≤ length (k .last .1 .0) = room-left _ _ _ (c .before .before .before .before .before .before .before .before .before .before .has-room .ensures) (c .before .before .before .before .before .before .before .before .before .if3 .left) in
-    write-done (a .state .now) (a .scratch .now) p (a .body .now) (a .markers) (a .number) (a .output .now) (g .result) (g .ensures) (c .before .before .before .before .before .before .before .before .before .before .before .before .before .before .before .before .before .before .before .before .before .before .before .before .before .if1 .left) _ (c .before .before .before .before .before .before .before .before .before .before .before .before .before .before .before .before .before .before .before .before .before .before .before .before .total .ensures) (c .before .before .before .before .before .before .before .before .before .before .before .before .before .before .before .before .before .before .before .before .before .before .before .if2 .left) _ f _ _ _ (omega (arith, room, k .kept .1 .0)) (c .before .before .before .before .before .before .before .put-body .ensures) (c .before .before .copy2 .ensures) refl
+    let g = c .before .before .before .before .before .before .before .before .before .before .before .before .before .before
+    .before .before .before .before .before .before .before .before .before .before .before .before .measure-refusal in
+    let k = c .before .before .before .before .before .before .before .before .before .before .before .before .before .before
+    .before .put-front in
+    let f = k .ensures ∙ ap (λ (ws : List ℕ). putFront p ws (a .markers) (a .number) (a .output .now))
+    (c .before .before .before .before .before .before .before .before .before .before .before .before .before .before .before
+    .before .before .before .before .before .copy .ensures) in
+    let room : k .result + length (a .body .now) ≤ length (k .last .1 .0) =
+    room-left _ _ _ (c .before .before .before .before .before .before .before .before .before .before .has-room .ensures)
+    (c .before .before .before .before .before .before .before .before .before .if3 .left) in
+    write-done (a .state .now) (a .scratch .now) p (a .body .now) (a .markers) (a .number) (a .output .now) (g .result) (g .ensures)
+    (c .before .before .before .before .before .before .before .before .before .before .before .before .before .before .before
+    .before .before .before .before .before .before .before .before .before .before .if1 .left) _
+    (c .before .before .before .before .before .before .before .before .before .before .before .before .before .before .before
+    .before .before .before .before .before .before .before .before .before .total .ensures)
+    (c .before .before .before .before .before .before .before .before .before .before .before .before .before .before .before
+    .before .before .before .before .before .before .before .before .if2 .left) _ f _ _ _ (omega (arith, room, k .kept .1 .0))
+    (c .before .before .before .before .before .before .before .put-body .ensures) (c .before .before .copy2 .ensures) refl
 
 pub write-spec : {M : Type 1} → statement M
 write-spec =

@@ -15,23 +15,27 @@ code-blocks-requires c κs =
     let s = c .before .before .before .before .before .before .before .before .before .before .before in
     let a = s .args in
     let g = c .before .before .before .before .set-new-blocks in
-    let f = band-fits (a .g .start) (a .band) (a .layer) (a .counts .now) (a .lengths .now) (a .marks .now) (a .words .now) (a .r .block) (a .r .block) (a .r .pass) (s .pre .7) in (
+    let f = band-fits (a .g .start) (a .band) (a .layer) (a .counts .now) (a .lengths .now) (a .marks .now) (a .words .now)
+    (a .r .block) (a .r .block) (a .r .pass) (s .pre .7) in (
       s .pre .0,
       s .pre .1,
       subst (λ (k : ℕ). BandIn k (a .g .start) (a .band)) (sym (g .kept .0)) (s .pre .2),
       s .pre .3,
       s .pre .4,
       s .pre .5,
-      subst (λ (ws : List ℕ). AllFit (a .counts .now) (a .lengths .now) (a .marks .now) ws (bandBlocks (a .g .start) (a .band)) (a .r .block) (a .r .pass)) (sym (g .ensures)) f,
+      subst (λ (ws : List ℕ). AllFit (a .counts .now) (a .lengths .now) (a .marks .now) ws (bandBlocks (a .g .start) (a .band))
+          (a .r .block) (a .r .pass)) (sym (g .ensures)) f,
     )
 
 returns : tie.Need-returns
 unfolding codeBand
 returns c =
-    let a = c .before .before .before .before .before .before .before .before .before .before .before .before .before .before .before .before .args in
+    let a = c .before .before .before .before .before .before .before .before .before .before .before .before .before .before
+    .before .before .args in
     let g = c .before .before .before .before .before .before .before .before .before .set-new-blocks in
     c .before .before .before .before .code-blocks .ensures
-    ∙ ap (λ (ws : List ℕ). codeAll (a .layer) (a .counts .now) (a .lengths .now) (a .marks .now) (bandBlocks (a .g .start) (a .band)) (running ws (a .out .now) (a .r))) (g .ensures)
+    ∙ ap (λ (ws : List ℕ). codeAll (a .layer) (a .counts .now) (a .lengths .now) (a .marks .now)
+    (bandBlocks (a .g .start) (a .band)) (running ws (a .out .now) (a .r))) (g .ensures)
 
 pub code-band-spec : {M : Type 1} → statement M
 code-band-spec =

@@ -30,15 +30,27 @@ part-code-block-end : tie.Need-part-code-block-end
 part-code-block-end c = omega (arith, c .before .before .before .before .before .before .before .before .pre .4 .many)
 
 part-code-block-end-2 : tie.Need-part-code-block-end-2
-part-code-block-end-2 c = omega (arith, c .before .before .before .before .before .before .before .before .before .pre .4 .many, c .before .before .before .before .before .before .before .before .before .pre .4 .marked)
+part-code-block-end-2 c =
+    omega (
+      arith,
+      c .before .before .before .before .before .before .before .before .before .pre .4 .many,
+      c .before .before .before .before .before .before .before .before .before .pre .4 .marked,
+    )
 
 code-block-requires : tie.Need-code-block-requires
 code-block-requires c κs =
     let s = c .before .before .before .before .before .before .before .before .before .before in
     let p = s .pre in
     let n = getD (s .args .counts .now) (s .args .r .block) 0 in
-    let e : s .args .r .pass + n - s .args .r .pass ≡ n = omega arith in
-    (p .0, p .1, p .2, p .3, subst (λ (d : ℕ). PassesFit (getD (s .args .words .now) (s .args .p .at) 0) (getD (s .args .words .now) (s .args .p .at + 1) 0) n (take d (drop (s .args .r .pass) (s .args .lengths .now))) (take d (drop (s .args .r .pass) (s .args .marks .now)))) (sym e) (p .4 .passes))
+    let e : s .args .r .pass + n - s .args .r .pass ≡ n = omega arith in (
+      p .0,
+      p .1,
+      p .2,
+      p .3,
+      subst (λ (d : ℕ). PassesFit (getD (s .args .words .now) (s .args .p .at) 0) (getD (s .args .words .now) (s .args .p .at + 1) 0)
+          n (take d (drop (s .args .r .pass) (s .args .lengths .now))) (take d (drop (s .args .r .pass) (s .args .marks .now)))) (sym e)
+          (p .4 .passes),
+    )
 
 same-length : tie.Need-same-length
 same-length c = c .before .before .before .before .code-block .kept .1 .0
@@ -51,7 +63,9 @@ returns c =
     let s = c .before .before .before .before .before .before .before .before .before .before .before .before .before .before .before in
     let n = getD (s .args .counts .now) (s .args .r .block) 0 in
     let e : s .args .r .pass + n - s .args .r .pass ≡ n = omega arith in
-    next-is (s .args .layer) _ (s .args .counts .now) (s .args .lengths .now) (s .args .marks .now) (blockIn (s .args .p) (s .args .row .now) 0) (running (s .args .words .now) (s .args .out .now) (s .args .r)) _ e (c .before .before .before .before .code-block .ensures)
+    next-is (s .args .layer) _ (s .args .counts .now) (s .args .lengths .now) (s .args .marks .now)
+    (blockIn (s .args .p) (s .args .row .now) 0) (running (s .args .words .now) (s .args .out .now) (s .args .r)) _ e
+    (c .before .before .before .before .code-block .ensures)
 
 pub code-next-spec : {M : Type 1} → statement M
 code-next-spec =

@@ -19,20 +19,31 @@ put-lengths-requires c κs =
     let p = s .pre in
     let b = sym (c .before .length-bits-before .ensures) in
     let f = p .4 in
-    let ss = segmentsOf (s .args .lengths .now) (s .args .marks .now) in
-    (p .0, p .1, p .3, f .many, f .block, subst (λ (k : ℕ). k ≤ 32) b (f .before), subst (λ (k : ℕ). blockTooWide k ss ≡ false) b (f .narrow))
+    let ss = segmentsOf (s .args .lengths .now) (s .args .marks .now) in (
+      p .0,
+      p .1,
+      p .3,
+      f .many,
+      f .block,
+      subst (λ (k : ℕ). k ≤ 32) b (f .before),
+      subst (λ (k : ℕ). blockTooWide k ss ≡ false) b (f .narrow),
+    )
 
 slice-read-passes : tie.Need-slice-read-passes
-slice-read-passes c = omega (arith, c .before .before .before .before .before .before .before .before .before .before .before .before .pre .2)
+slice-read-passes c =
+    omega (arith, c .before .before .before .before .before .before .before .before .before .before .before .before .pre .2)
 
 add-passes : tie.Need-add-passes
 add-passes c = omega (arith, c .before .before .before .before .before .before .before .before .before .before .before .before .pre .4 .sum)
 
 slice-write-words : tie.Need-slice-write-words
-slice-write-words c = omega (arith, c .before .before .before .before .before .before .before .before .before .before .before .before .pre .2)
+slice-write-words c =
+    omega (arith, c .before .before .before .before .before .before .before .before .before .before .before .before .pre .2)
 
 slice-write-words-2 : tie.Need-slice-write-words-2
-slice-write-words-2 c = simp length-set (omega (arith, c .before .before .before .before .before .before .before .before .before .before .before .before .pre .2))
+slice-write-words-2 c =
+    simp length-set (omega
+    (arith, c .before .before .before .before .before .before .before .before .before .before .before .before .pre .2))
 
 same-length : tie.Need-same-length
 same-length c = simp length-set
@@ -44,7 +55,10 @@ returns : tie.Need-returns
 unfolding lengthBitsBefore isNew
 returns c =
     let s = c .before .before .before .before .before .before .before .before .before .before .before .before .before in
-    passes-are (output (s .args .out .now) (s .args .b)) (s .args .at) _ (s .args .count) (segmentsOf (s .args .lengths .now) (s .args .marks .now)) (s .args .words .now) _ (c .before .before .before .before .put-lengths .ensures) (c .before .before .before .before .before .before .length-bits-before .ensures)
+    passes-are (output (s .args .out .now) (s .args .b)) (s .args .at) _ (s .args .count)
+    (segmentsOf (s .args .lengths .now) (s .args .marks .now)) (s .args .words .now) _
+    (c .before .before .before .before .put-lengths .ensures)
+    (c .before .before .before .before .before .before .length-bits-before .ensures)
 
 pub code-passes-spec : {M : Type 1} → statement M
 code-passes-spec =

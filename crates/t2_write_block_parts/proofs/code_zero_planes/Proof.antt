@@ -15,7 +15,11 @@ slice-read-if1 : tie.Need-slice-read-if1
 slice-read-if1 c = omega (arith, c .before .before .before .pre .1 .inside)
 
 opj-tgt-encode-requires : tie.Need-opj-tgt-encode-requires
-opj-tgt-encode-requires c κs = let s = c .before .before .before .before .before .before in (s .pre .0, path-wider (s .args .p .at) (length (s .args .words .now)) _ _ _ _ (omega (arith, s .pre .1 .inside)) (s .pre .1 .zero))
+opj-tgt-encode-requires c κs = let s = c .before .before .before .before .before .before in (
+  s .pre .0,
+  path-wider (s .args .p .at) (length (s .args .words .now)) _ _ _ _ (omega (arith, s .pre .1 .inside))
+      (s .pre .1 .zero),
+)
 
 same-length : tie.Need-same-length
 same-length c = c .before .before .before .before .opj-tgt-encode .kept .0
@@ -26,11 +30,16 @@ same-length-2 c = c .before .before .before .before .opj-tgt-encode .kept .1 .0
 returns : tie.Need-returns
 returns c =
     let s = c .before .before .before .before .before .before .before .before .before .before .before in
-    c .before .before .before .before .opj-tgt-encode .ensures ∙ ap (putCoded (output (s .args .out .now) (s .args .b))) (planes-new (s .args .words .now) (blockIn (s .args .p) (s .args .row .now) 0) (c .before .before .before .before .before .before .before .if1 .taken))
+    c .before .before .before .before .opj-tgt-encode .ensures
+    ∙ ap (putCoded (output (s .args .out .now) (s .args .b)))
+    (planes-new (s .args .words .now) (blockIn (s .args .p) (s .args .row .now) 0)
+    (c .before .before .before .before .before .before .before .if1 .taken))
 
 returns-2 : tie.Need-returns-2
 unfolding putBits
-returns-2 c = let s = c .before .before .before .before in ap (putCoded (output (s .args .out .now) (s .args .b))) (planes-old (s .args .words .now) (blockIn (s .args .p) (s .args .row .now) 0) (c .if1 .left))
+returns-2 c = let s = c .before .before .before .before in
+    ap (putCoded (output (s .args .out .now) (s .args .b)))
+    (planes-old (s .args .words .now) (blockIn (s .args .p) (s .args .row .now) 0) (c .if1 .left))
 
 pub code-zero-planes-spec : {M : Type 1} → statement M
 code-zero-planes-spec =

@@ -28,7 +28,8 @@ use Rattle.tcd_places.proofs.Laws.Before.{AllBlocks}
 abbrev Bounded : List ℕ → Block → Type 0
 Bounded ws k = (getD ws (k .at) 0 ≤ 164 * notYetIncluded) × (getD ws (k .at + 1) 0 ≤ 32)
 
-placed-bounded : (L : Layout) (ws : List ℕ) (ks : List Block) → AllPlaced L ks → ((p : ℕ) → L .BlockAt p → (getD ws p 0 ≤ 164 * notYetIncluded) × (getD ws (p + 1) 0 ≤ 32)) → AllBlocks (Bounded ws) ks
+placed-bounded : (L : Layout) (ws : List ℕ) (ks : List Block) → AllPlaced L ks
+    → ((p : ℕ) → L .BlockAt p → (getD ws p 0 ≤ 164 * notYetIncluded) × (getD ws (p + 1) 0 ≤ 32)) → AllBlocks (Bounded ws) ks
 placed-bounded L ws [] f h = tt
 placed-bounded L ws (k ∷ ks) f h = (h (k .at) (f .0 .0 .block), placed-bounded L ws ks (f .1) h)
 
@@ -40,7 +41,8 @@ valid-bounded ws n v =
 
 -- ---- one block
 
-module _ (ws cs ls ms : List ℕ) (k : Block) (block pass : ℕ) (here : block < length cs) (passes : pass + sum (drop block cs) ≡ length ls) (marked : length ms ≡ length ls)
+module _ (ws cs ls ms : List ℕ) (k : Block) (block pass : ℕ) (here : block < length cs)
+    (passes : pass + sum (drop block cs) ≡ length ls) (marked : length ms ≡ length ls)
     (few : any (λ (c : ℕ). ltb 164 c) cs ≡ false) where
   abbrev c : ℕ
   c = getD cs block 0
@@ -68,8 +70,10 @@ module _ (ws cs ls ms : List ℕ) (k : Block) (block pass : ℕ) (here : block <
 -- ---- all
 
 module _ (ws cs ls ms : List ℕ) (marked : length ms ≡ length ls) (few : any (λ (c : ℕ). ltb 164 c) cs ≡ false) where
-  fit-from : (ks : List Block) (block pass : ℕ) → AllBlocks (Bounded ws) ks → block + length ks ≡ length cs → pass + sum (drop block cs) ≡ length ls
-      → segmentTooLong (drop block cs) (drop pass ls) (drop pass ms) ≡ false → fieldTooWide ws ks (drop block cs) (drop pass ls) (drop pass ms) ≡ false → AllFit cs ls ms ws ks block pass
+  fit-from : (ks : List Block) (block pass : ℕ) → AllBlocks (Bounded ws) ks → block + length ks ≡ length cs
+      → pass + sum (drop block cs) ≡ length ls
+      → segmentTooLong (drop block cs) (drop pass ls) (drop pass ms) ≡ false
+      → fieldTooWide ws ks (drop block cs) (drop pass ls) (drop pass ms) ≡ false → AllFit cs ls ms ws ks block pass
   fit-from [] block pass b n p long wide = tt
   fit-from (k ∷ ks) block pass b n p long wide =
       let c : ℕ = getD cs block 0 in
@@ -77,7 +81,8 @@ module _ (ws cs ls ms : List ℕ) (marked : length ms ≡ length ls) (few : any 
       let e = next-entry cs block here in
       let s = sum-turn cs block here in
       let long′ = subst (λ (z : List ℕ). segmentTooLong z (drop pass ls) (drop pass ms) ≡ false) e long in
-      let wide′ = none-wide-first ws k ks c (drop (block + 1) cs) (drop pass ls) (drop pass ms) (subst (λ (z : List ℕ). fieldTooWide ws (k ∷ ks) z (drop pass ls) (drop pass ms) ≡ false) e wide) in
+      let wide′ = none-wide-first ws k ks c (drop (block + 1) cs) (drop pass ls) (drop pass ms)
+      (subst (λ (z : List ℕ). fieldTooWide ws (k ∷ ks) z (drop pass ls) (drop pass ms) ≡ false) e wide) in
       let l = drop-drop c pass ls in
       let m = drop-drop c pass ms in (
         record {
@@ -87,11 +92,14 @@ module _ (ws cs ls ms : List ℕ) (marked : length ms ≡ length ls) (few : any 
           passes = passes-fit ws cs ls ms k block pass here p marked few (b .0) long′ (wide′ .0);
         },
         fit-from ks (block + 1) (pass + c) (b .1) (omega arith) (omega arith)
-            (sym (λ i. segmentTooLong (drop (block + 1) cs) (l i) (m i)) ∙ none-long-first c (drop (block + 1) cs) (drop pass ls) (drop pass ms) long′ .1)
+            (sym (λ i. segmentTooLong (drop (block + 1) cs) (l i) (m i))
+            ∙ none-long-first c (drop (block + 1) cs) (drop pass ls) (drop pass ms) long′ .1)
             (sym (λ i. fieldTooWide ws ks (drop (block + 1) cs) (l i) (m i)) ∙ wide′ .1),
       )
 
-pub all-fit : (ws : List ℕ) (n : ℕ) (p : Contribution) → NotRefused ws n p → AllFit (p .counts) (p .lengths) (p .marks) ws (blocks (bands ws)) 0 0
+pub all-fit : (ws : List ℕ) (n : ℕ) (p : Contribution) → NotRefused ws n p
+    → AllFit (p .counts) (p .lengths) (p .marks) ws (blocks (bands ws)) 0 0
 all-fit ws n p r =
-    fit-from ws (p .counts) (p .lengths) (p .marks) (r .marks-are ∙ sym (r .lengths-are)) (r .few) (blocks (bands ws)) 0 0 (valid-bounded ws n (r .valid))
+    fit-from ws (p .counts) (p .lengths) (p .marks) (r .marks-are ∙ sym (r .lengths-are)) (r .few) (blocks (bands ws)) 0 0
+    (valid-bounded ws n (r .valid))
     (omega (arith, r .counts-are)) (omega (arith, r .lengths-are)) (r .none-long) (r .none-wide)

@@ -43,11 +43,17 @@ module _ (ws : List ℕ) (n : ℕ) (p : Contribution) (r : NotRefused ws n p) wh
   header-small = omega (arith, packed-up-to (1 ∷ all .bits), bits-up-to)
 
   are-bits : AreBits (1 ∷ all .bits)
-  are-bits = (omega arith, bits-blocks (layer ws) (blocks (bands ws)) (p .counts) (p .lengths) (p .marks) (setNewBlocks (layer ws) (blocks (bands ws)) (p .counts) ws))
+  are-bits = (
+    omega arith,
+    bits-blocks (layer ws) (blocks (bands ws)) (p .counts) (p .lengths) (p .marks)
+        (setNewBlocks (layer ws) (blocks (bands ws)) (p .counts) ws),
+  )
 
   -- the first bit, the blocks, the last byte, and the next layer
-  pub header-is : (start : ℕ) (bytes : List ℕ) (bs : List Band) (o e : Output) (x : LeafCoded) (vs : List ℕ) → start ≤ 6 → length bytes ≤ lastPlace → bs ≡ bands ws
-      → o ≡ putBit (output bytes (emptyAt start)) 1 → x ≡ putCoded o (headerBlocks (layer ws) (blocks bs) p ws) → e ≡ flush (x .output) → vs ≡ set (x .words) 3 (layer ws + 1)
+  pub header-is : (start : ℕ) (bytes : List ℕ) (bs : List Band) (o e : Output) (x : LeafCoded) (vs : List ℕ) → start ≤ 6
+      → length bytes ≤ lastPlace → bs ≡ bands ws
+      → o ≡ putBit (output bytes (emptyAt start)) 1 → x ≡ putCoded o (headerBlocks (layer ws) (blocks bs) p ws) → e
+      ≡ flush (x .output) → vs ≡ set (x .words) 3 (layer ws + 1)
       → headerCoded vs (e .bytes) (e .bio .bp) ≡ putHeader p ws start bytes
   unfolding putHeader codeHeader putBits
   header-is start bytes bs o e x vs h l n a b′ c d =

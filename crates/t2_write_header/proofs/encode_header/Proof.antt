@@ -28,7 +28,8 @@ bands-of-requires c κs =
     let s = c .before .before .before .before .before .before in
     let a = s .args in
     let ws = a .words .now in
-    first-words ws (length ws) (not-refused-for ws (length ws) (contribution (a .counts .now) (a .lengths .now) (a .marks .now)) (s .pre .0) .valid)
+    first-words ws (length ws)
+    (not-refused-for ws (length ws) (contribution (a .counts .now) (a .lengths .now) (a .marks .now)) (s .pre .0) .valid)
 
 slice-read-n : tie.Need-slice-read-n
 slice-read-n c =
@@ -62,7 +63,8 @@ bit-out-requires c κs =
 code-bands-requires : tie.Need-code-bands-requires
 unfolding isPassTable isCodeword sameBits every bitsOf passBits
 code-bands-requires c κs =
-    let s = c .before .before .before .before .before .before .before .before .before .before .before .before .before .before .before .before .before in
+    let s = c .before .before .before .before .before .before .before .before .before .before .before .before .before .before
+    .before .before .before in
     let a = s .args in
     let ws = a .words .now in
     let r = not-refused-for ws (length ws) (contribution (a .counts .now) (a .lengths .now) (a .marks .now)) (s .pre .0) in
@@ -74,18 +76,22 @@ code-bands-requires c κs =
     let first = c .before .before .before .before .before .bit-out in
     let clear : FreeBitsClear (emptyAt (a .start)) = emptyAt-clear (a .start) in (
       tt,
-      subst FreeBitsClear (sym (ap (λ (o : Output). o .bio) (first .ensures))) (putBit-clear (output (a .out .now) (c .before .before .before .before .before .before .before .opj-bio-init-enc .result)) _ (subst FreeBitsClear (sym (c .before .before .before .before .before .before .before .opj-bio-init-enc .ensures)) clear)),
+      subst FreeBitsClear (sym (ap (λ (o : Output). o .bio) (first .ensures)))
+          (putBit-clear (output (a .out .now) (c .before .before .before .before .before .before .before .opj-bio-init-enc .result)) _
+          (subst FreeBitsClear (sym (c .before .before .before .before .before .before .before .opj-bio-init-enc .ensures)) clear)),
       sides .0,
       sides .1,
       length-is ws (length ws) (r .valid) n bs refl three,
       layer-left ws (length ws) _ r,
       r .counts-are ∙ ap (λ (l : List Band). length (blocks l)) (sym e),
-      subst (λ (l : List Band). AllFit (a .counts .now) (a .lengths .now) (a .marks .now) ws (blocks l) 0 0) (sym e) (all-fit ws (length ws) _ r),
+      subst (λ (l : List Band). AllFit (a .counts .now) (a .lengths .now) (a .marks .now) ws (blocks l) 0 0) (sym e)
+          (all-fit ws (length ws) _ r),
     )
 
 add-words : tie.Need-add-words
 add-words c =
-    let s = c .before .before .before .before .before .before .before .before .before .before .before .before .before .before .before .before .before .before .before .before .before .before .before .before .before .before in
+    let s = c .before .before .before .before .before .before .before .before .before .before .before .before .before .before
+    .before .before .before .before .before .before .before .before .before .before .before .before in
     let a = s .args in
     let ws = a .words .now in
     let r = not-refused-for ws (length ws) (contribution (a .counts .now) (a .lengths .now) (a .marks .now)) (s .pre .0) in
@@ -93,26 +99,41 @@ add-words c =
 
 slice-write-words : tie.Need-slice-write-words
 slice-write-words c =
-    let s = c .before .before .before .before .before .before .before .before .before .before .before .before .before .before .before .before .before .before .before .before .before .before .before .before .before .before in
+    let s = c .before .before .before .before .before .before .before .before .before .before .before .before .before .before
+    .before .before .before .before .before .before .before .before .before .before .before .before in
     let a = s .args in
     let ws = a .words .now in
     let r = not-refused-for ws (length ws) (contribution (a .counts .now) (a .lengths .now) (a .marks .now)) (s .pre .0) in
-    omega (arith, first-words ws (length ws) (r .valid), c .before .before .before .before .before .before .before .before .code-bands .kept .1 .0)
+    omega (
+      arith,
+      first-words ws (length ws) (r .valid),
+      c .before .before .before .before .before .before .before .before .code-bands .kept .1 .0,
+    )
 
 returns : tie.Need-returns
 returns c =
-    let s = c .before .before .before .before .before .before .before .before .before .before .before .before .before .before .before .before .before .before .before .before .before .before .before .before .before .before in
+    let s = c .before .before .before .before .before .before .before .before .before .before .before .before .before .before
+    .before .before .before .before .before .before .before .before .before .before .before .before in
     let a = s .args in
     let ws = a .words .now in
     let r = not-refused-for ws (length ws) (contribution (a .counts .now) (a .lengths .now) (a .marks .now)) (s .pre .0) in
     let n = getD ws 1 0 in
-    let e : take n (c .before .before .before .before .before .before .before .before .before .before .before .before .before .before .before .before .before .before .before .bands-of .result) ≡ bands ws = bands-are ws (length ws) (r .valid) n (c .before .before .before .before .before .before .before .before .before .before .before .before .before .before .before .before .before .before .before .bands-of .result) refl (c .before .before .before .before .before .before .before .before .before .before .before .before .before .before .before .before .before .before .before .bands-of .ensures) in
+    let e : take n (c .before .before .before .before .before .before .before .before .before .before .before .before .before
+    .before .before .before .before .before .before .bands-of .result)
+    ≡ bands ws = bands-are ws (length ws) (r .valid) n
+    (c .before .before .before .before .before .before .before .before .before .before .before .before .before .before .before
+    .before .before .before .before .bands-of .result) refl
+    (c .before .before .before .before .before .before .before .before .before .before .before .before .before .before .before
+    .before .before .before .before .bands-of .ensures) in
     let l : length (a .out .now) ≤ lastPlace = search needs in
     let p = contribution (a .counts .now) (a .lengths .now) (a .marks .now) in
-    let first = c .before .before .before .before .before .before .before .before .before .before .before .before .before .before .bit-out in
+    let first = c .before .before .before .before .before .before .before .before .before .before .before .before .before .before
+    .bit-out in
     let k = c .before .before .before .before .before .before .before .before .code-bands in
     header-is ws (length ws) p r (a .start) (a .out .now) _ _ _ _ _ (s .pre .1) l e
-    (first .ensures ∙ ap (λ (b : Bio). putBit (output (a .out .now) b) 1) (c .before .before .before .before .before .before .before .before .before .before .before .before .before .before .before .before .opj-bio-init-enc .ensures))
+    (first .ensures ∙ ap (λ (b : Bio). putBit (output (a .out .now) b) 1)
+    (c .before .before .before .before .before .before .before .before .before .before .before .before .before .before .before
+    .before .opj-bio-init-enc .ensures))
     (k .ensures)
     (c .before .before .opj-bio-flush .ensures)
     refl

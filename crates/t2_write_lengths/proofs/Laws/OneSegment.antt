@@ -10,7 +10,8 @@ use Rattle.t800.specs.Segments.{Segment, segmentsOf, width, bitLength, incremen
 use Rattle.t2_segments.specs.Segments.{segment, firstSegment, blockTooWide}
 use Rattle.t2_segments.proofs.Laws.Segments.{next-segment, no-segment-left, first-not-wide}
 
-pub one-segment : (ls ms : List ℕ) (p b : ℕ) → length ls ≡ length ms → 0 < length ls → segment p b ≡ firstSegment ls ms → p ≡ length ls → segmentsOf ls ms ≡ segment p b ∷ []
+pub one-segment : (ls ms : List ℕ) (p b : ℕ) → length ls ≡ length ms → 0 < length ls → segment p b ≡ firstSegment ls ms → p
+    ≡ length ls → segmentsOf ls ms ≡ segment p b ∷ []
 one-segment ls ms p b e h q k =
     next-segment ls ms 0 p b e h q .is ∙ ap (λ (ss : List Segment). segment p b ∷ ss) (no-segment-left ls ms (0 + p) (omega arith))
 
@@ -22,6 +23,7 @@ pub one-field : (lb : ℕ) (s : Segment) → bitsOf (width lb (s .passes)) (s .b
 unfolding lengthFields
 one-field lb s = sym (append-nil (bitsOf (width lb (s .passes)) (s .bytes)))
 
-pub one-narrow : (before more : ℕ) (s : Segment) → more ≡ increment before (s ∷ []) → blockTooWide before (s ∷ []) ≡ false → width (before + more) (s .passes) ≤ 32
+pub one-narrow : (before more : ℕ) (s : Segment) → more ≡ increment before (s ∷ []) → blockTooWide before (s ∷ []) ≡ false
+    → width (before + more) (s .passes) ≤ 32
 one-narrow before more s e h =
     rw e (first-not-wide (before + increment before (s ∷ [])) (s ∷ []) s [] (λ i. s ∷ []) h .0)

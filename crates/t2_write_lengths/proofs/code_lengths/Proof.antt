@@ -23,7 +23,8 @@ Inv-loop out₀ lengths marks lenbits bio₀ i₀ out bio i =
     × (i ≤ length lengths)
     × (anyTooLong (segmentsOf (drop i lengths) (drop i marks)) ≡ false)
     × (anyTooWide lenbits (segmentsOf (drop i lengths) (drop i marks)) ≡ false)
-    × (putBits (output out bio) (lengthFields lenbits (segmentsOf (drop i lengths) (drop i marks))) ≡ putBits (output out₀ bio₀) (lengthFields lenbits (segmentsOf lengths marks)))
+    × (putBits (output out bio) (lengthFields lenbits (segmentsOf (drop i lengths) (drop i marks)))
+    ≡ putBits (output out₀ bio₀) (lengthFields lenbits (segmentsOf lengths marks)))
 
 abbrev μ-loop : tie.MeasureT-loop
 μ-loop out₀ lengths marks lenbits bio₀ i₀ out bio i = length lengths - i
@@ -41,7 +42,8 @@ cast-bytes : tie.Need-cast-bytes Inv-loop μ-loop
 cast-bytes c =
     let l = c .before .before .before .loop in
     let s = c .before .before .before .before .before .before .before in
-    let n = next-segment (s .args .lengths .now) (s .args .marks .now) (l .i) _ _ (sym (s .pre .1 .marked)) (omega arith) (c .before .segment-at .ensures) in
+    let n = next-segment (s .args .lengths .now) (s .args .marks .now) (l .i) _ _ (sym (s .pre .1 .marked)) (omega arith)
+    (c .before .segment-at .ensures) in
     omega (arith, first-not-long _ _ _ (n .is) (l .inv .3) .0)
 
 field-width-requires : tie.Need-field-width-requires Inv-loop μ-loop
@@ -51,28 +53,32 @@ cast-opj-bio-write : tie.Need-cast-opj-bio-write Inv-loop μ-loop
 cast-opj-bio-write c =
     let l = c .before .before .before .before .before .loop in
     let s = c .before .before .before .before .before .before .before .before .before in
-    let n = next-segment (s .args .lengths .now) (s .args .marks .now) (l .i) _ _ (sym (s .pre .1 .marked)) (omega arith) (c .before .before .before .segment-at .ensures) in
+    let n = next-segment (s .args .lengths .now) (s .args .marks .now) (l .i) _ _ (sym (s .pre .1 .marked)) (omega arith)
+    (c .before .before .before .segment-at .ensures) in
     omega (arith, c .before .field-width .ensures, first-not-wide (s .args .lenbits) _ _ _ (n .is) (l .inv .4) .0)
 
 opj-bio-write-requires : tie.Need-opj-bio-write-requires Inv-loop μ-loop
 opj-bio-write-requires c κs =
     let l = c .before .before .before .before .before .loop in
     let s = c .before .before .before .before .before .before .before .before .before in
-    let n = next-segment (s .args .lengths .now) (s .args .marks .now) (l .i) _ _ (sym (s .pre .1 .marked)) (omega arith) (c .before .before .before .segment-at .ensures) in
+    let n = next-segment (s .args .lengths .now) (s .args .marks .now) (l .i) _ _ (sym (s .pre .1 .marked)) (omega arith)
+    (c .before .before .before .segment-at .ensures) in
     (l .inv .0, omega (arith, c .before .field-width .ensures, first-not-wide (s .args .lenbits) _ _ _ (n .is) (l .inv .4) .0))
 
 add-i : tie.Need-add-i Inv-loop μ-loop
 add-i c =
     let l = c .before .before .before .before .before .before .before .before .before .loop in
     let s = c .before .before .before .before .before .before .before .before .before .before .before .before .before in
-    let n = next-segment (s .args .lengths .now) (s .args .marks .now) (l .i) _ _ (sym (s .pre .1 .marked)) (omega arith) (c .before .before .before .before .before .before .before .segment-at .ensures) in
+    let n = next-segment (s .args .lengths .now) (s .args .marks .now) (l .i) _ _ (sym (s .pre .1 .marked)) (omega arith)
+    (c .before .before .before .before .before .before .before .segment-at .ensures) in
     omega (arith, n .enough, s .pre .1 .few)
 
 loop-less : tie.Need-loop-less Inv-loop μ-loop
 loop-less c =
     let l = c .before .before .before .before .before .before .before .before .before .loop in
     let s = c .before .before .before .before .before .before .before .before .before .before .before .before .before in
-    let n = next-segment (s .args .lengths .now) (s .args .marks .now) (l .i) _ _ (sym (s .pre .1 .marked)) (omega arith) (c .before .before .before .before .before .before .before .segment-at .ensures) in
+    let n = next-segment (s .args .lengths .now) (s .args .marks .now) (l .i) _ _ (sym (s .pre .1 .marked)) (omega arith)
+    (c .before .before .before .before .before .before .before .segment-at .ensures) in
     omega (arith, n .some)
 
 loop-again : tie.Need-loop-again Inv-loop μ-loop
@@ -82,13 +88,16 @@ loop-again c =
     let o = output (l .out) (l .bio) in
     let r = c .before .before .before .opj-bio-write in
     let g = c .before .before .before .before .before .before .before .segment-at .result in
-    let n = next-segment (s .args .lengths .now) (s .args .marks .now) (l .i) _ _ (sym (s .pre .1 .marked)) (omega arith) (c .before .before .before .before .before .before .before .segment-at .ensures) in (
+    let n = next-segment (s .args .lengths .now) (s .args .marks .now) (l .i) _ _ (sym (s .pre .1 .marked)) (omega arith)
+    (c .before .before .before .before .before .before .before .segment-at .ensures) in (
       subst FreeBitsClear (sym (ap (λ (x : Output). x .bio) (r .ensures))) (putBits-clear o _ (l .inv .0)),
       r .kept .0 ∙ l .inv .1,
       n .enough,
       first-not-long _ _ _ (n .is) (l .inv .3) .1,
       first-not-wide (s .args .lenbits) _ _ _ (n .is) (l .inv .4) .1,
-      fields-turn o (s .args .lenbits) (segment (g .passes) (g .bytes)) _ _ _ (n .is) (r .ensures ∙ ap (λ (k : ℕ). putBits o (bitsOf k (g .bytes))) (c .before .before .before .before .before .field-width .ensures)) ∙ l .inv .5,
+      fields-turn o (s .args .lenbits) (segment (g .passes) (g .bytes)) _ _ _ (n .is)
+          (r .ensures ∙ ap (λ (k : ℕ). putBits o (bitsOf k (g .bytes)))
+          (c .before .before .before .before .before .field-width .ensures)) ∙ l .inv .5,
     )
 
 same-length : tie.Need-same-length Inv-loop μ-loop

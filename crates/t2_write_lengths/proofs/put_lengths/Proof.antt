@@ -16,7 +16,8 @@ use Rattle.t2_write_lengths.proofs.put_lengths.Tie as tie
 put-one-length-requires : tie.Need-put-one-length-requires
 put-one-length-requires c κs =
     let s = c .before .before .before .before .before .before .before in
-    let e = one-segment (s .args .lengths .now) (s .args .marks .now) _ _ (sym (s .pre .4 .marked)) (omega (arith, s .pre .2, s .pre .3)) (c .before .before .before .segment-at .ensures) (c .before .if1 .taken ∙ s .pre .3) in (
+    let e = one-segment (s .args .lengths .now) (s .args .marks .now) _ _ (sym (s .pre .4 .marked))
+    (omega (arith, s .pre .2, s .pre .3)) (c .before .before .before .segment-at .ensures) (c .before .if1 .taken ∙ s .pre .3) in (
       s .pre .0,
       s .pre .1,
       s .pre .2,
@@ -29,7 +30,11 @@ put-one-length-requires c κs =
 returns : tie.Need-returns
 returns c =
     let s = c .before .before .before .before .before .before .before .before .before .before in
-    c .before .before .put-one-length .ensures ∙ ap (putLengths (output (s .args .out .now) (s .args .b)) (s .args .before) (s .args .count)) (sym (one-segment (s .args .lengths .now) (s .args .marks .now) _ _ (sym (s .pre .4 .marked)) (omega (arith, s .pre .2, s .pre .3)) (c .before .before .before .before .before .before .segment-at .ensures) (c .before .before .before .before .if1 .taken ∙ s .pre .3)))
+    c .before .before .put-one-length .ensures
+    ∙ ap (putLengths (output (s .args .out .now) (s .args .b)) (s .args .before) (s .args .count))
+    (sym (one-segment (s .args .lengths .now) (s .args .marks .now) _ _ (sym (s .pre .4 .marked))
+    (omega (arith, s .pre .2, s .pre .3)) (c .before .before .before .before .before .before .segment-at .ensures)
+    (c .before .before .before .before .if1 .taken ∙ s .pre .3)))
 
 pub put-lengths-spec : {M : Type 1} → statement M
 put-lengths-spec =

@@ -20,13 +20,16 @@ use Rattle.t2_segments.proofs.Laws.Segments.{next-entry}
 use Rattle.t2_write_lengths.specs.Blocks.{coded}
 use Rattle.t2_write_block.specs.Runs.{Running, codeNext, codeAll, setNext, setAll}
 
-pub set-is-blocks : (t : ℕ) (cs : List ℕ) (ks : List Block) (i : ℕ) (ws : List ℕ) → i + length ks ≤ length cs → setAll t cs ks i ws ≡ setNewBlocks t ks (drop i cs) ws
+pub set-is-blocks : (t : ℕ) (cs : List ℕ) (ks : List Block) (i : ℕ) (ws : List ℕ) → i + length ks ≤ length cs → setAll t cs ks i ws
+    ≡ setNewBlocks t ks (drop i cs) ws
 unfolding setAll setNext setNewBlocks
 set-is-blocks t cs [] i ws h = refl
-set-is-blocks t cs (k ∷ ks) i ws h = set-is-blocks t cs ks (i + 1) _ (omega arith) ∙ sym (ap (λ (ds : List ℕ). setNewBlocks t (k ∷ ks) ds ws) (next-entry cs i (omega arith)))
+set-is-blocks t cs (k ∷ ks) i ws h = set-is-blocks t cs ks (i + 1) _ (omega arith)
+    ∙ sym (ap (λ (ds : List ℕ). setNewBlocks t (k ∷ ks) ds ws) (next-entry cs i (omega arith)))
 
 -- blocks without passes are not set
-pub none-set : (t : ℕ) (cs : List ℕ) (ks : List Block) (i : ℕ) (ws : List ℕ) → i + length ks ≤ length cs → any (λ c. ltb 0 c) (take (length ks) (drop i cs)) ≡ false → setAll t cs ks i ws ≡ ws
+pub none-set : (t : ℕ) (cs : List ℕ) (ks : List Block) (i : ℕ) (ws : List ℕ) → i + length ks ≤ length cs
+    → any (λ c. ltb 0 c) (take (length ks) (drop i cs)) ≡ false → setAll t cs ks i ws ≡ ws
 unfolding any setAll setNext
 none-set t cs [] i ws l h = refl
 none-set t cs (k ∷ ks) i ws l h =
@@ -34,12 +37,16 @@ none-set t cs (k ∷ ks) i ws l h =
     let rest : List ℕ = take (length ks) (drop (i + 1) cs) in
     let e : take (length (k ∷ ks)) (drop i cs) ≡ c ∷ rest = ap (take (length (k ∷ ks))) (next-entry cs i (omega arith)) in
     let g : (ltb 0 c || any (λ (c : ℕ). ltb 0 c) rest) ≡ false = sym (ap (any (λ (c : ℕ). ltb 0 c)) e) ∙ h in
-    let same : setNext t k c ws ≡ ws = if-false (isNew ws k && ltb 0 c) _ _ (ap (λ (b : Bool). isNew ws k && b) (or-left (ltb 0 c) (any (λ (c : ℕ). ltb 0 c) rest) g) ∙ and-false (isNew ws k)) in
+    let same : setNext t k c ws
+    ≡ ws = if-false (isNew ws k && ltb 0 c) _ _
+    (ap (λ (b : Bool). isNew ws k && b) (or-left (ltb 0 c) (any (λ (c : ℕ). ltb 0 c) rest) g) ∙ and-false (isNew ws k)) in
     ap (setAll t cs ks (i + 1)) same ∙ none-set t cs ks (i + 1) ws (omega arith) (or-right (ltb 0 c) (any (λ (c : ℕ). ltb 0 c) rest) g)
 
 -- one block, then those after it
 blocks-turn : (t : ℕ) (k : Block) (ks : List Block) (c : ℕ) (cs ls ms ws : List ℕ) (o : Output)
-    → putCoded (putBits o (codeBlock t k c (segmentsOf (take c ls) (take c ms)) ws .bits)) (codeBlocks t ks cs (drop c ls) (drop c ms) (codeBlock t k c (segmentsOf (take c ls) (take c ms)) ws .words)) ≡ putCoded o (codeBlocks t (k ∷ ks) (c ∷ cs) ls ms ws)
+    → putCoded (putBits o (codeBlock t k c (segmentsOf (take c ls) (take c ms)) ws .bits))
+    (codeBlocks t ks cs (drop c ls) (drop c ms) (codeBlock t k c (segmentsOf (take c ls) (take c ms)) ws .words))
+    ≡ putCoded o (codeBlocks t (k ∷ ks) (c ∷ cs) ls ms ws)
 unfolding codeBlocks
 blocks-turn t k ks c cs ls ms ws o =
     let b : Coded = codeBlock t k c (segmentsOf (take c ls) (take c ms)) ws in
@@ -47,7 +54,8 @@ blocks-turn t k ks c cs ls ms ws o =
     ap (coded (r .words)) (sym (putBits-append o (b .bits) (r .bits)))
 
 pub code-is-blocks : (t : ℕ) (cs ls ms : List ℕ) (ks : List Block) (s : Running) → s .block + length ks ≤ length cs
-    → coded (codeAll t cs ls ms ks s .words) (codeAll t cs ls ms ks s .output) ≡ putCoded (s .output) (codeBlocks t ks (drop (s .block) cs) (drop (s .pass) ls) (drop (s .pass) ms) (s .words))
+    → coded (codeAll t cs ls ms ks s .words) (codeAll t cs ls ms ks s .output)
+    ≡ putCoded (s .output) (codeBlocks t ks (drop (s .block) cs) (drop (s .pass) ls) (drop (s .pass) ms) (s .words))
 unfolding codeAll codeNext codeBlocks putBits
 code-is-blocks t cs ls ms [] s h = refl
 code-is-blocks t cs ls ms (k ∷ ks) s h =
@@ -58,4 +66,5 @@ code-is-blocks t cs ls ms (k ∷ ks) s h =
     code-is-blocks t cs ls ms ks u (omega arith)
     ∙ (λ i. putCoded (u .output) (codeBlocks t ks (drop (s .block + 1) cs) (p i) (q i) (u .words)))
     ∙ blocks-turn t k ks c (drop (s .block + 1) cs) (drop (s .pass) ls) (drop (s .pass) ms) (s .words) (s .output)
-    ∙ sym (ap (λ (ds : List ℕ). putCoded (s .output) (codeBlocks t (k ∷ ks) ds (drop (s .pass) ls) (drop (s .pass) ms) (s .words))) (next-entry cs (s .block) (omega arith)))
+    ∙ sym (ap (λ (ds : List ℕ). putCoded (s .output) (codeBlocks t (k ∷ ks) ds (drop (s .pass) ls) (drop (s .pass) ms) (s .words)))
+    (next-entry cs (s .block) (omega arith)))

@@ -23,29 +23,34 @@ use Rattle.tcd_places.proofs.Laws.BandRows.{row-is, row-counts, split-row}
 
 -- ---- blocks in two parts
 
-pub code-append : (t : ℕ) (cs ls ms : List ℕ) (ks js : List Block) (s : Running) → codeAll t cs ls ms (ks ++ js) s ≡ codeAll t cs ls ms js (codeAll t cs ls ms ks s)
+pub code-append : (t : ℕ) (cs ls ms : List ℕ) (ks js : List Block) (s : Running) → codeAll t cs ls ms (ks ++ js) s
+    ≡ codeAll t cs ls ms js (codeAll t cs ls ms ks s)
 unfolding codeAll
 code-append t cs ls ms [] js s = refl
 code-append t cs ls ms (k ∷ ks) js s = code-append t cs ls ms ks js (codeNext t cs ls ms k s)
 
-pub set-append : (t : ℕ) (cs : List ℕ) (ks js : List Block) (i : ℕ) (ws : List ℕ) → setAll t cs (ks ++ js) i ws ≡ setAll t cs js (i + length ks) (setAll t cs ks i ws)
+pub set-append : (t : ℕ) (cs : List ℕ) (ks js : List Block) (i : ℕ) (ws : List ℕ) → setAll t cs (ks ++ js) i ws
+    ≡ setAll t cs js (i + length ks) (setAll t cs ks i ws)
 unfolding setAll
 set-append t cs [] js i ws = let e : i ≡ i + 0 = omega arith in ap (λ (z : ℕ). setAll t cs js z ws) e
 set-append t cs (k ∷ ks) js i ws =
     let e : i + 1 + length ks ≡ i + suc (length ks) = omega arith in
     set-append t cs ks js (i + 1) _ ∙ ap (λ (z : ℕ). setAll t cs js z (setAll t cs ks (i + 1) (setNext t k (getD cs i 0) ws))) e
 
-pub all-clear : (t : ℕ) (cs ls ms : List ℕ) (ks : List Block) (s : Running) → FreeBitsClear (s .output .bio) → FreeBitsClear (codeAll t cs ls ms ks s .output .bio)
+pub all-clear : (t : ℕ) (cs ls ms : List ℕ) (ks : List Block) (s : Running) → FreeBitsClear (s .output .bio)
+    → FreeBitsClear (codeAll t cs ls ms ks s .output .bio)
 unfolding codeAll
 all-clear t cs ls ms [] s h = h
 all-clear t cs ls ms (k ∷ ks) s h = all-clear t cs ls ms ks (codeNext t cs ls ms k s) (next-clear t cs ls ms k s h)
 
-pub all-keep : (q t : ℕ) (cs ls ms : List ℕ) (ks : List Block) (s : Running) → AllBlocks (BlockBefore q) ks → drop q (codeAll t cs ls ms ks s .words) ≡ drop q (s .words)
+pub all-keep : (q t : ℕ) (cs ls ms : List ℕ) (ks : List Block) (s : Running) → AllBlocks (BlockBefore q) ks
+    → drop q (codeAll t cs ls ms ks s .words) ≡ drop q (s .words)
 unfolding codeAll
 all-keep q t cs ls ms [] s b = refl
 all-keep q t cs ls ms (k ∷ ks) s b = all-keep q t cs ls ms ks (codeNext t cs ls ms k s) (b .1) ∙ next-keeps q t cs ls ms k s (b .0)
 
-pub first-fit : (cs ls ms ws : List ℕ) (ks js : List Block) (block pass : ℕ) → AllFit cs ls ms ws (ks ++ js) block pass → AllFit cs ls ms ws ks block pass
+pub first-fit : (cs ls ms ws : List ℕ) (ks js : List Block) (block pass : ℕ) → AllFit cs ls ms ws (ks ++ js) block pass
+    → AllFit cs ls ms ws ks block pass
 first-fit cs ls ms ws [] js block pass f = tt
 first-fit cs ls ms ws (k ∷ ks) js block pass f = (f .0, first-fit cs ls ms ws ks js (block + 1) (pass + getD cs block 0) (f .1))
 
@@ -56,7 +61,8 @@ rest-fit t cs ls ms ws [] js s f = f
 rest-fit t cs ls ms ws (k ∷ ks) js s f = rest-fit t cs ls ms ws ks js (codeNext t cs ls ms k s) (f .1)
 
 -- after blocks whose words lie before place q, those from q on can be coded as before
-pub still-fit-after : (q t : ℕ) (cs ls ms : List ℕ) (ks js : List Block) (s : Running) → AllBlocks (BlockBefore q) ks → AllBlocks (From q) js → AllFit cs ls ms (s .words) (ks ++ js) (s .block) (s .pass)
+pub still-fit-after : (q t : ℕ) (cs ls ms : List ℕ) (ks js : List Block) (s : Running) → AllBlocks (BlockBefore q) ks
+    → AllBlocks (From q) js → AllFit cs ls ms (s .words) (ks ++ js) (s .block) (s .pass)
     → AllFit cs ls ms (codeAll t cs ls ms ks s .words) js (codeAll t cs ls ms ks s .block) (codeAll t cs ls ms ks s .pass)
 still-fit-after q t cs ls ms ks js s b a f =
     all-still-fit q cs ls ms _ (s .words) js _ _ (all-keep q t cs ls ms ks s b) a (rest-fit t cs ls ms (s .words) ks js s f)
@@ -64,7 +70,8 @@ still-fit-after q t cs ls ms ks js s b a f =
 -- ---- a block's planes don't count
 
 module _ (p : Place) (row : List ℕ) (planes : ℕ) where
-  next-planes : (t : ℕ) (cs ls ms : List ℕ) (s : Running) → codeNext t cs ls ms (blockIn p row 0) s ≡ codeNext t cs ls ms (blockIn p row planes) s
+  next-planes : (t : ℕ) (cs ls ms : List ℕ) (s : Running) → codeNext t cs ls ms (blockIn p row 0) s
+      ≡ codeNext t cs ls ms (blockIn p row planes) s
   unfolding codeNext codeBlock codeInclusion codeZeroPlanes codePasses lengthBitsBefore isNew
   next-planes t cs ls ms s = refl
 
@@ -73,17 +80,21 @@ module _ (p : Place) (row : List ℕ) (planes : ℕ) where
   set-planes t c ws = refl
 
 module _ (p : Place) (row : List ℕ) (planes : ℕ) (cs ls ms : List ℕ) where
-  codes-planes : (t n x : ℕ) (s : Running) → codeAll t cs ls ms (rowBlocks p row 0 n x) s ≡ codeAll t cs ls ms (rowBlocks p row planes n x) s
+  codes-planes : (t n x : ℕ) (s : Running) → codeAll t cs ls ms (rowBlocks p row 0 n x) s
+      ≡ codeAll t cs ls ms (rowBlocks p row planes n x) s
   unfolding codeAll rowBlocks
   codes-planes t zero x s = refl
-  codes-planes t (suc n) x s = codes-planes t n (x + 1) _ ∙ ap (codeAll t cs ls ms (rowBlocks p row planes n (x + 1))) (next-planes (placeAt p x) row planes t cs ls ms s)
+  codes-planes t (suc n) x s = codes-planes t n (x + 1) _
+      ∙ ap (codeAll t cs ls ms (rowBlocks p row planes n (x + 1))) (next-planes (placeAt p x) row planes t cs ls ms s)
 
   sets-planes : (t n x i : ℕ) (ws : List ℕ) → setAll t cs (rowBlocks p row 0 n x) i ws ≡ setAll t cs (rowBlocks p row planes n x) i ws
   unfolding setAll rowBlocks
   sets-planes t zero x i ws = refl
-  sets-planes t (suc n) x i ws = sets-planes t n (x + 1) (i + 1) _ ∙ ap (setAll t cs (rowBlocks p row planes n (x + 1)) (i + 1)) (set-planes (placeAt p x) row planes t (getD cs i 0) ws)
+  sets-planes t (suc n) x i ws = sets-planes t n (x + 1) (i + 1) _
+      ∙ ap (setAll t cs (rowBlocks p row planes n (x + 1)) (i + 1)) (set-planes (placeAt p x) row planes t (getD cs i 0) ws)
 
-  fits-planes : (ws : List ℕ) (n x block pass : ℕ) → AllFit cs ls ms ws (rowBlocks p row planes n x) block pass → AllFit cs ls ms ws (rowBlocks p row 0 n x) block pass
+  fits-planes : (ws : List ℕ) (n x block pass : ℕ) → AllFit cs ls ms ws (rowBlocks p row planes n x) block pass
+      → AllFit cs ls ms ws (rowBlocks p row 0 n x) block pass
   unfolding rowBlocks
   fits-planes ws zero x block pass f = tt
   fits-planes ws (suc n) x block pass f = (f .0, fits-planes ws n (x + 1) (block + 1) (pass + getD cs block 0) (f .1))
@@ -113,29 +124,37 @@ module _ (size start : ℕ) (b : Band) (h : BandIn size start b) (y : ℕ) (l : 
     pub row-fits : AllFit cs ls ms (s .words) (rowBlocks place row 0 (b .across) 0) (s .block) (s .pass)
     row-fits =
         fits-planes place row (b .planes) cs ls ms (s .words) (b .across) 0 (s .block) (s .pass)
-        (subst (λ (ks : List Block). AllFit cs ls ms (s .words) ks (s .block) (s .pass)) (sym is-row) (first-fit cs ls ms (s .words) first (left (y + 1)) (s .block) (s .pass) parts-fit))
+        (subst (λ (ks : List Block). AllFit cs ls ms (s .words) ks (s .block) (s .pass)) (sym is-row)
+        (first-fit cs ls ms (s .words) first (left (y + 1)) (s .block) (s .pass) parts-fit))
 
     module _ (u : Running) (e : u ≡ codeAll t cs ls ms (rowBlocks place row 0 (b .across) 0) s) where
       is-first : u ≡ codeAll t cs ls ms first s
-      is-first = e ∙ codes-planes place row (b .planes) cs ls ms t (b .across) 0 s ∙ ap (λ (ks : List Block). codeAll t cs ls ms ks s) is-row
+      is-first = e ∙ codes-planes place row (b .planes) cs ls ms t (b .across) 0 s
+          ∙ ap (λ (ks : List Block). codeAll t cs ls ms ks s) is-row
 
       pub left-fit : AllFit cs ls ms (u .words) (left (y + 1)) (u .block) (u .pass)
       left-fit =
           let q : ℕ = start + 6 * bandNodes b + 4 * ((y + 1) * b .across) in
-          let k : AllBlocks (BlockBefore q) first = from-before q start b (b .across) (y * b .across + 0) (omega (arith, row-counts size start b h y l)) (omega arith) in
+          let k : AllBlocks (BlockBefore q) first =
+          from-before q start b (b .across) (y * b .across + 0) (omega (arith, row-counts size start b h y l)) (omega arith) in
           subst (λ (v : Running). AllFit cs ls ms (v .words) (left (y + 1)) (v .block) (v .pass)) (sym is-first)
           (still-fit-after q t cs ls ms first (left (y + 1)) s k (blocks-from q start b _ ((y + 1) * b .across) (omega arith)) parts-fit)
 
       pub left-coded : codeAll t cs ls ms (left (y + 1)) u ≡ codeAll t cs ls ms (left y) s
       left-coded =
           ap (codeAll t cs ls ms (left (y + 1))) is-first
-          ∙ sym (ap (λ (ks : List Block). codeAll t cs ls ms ks s) (split-row size start b h y l) ∙ code-append t cs ls ms first (left (y + 1)) s)
+          ∙ sym (ap (λ (ks : List Block). codeAll t cs ls ms ks s) (split-row size start b h y l)
+          ∙ code-append t cs ls ms first (left (y + 1)) s)
 
-  pub left-set : (t : ℕ) (cs : List ℕ) (i : ℕ) (ws vs : List ℕ) → vs ≡ setAll t cs (rowBlocks place row 0 (b .across) 0) (i + y * b .across) ws
+  pub left-set : (t : ℕ) (cs : List ℕ) (i : ℕ) (ws vs : List ℕ) → vs
+      ≡ setAll t cs (rowBlocks place row 0 (b .across) 0) (i + y * b .across) ws
       → setAll t cs (left (y + 1)) (i + (y + 1) * b .across) vs ≡ setAll t cs (left y) (i + y * b .across) ws
   left-set t cs i ws vs e =
-      let c : i + (y + 1) * b .across ≡ i + y * b .across + length first = omega (arith, length-from start b (b .across) (y * b .across + 0)) in
+      let c : i + (y + 1) * b .across
+      ≡ i + y * b .across + length first = omega (arith, length-from start b (b .across) (y * b .across + 0)) in
       let g : vs ≡ setAll t cs first (i + y * b .across) ws =
-      e ∙ sets-planes place row (b .planes) cs [] [] t (b .across) 0 (i + y * b .across) ws ∙ ap (λ (ks : List Block). setAll t cs ks (i + y * b .across) ws) is-row in
+      e ∙ sets-planes place row (b .planes) cs [] [] t (b .across) 0 (i + y * b .across) ws
+      ∙ ap (λ (ks : List Block). setAll t cs ks (i + y * b .across) ws) is-row in
       (λ j. setAll t cs (left (y + 1)) (c j) (g j))
-      ∙ sym (ap (λ (ks : List Block). setAll t cs ks (i + y * b .across) ws) (split-row size start b h y l) ∙ set-append t cs first (left (y + 1)) (i + y * b .across) ws)
+      ∙ sym (ap (λ (ks : List Block). setAll t cs ks (i + y * b .across) ws) (split-row size start b h y l)
+      ∙ set-append t cs first (left (y + 1)) (i + y * b .across) ws)

@@ -19,9 +19,13 @@ returns c =
     let s = c .before .before .before .before .before .before in
     let a = s .args in
     let n = length-from (a .g .start) (a .band) (blocksIn (a .band)) 0 in
-    let e : length (bandBlocks (a .g .start) (a .band)) ≡ a .block + c .before .before .before .band-blocks .result - a .block = omega (arith, n, c .before .before .before .band-blocks .ensures) in
-    let none = ap (λ (k : ℕ). any (λ (p : ℕ). ltb 0 p) (take k (drop (a .block) (a .counts .now)))) e ∙ sym (c .before .any-over .ensures) ∙ not-true _ (c .if1 .taken) in
-    sym (none-set (a .layer) (a .counts .now) (bandBlocks (a .g .start) (a .band)) (a .block) (a .words .now) (omega (arith, n, s .pre .3)) none)
+    let e : length (bandBlocks (a .g .start) (a .band))
+    ≡ a .block + c .before .before .before .band-blocks .result - a .block =
+    omega (arith, n, c .before .before .before .band-blocks .ensures) in
+    let none = ap (λ (k : ℕ). any (λ (p : ℕ). ltb 0 p) (take k (drop (a .block) (a .counts .now)))) e
+    ∙ sym (c .before .any-over .ensures) ∙ not-true _ (c .if1 .taken) in
+    sym (none-set (a .layer) (a .counts .now) (bandBlocks (a .g .start) (a .band)) (a .block) (a .words .now)
+    (omega (arith, n, s .pre .3)) none)
 
 pub set-new-blocks-spec : {M : Type 1} → statement M
 set-new-blocks-spec =

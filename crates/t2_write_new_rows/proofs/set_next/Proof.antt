@@ -19,17 +19,23 @@ returns c = simp (ne-eqb _ _ (c .if1 .taken))
 
 returns-2 : tie.Need-returns-2
 unfolding setNext isNew
-returns-2 c = let z = c .if2 .taken in simp (eq-eqb _ _ (c .before .if1 .left), le-ltb 0 (c .before .before .before .before .args .count) (omega arith))
+returns-2 c = let z = c .if2 .taken in
+    simp (eq-eqb _ _ (c .before .if1 .left), le-ltb 0 (c .before .before .before .before .args .count) (omega arith))
 
 opj-tgt-setvalue-requires : tie.Need-opj-tgt-setvalue-requires
-opj-tgt-setvalue-requires c κs = let s = c .before .before .before .before .before in path-wider (s .args .p .at) (length (s .args .words .now)) _ _ _ _ (omega (arith, s .pre .inside)) (s .pre .incl)
+opj-tgt-setvalue-requires c κs = let s = c .before .before .before .before .before in
+    path-wider (s .args .p .at) (length (s .args .words .now)) _ _ _ _ (omega (arith, s .pre .inside)) (s .pre .incl)
 
 same-length : tie.Need-same-length
 same-length c = c .before .before .opj-tgt-setvalue .kept .0
 
 returns-3 : tie.Need-returns-3
 unfolding setNext isNew
-returns-3 c = let z = c .before .before .before .before .if2 .left in c .before .before .opj-tgt-setvalue .ensures ∙ simp (eq-eqb _ _ (c .before .before .before .before .before .if1 .left), lt-ltb 0 (c .before .before .before .before .before .before .before .before .args .count) (omega arith))
+returns-3 c = let z = c .before .before .before .before .if2 .left in c .before .before .opj-tgt-setvalue .ensures
+    ∙ simp (
+      eq-eqb _ _ (c .before .before .before .before .before .if1 .left),
+      lt-ltb 0 (c .before .before .before .before .before .before .before .before .args .count) (omega arith),
+    )
 
 pub set-next-spec : {M : Type 1} → statement M
 set-next-spec =

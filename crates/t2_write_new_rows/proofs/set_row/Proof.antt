@@ -47,7 +47,8 @@ set-next-requires c κs =
     let a = s .args in
     let l = c .before .before .before .before .loop in
     let r = subst (λ (k : ℕ). RowIn k (a .p) (a .row .now) (a .n)) (sym (l .inv .0)) (s .pre .0) in
-    subst (λ (k : Place). BlockIn (length (l .words)) k (a .row .now)) (sym (c .before .before .place-at .ensures)) (block-in (length (l .words)) (a .n) (l .i) (a .p) (a .row .now) (c .before .before .before .loop-test .taken) r)
+    subst (λ (k : Place). BlockIn (length (l .words)) k (a .row .now)) (sym (c .before .before .place-at .ensures))
+    (block-in (length (l .words)) (a .n) (l .i) (a .p) (a .row .now) (c .before .before .before .loop-test .taken) r)
 
 add-i : tie.Need-add-i Inv-loop μ-loop
 add-i c = omega (arith, c .before .before .before .before .before .before .before .before .before .before .pre .0 .small)
@@ -62,8 +63,14 @@ loop-again c =
     let l = c .before .before .before .before .before .before .before .loop in
     let t = c .before .before .before .before .before .before .loop-test .taken in
     let g = c .before .before .set-next in
-    let e = g .ensures ∙ ap (λ (k : Place). setNext (a .layer) (blockIn k (a .row .now) 0) (getD (a .counts .now) (a .block + l .i) 0) (l .words)) (c .before .before .before .before .before .place-at .ensures) in
-    (g .kept .0 ∙ l .inv .0, omega arith, sets-then (length (a .words .now)) (a .n) (l .i) (a .p) (a .row .now) t (s .pre .0) (a .layer) (a .block) (a .counts .now) (l .words) _ e ∙ l .inv .2)
+    let e = g .ensures ∙ ap
+    (λ (k : Place). setNext (a .layer) (blockIn k (a .row .now) 0) (getD (a .counts .now) (a .block + l .i) 0) (l .words))
+    (c .before .before .before .before .before .place-at .ensures) in (
+      g .kept .0 ∙ l .inv .0,
+      omega arith,
+      sets-then (length (a .words .now)) (a .n) (l .i) (a .p) (a .row .now) t (s .pre .0) (a .layer) (a .block) (a .counts .now)
+          (l .words) _ e ∙ l .inv .2,
+    )
 
 same-length : tie.Need-same-length Inv-loop μ-loop
 same-length c = c .before .loop .inv .0
@@ -73,7 +80,8 @@ unfolding setAll
 returns c =
     let a = c .before .before .before .before .args in
     let l = c .before .loop in
-    sym (ap (λ (ks : List Block). setAll (a .layer) (a .counts .now) ks (a .block + l .i) (l .words)) (row-end (a .p) (a .row .now) 0 (a .n) (l .i) (c .loop-test .left))) ∙ l .inv .2
+    sym (ap (λ (ks : List Block). setAll (a .layer) (a .counts .now) ks (a .block + l .i) (l .words))
+    (row-end (a .p) (a .row .now) 0 (a .n) (l .i) (c .loop-test .left))) ∙ l .inv .2
 
 pub set-row-spec : {M : Type 1} → statement M
 set-row-spec =

@@ -21,7 +21,9 @@ use Rattle.t2_write_packet.specs.Front.{BytesPut, bytesPut, putBytes, pu
 
 pub sets-append : (xs ys l : List ℕ) (i : ℕ) → sets (sets l i xs) (i + length xs) ys ≡ sets l i (xs ++ ys)
 sets-append [] ys l i = let e : i + 0 ≡ i = omega arith in ap (λ (k : ℕ). sets l k ys) e
-sets-append (x ∷ xs) ys l i = let e : i + suc (length xs) ≡ suc i + length xs = omega arith in ap (λ (k : ℕ). sets (sets (set l i x) (suc i) xs) k ys) e ∙ sets-append xs ys (set l i x) (suc i)
+sets-append (x ∷ xs) ys l i = let e : i + suc (length xs)
+    ≡ suc i + length xs = omega arith in ap (λ (k : ℕ). sets (sets (set l i x) (suc i) xs) k ys) e
+    ∙ sets-append xs ys (set l i x) (suc i)
 
 pub put-append : (o : BytesPut) (xs ys : List ℕ) → putBytes (putBytes o xs) ys ≡ putBytes o (xs ++ ys)
 put-append o xs ys =
@@ -29,10 +31,12 @@ put-append o xs ys =
     λ i. bytesPut (sets-append xs ys (o .bytes) (o .end) i) (e i)
 
 -- a part of the output is lent for them
-pub part-put : (l : List ℕ) (at end : ℕ) (xs part : List ℕ) → at + length xs ≤ length l → end ≡ at + length xs → part ≡ xs → bytesPut (take at l ++ (part ++ drop (end - at) (drop at l))) end ≡ putBytes (bytesPut l at) xs
+pub part-put : (l : List ℕ) (at end : ℕ) (xs part : List ℕ) → at + length xs ≤ length l → end ≡ at + length xs → part ≡ xs
+    → bytesPut (take at l ++ (part ++ drop (end - at) (drop at l))) end ≡ putBytes (bytesPut l at) xs
 part-put l at end xs part h e p =
     let n : end - at ≡ length xs = omega arith in
-    let q = ap (λ (z : List ℕ). take at l ++ (xs ++ z)) (ap (λ (z : ℕ). drop z (drop at l)) n ∙ drop-drop (length xs) at l) ∙ sym (append-assoc (take at l) xs (drop (at + length xs) l)) ∙ sym (sets-eq xs l at h) in
+    let q = ap (λ (z : List ℕ). take at l ++ (xs ++ z)) (ap (λ (z : ℕ). drop z (drop at l)) n ∙ drop-drop (length xs) at l)
+    ∙ sym (append-assoc (take at l) xs (drop (at + length xs) l)) ∙ sym (sets-eq xs l at h) in
     (λ i. bytesPut (take at l ++ (p i ++ drop (end - at) (drop at l))) end) ∙ (λ i. bytesPut (q i) (e i))
 
 pub room-after : (bytes front body : ℕ) → front ≤ bytes → leb body (bytes - front) ≡ leb (front + body) bytes
@@ -42,11 +46,13 @@ room-after bytes front body h =
     (λ k. lt-leb body (bytes - front) k ∙ sym (lt-leb (front + body) bytes (omega arith)))
 
 -- a marker that isn't used, and one that is
-pub not-used : (used : Bool) (bytes : List ℕ) (at : ℕ) (xs : List ℕ) → not used ≡ true → bytesPut bytes at ≡ putBytes (bytesPut bytes at) (cond used xs [])
+pub not-used : (used : Bool) (bytes : List ℕ) (at : ℕ) (xs : List ℕ) → not used ≡ true → bytesPut bytes at
+    ≡ putBytes (bytesPut bytes at) (cond used xs [])
 not-used true bytes at xs h = absurd (true≢false (sym h))
 not-used false bytes at xs h = let e : at ≡ at + 0 = omega arith in λ i. bytesPut bytes (e i)
 
-pub used-bytes : (used : Bool) (bytes : List ℕ) (at : ℕ) (after : List ℕ) (end : ℕ) (xs : List ℕ) → not used ≡ false → end ≡ at + length xs → after ≡ sets bytes at xs
+pub used-bytes : (used : Bool) (bytes : List ℕ) (at : ℕ) (after : List ℕ) (end : ℕ) (xs : List ℕ) → not used ≡ false → end
+    ≡ at + length xs → after ≡ sets bytes at xs
     → bytesPut after end ≡ putBytes (bytesPut bytes at) (cond used xs [])
 used-bytes true bytes at after end xs h e s = λ i. bytesPut (s i) (e i)
 used-bytes false bytes at after end xs h e s = absurd (true≢false h)
@@ -67,15 +73,20 @@ module _ (p : Contribution) (ws : List ℕ) (m : Markers) (number : ℕ) (bytes 
   abbrev eph : List ℕ
   eph = cond (m .eph) ephBytes []
 
-  pub front-put : (a e : BytesPut) (h : HeaderCoded) → a ≡ putBytes (bytesPut bytes 0) sop → h ≡ putHeader p ws (a .end) (a .bytes) → e ≡ putBytes (bytesPut (h .bytes) (h .end)) eph
+  pub front-put : (a e : BytesPut) (h : HeaderCoded) → a ≡ putBytes (bytesPut bytes 0) sop → h ≡ putHeader p ws (a .end) (a .bytes)
+      → e ≡ putBytes (bytesPut (h .bytes) (h .end)) eph
       → headerCoded (h .words) (e .bytes) (e .end) ≡ putFront p ws m number bytes
   unfolding putFront putHeader front withMarkers
   front-put a e h x y z =
       let head : List ℕ = pack (codeHeader p ws .bits) in
-      let s : bytesPut (h .bytes) (h .end) ≡ putBytes (bytesPut bytes 0) (sop ++ head) = ap (λ (k : HeaderCoded). bytesPut (k .bytes) (k .end)) y ∙ ap (λ (k : BytesPut). putBytes k head) x ∙ put-append (bytesPut bytes 0) sop head in
-      let t : e ≡ putBytes (bytesPut bytes 0) (sop ++ head ++ eph) = z ∙ ap (λ (k : BytesPut). putBytes k eph) s ∙ put-append (bytesPut bytes 0) (sop ++ head) eph in
+      let s : bytesPut (h .bytes) (h .end)
+      ≡ putBytes (bytesPut bytes 0) (sop ++ head) = ap (λ (k : HeaderCoded). bytesPut (k .bytes) (k .end)) y
+      ∙ ap (λ (k : BytesPut). putBytes k head) x ∙ put-append (bytesPut bytes 0) sop head in
+      let t : e ≡ putBytes (bytesPut bytes 0) (sop ++ head ++ eph) = z ∙ ap (λ (k : BytesPut). putBytes k eph) s
+      ∙ put-append (bytesPut bytes 0) (sop ++ head) eph in
       let n : 0 + length (sop ++ head ++ eph) ≡ length (sop ++ head ++ eph) = omega arith in
-      (λ i. headerCoded (y i .words) (t i .bytes) (t i .end)) ∙ (λ i. headerCoded (codeHeader p ws .words) (sets bytes 0 (sop ++ head ++ eph)) (n i))
+      (λ i. headerCoded (y i .words) (t i .bytes) (t i .end))
+      ∙ (λ i. headerCoded (codeHeader p ws .words) (sets bytes 0 (sop ++ head ++ eph)) (n i))
 
 -- a packet that nothing refuses
 module _ (ws : List ℕ) (n : ℕ) (p : Contribution) (r : NotRefused ws n p) where

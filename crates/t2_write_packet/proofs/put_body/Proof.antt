@@ -6,7 +6,8 @@ use Rattle.t2_write_packet.proofs.put_body.Statement.{statement}
 use Rattle.t2_write_packet.proofs.put_body.Tie as tie
 
 returns : tie.Need-returns
-returns c = let s = c .before .before .before .before .before .before in part-put (s .args .out .now) (s .args .at) _ (s .args .body .now) _ (s .pre) refl (c .before .before .copy-bytes .ensures)
+returns c = let s = c .before .before .before .before .before .before in
+    part-put (s .args .out .now) (s .args .at) _ (s .args .body .now) _ (s .pre) refl (c .before .before .copy-bytes .ensures)
 
 pub put-body-spec : {M : Type 1} → statement M
 put-body-spec =

@@ -17,7 +17,8 @@ returns-2 c =
     let a = c .before .before .before .before .before .before .before .before .before .before .before .args in
     let e = c .before .before .before .before .before .before .before .store .ensures in
     let f = c .before .before .before .store2 .ensures ∙ (λ i. set (e i) (add-one (a .at) i) 0x92) in
-    used-bytes (a .used) (a .out .now) (a .at) _ _ ephBytes (c .before .before .before .before .before .before .before .before .before .if1 .left) refl f
+    used-bytes (a .used) (a .out .now) (a .at) _ _ ephBytes
+    (c .before .before .before .before .before .before .before .before .before .if1 .left) refl f
 
 pub put-eph-spec : {M : Type 1} → statement M
 put-eph-spec =

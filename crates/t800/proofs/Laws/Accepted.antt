@@ -25,7 +25,8 @@ pub record StartAccepted (r n : ℕ) (given : List Band) (s : ℕ) (planes lent 
   pub blocks-in : blockTooDeep (blocks (take n given)) planes ≡ false
   pub state : start r n given s planes lent .state ≡ setZeroPlanes (blocks (take n given)) planes (freshState r s (take n given))
 
-pub start-accepted : (r n : ℕ) (given : List Band) (s : ℕ) (planes lent : List ℕ) → start r n given s planes lent .answer ≡ 0 → StartAccepted r n given s planes lent
+pub start-accepted : (r n : ℕ) (given : List Band) (s : ℕ) (planes lent : List ℕ) → start r n given s planes lent .answer ≡ 0
+    → StartAccepted r n given s planes lent
 unfolding start startRefusal
 start-accepted r n given s planes lent e =
     let bs : List Band = take n given in
@@ -64,7 +65,8 @@ abbrev pub NotTooDeep : List Block → Type 0
 NotTooDeep [] = Unit {0}
 NotTooDeep (k ∷ ks) = (k .planes < notYetPlanes) × NotTooDeep ks
 
-band-not-too-deep : (at : ℕ) (b : Band) (n i : ℕ) (rest : List Block) → b .planes < notYetPlanes → NotTooDeep rest → NotTooDeep (blocksFrom at b n i ++ rest)
+band-not-too-deep : (at : ℕ) (b : Band) (n i : ℕ) (rest : List Block) → b .planes < notYetPlanes → NotTooDeep rest
+    → NotTooDeep (blocksFrom at b n i ++ rest)
 unfolding blocksFrom
 band-not-too-deep at b zero i rest h g = g
 band-not-too-deep at b (suc n) i rest h g = (h, band-not-too-deep at b n (i + 1) rest h g)
@@ -74,5 +76,6 @@ unfolding blocksAt bandTooDeep any
 not-too-deep at [] h = tt
 not-too-deep at (b ∷ bs) h =
     let rest : Bool = any (λ (c : Band). ltb 998 (c .planes)) bs in
-    band-not-too-deep at b (blocksIn b) 0 (blocksAt (at + bandLength b) bs) (let l = ltb-false 998 (b .planes) (or-left (ltb 998 (b .planes)) rest h) in omega arith)
+    band-not-too-deep at b (blocksIn b) 0 (blocksAt (at + bandLength b) bs)
+    (let l = ltb-false 998 (b .planes) (or-left (ltb 998 (b .planes)) rest h) in omega arith)
     (not-too-deep (at + bandLength b) bs (or-right (ltb 998 (b .planes)) rest h))

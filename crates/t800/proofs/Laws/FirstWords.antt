@@ -42,7 +42,8 @@ same-bands ws vs e =
     )
     (refl, refl)
 
-with-layer : (r : ℕ) (bs : List Band) (s t u : ℕ) (ws vs : List ℕ) → SameBut3 ws vs → layer vs ≡ u → FirstWords r bs s t ws → FirstWords r bs s u vs
+with-layer : (r : ℕ) (bs : List Band) (s t u : ℕ) (ws vs : List ℕ) → SameBut3 ws vs → layer vs ≡ u → FirstWords r bs s t ws
+    → FirstWords r bs s u vs
 with-layer r bs s t u ws vs e l h =
     record {
       role-is = e 0 (omega arith) (omega arith) ∙ h .role-is;
@@ -54,8 +55,11 @@ with-layer r bs s t u ws vs e l h =
     }
 
 -- the next layer is set
-pub next-layer : (r : ℕ) (bs : List Band) (s t u : ℕ) (ws vs : List ℕ) → 13 ≤ length vs → ((j : ℕ) → j < 13 → getD vs j 0 ≡ getD ws j 0) → FirstWords r bs s t ws → FirstWords r bs s u (set vs 3 u)
-next-layer r bs s t u ws vs l e h = with-layer r bs s t u ws (set vs 3 u) (λ j g n. getD-set-other vs 3 j u 0 n ∙ e j g) (getD-set-same vs 3 u 0 (omega arith)) h
+pub next-layer : (r : ℕ) (bs : List Band) (s t u : ℕ) (ws vs : List ℕ) → 13 ≤ length vs
+    → ((j : ℕ) → j < 13 → getD vs j 0 ≡ getD ws j 0) → FirstWords r bs s t ws → FirstWords r bs s u (set vs 3 u)
+next-layer r bs s t u ws vs l e h =
+    with-layer r bs s t u ws (set vs 3 u) (λ j g n. getD-set-other vs 3 j u 0 n ∙ e j g) (getD-set-same vs 3 u 0 (omega arith)) h
 
-pub same-first-words : (r : ℕ) (bs : List Band) (s t : ℕ) (ws vs : List ℕ) → ((j : ℕ) → j < 13 → getD vs j 0 ≡ getD ws j 0) → FirstWords r bs s t ws → FirstWords r bs s t vs
+pub same-first-words : (r : ℕ) (bs : List Band) (s t : ℕ) (ws vs : List ℕ) → ((j : ℕ) → j < 13 → getD vs j 0 ≡ getD ws j 0)
+    → FirstWords r bs s t ws → FirstWords r bs s t vs
 same-first-words r bs s t ws vs e h = with-layer r bs s t t ws vs (λ j g n. e j g) (e 3 (omega arith) ∙ h .layer-is) h

@@ -49,19 +49,23 @@ bits-passes n =
     either AreBits (leb n 1) _ _ (z, tt)
     (either AreBits (leb n 2) _ _ (o, (z, tt))
     (either AreBits (leb n 5) _ _ (o, (o, bitsOf-bits 2 (n - 3)))
-    (either AreBits (leb n 36) _ _ (o, (o, (o, (o, bitsOf-bits 5 (n - 6))))) (bits-append (replicate 9 1) (bitsOf 7 (n - 37)) (bits-replicate 9 1 o) (bitsOf-bits 7 (n - 37))))))
+    (either AreBits (leb n 36) _ _ (o, (o, (o, (o, bitsOf-bits 5 (n - 6)))))
+    (bits-append (replicate 9 1) (bitsOf 7 (n - 37)) (bits-replicate 9 1 o) (bitsOf-bits 7 (n - 37))))))
 
 pub bits-fields : (l : ℕ) (gs : List Segment) → AreBits (lengthFields l gs)
 unfolding lengthFields
 bits-fields l [] = tt
-bits-fields l (g ∷ gs) = bits-append (bitsOf (width l (g .passes)) (g .bytes)) _ (bitsOf-bits (width l (g .passes)) (g .bytes)) (bits-fields l gs)
+bits-fields l (g ∷ gs) =
+    bits-append (bitsOf (width l (g .passes)) (g .bytes)) _ (bitsOf-bits (width l (g .passes)) (g .bytes)) (bits-fields l gs)
 
 abbrev CodedBits : Coded → Type 0
 CodedBits c = AreBits (c .bits)
 
 pub bits-inclusion : (t : ℕ) (k : Block) (c : ℕ) (ws : List ℕ) → CodedBits (codeInclusion t k c ws)
 unfolding codeInclusion
-bits-inclusion t k c ws = either CodedBits (isNew ws k) _ _ (bits-path (k .inclTree) (t + 1) (reverse (k .path)) 0 ws) (one-bit (cond (ltb 0 c) 1 0) (either (λ (x : ℕ). x < 2) (ltb 0 c) 1 0 (omega arith) (omega arith)))
+bits-inclusion t k c ws =
+    either CodedBits (isNew ws k) _ _ (bits-path (k .inclTree) (t + 1) (reverse (k .path)) 0 ws)
+    (one-bit (cond (ltb 0 c) 1 0) (either (λ (x : ℕ). x < 2) (ltb 0 c) 1 0 (omega arith) (omega arith)))
 
 pub bits-planes : (k : Block) (ws : List ℕ) → CodedBits (codeZeroPlanes k ws)
 unfolding codeZeroPlanes
@@ -73,7 +77,8 @@ bits-counted k c segs ws =
     let lb : ℕ = lengthBitsBefore ws k in
     let n : ℕ = increment lb segs in
     bits-append (passBits c ++ commaBits n) (lengthFields (lb + n) segs)
-    (bits-append (passBits c) (commaBits n) (bits-passes c) (bits-append (replicate n 1) (0 ∷ []) (bits-replicate n 1 (omega arith)) (one-bit 0 (omega arith)))) (bits-fields (lb + n) segs)
+    (bits-append (passBits c) (commaBits n) (bits-passes c)
+    (bits-append (replicate n 1) (0 ∷ []) (bits-replicate n 1 (omega arith)) (one-bit 0 (omega arith)))) (bits-fields (lb + n) segs)
 
 pub bits-block : (t : ℕ) (k : Block) (c : ℕ) (segs : List Segment) (ws : List ℕ) → CodedBits (codeBlock t k c segs ws)
 unfolding codeBlock
@@ -81,7 +86,8 @@ bits-block t k c segs ws =
     let i : Coded = codeInclusion t k c ws in
     let z : Coded = codeZeroPlanes k (i .words) in
     either CodedBits (eqb c 0) _ _ (bits-inclusion t k c ws)
-    (bits-append (i .bits ++ z .bits) _ (bits-append (i .bits) (z .bits) (bits-inclusion t k c ws) (bits-planes k (i .words))) (bits-counted k c segs (z .words)))
+    (bits-append (i .bits ++ z .bits) _ (bits-append (i .bits) (z .bits) (bits-inclusion t k c ws) (bits-planes k (i .words)))
+    (bits-counted k c segs (z .words)))
 
 pub bits-blocks : (t : ℕ) (ks : List Block) (cs lens marks ws : List ℕ) → AreBits (codeBlocks t ks cs lens marks ws .bits)
 unfolding codeBlocks
@@ -89,4 +95,5 @@ bits-blocks t [] cs lens marks ws = tt
 bits-blocks t (k ∷ ks) [] lens marks ws = tt
 bits-blocks t (k ∷ ks) (c ∷ cs) lens marks ws =
     let b : Coded = codeBlock t k c (segmentsOf (take c lens) (take c marks)) ws in
-    bits-append (b .bits) _ (bits-block t k c (segmentsOf (take c lens) (take c marks)) ws) (bits-blocks t ks cs (drop c lens) (drop c marks) (b .words))
+    bits-append (b .bits) _ (bits-block t k c (segmentsOf (take c lens) (take c marks)) ws)
+    (bits-blocks t ks cs (drop c lens) (drop c marks) (b .words))

@@ -1,4 +1,5 @@
--- Where the nodes and blocks of a state stand, and that they share no words. A `Layout` says what proofs about states ask of that; `layoutOf`
+-- Where the nodes and blocks of a state stand, and that they share no words. A `Layout` says what proofs about states ask of that;
+-- `layoutOf`
 -- is that of a state with given bands, and `blocks-placed` says that its blocks stand in it.
 use mathlib.Core.Path.{_≡_, refl, sym, ap, _∙_, subst}
 use mathlib.Core.Logic.{_≢_, _⊎_, inl, inr}
@@ -10,9 +11,12 @@ use native.Mathlib.Omega.{arith}
 use lib.Dec.{ltb}
 use Rattle.t800.specs.declared.Band.{Band}
 use Rattle.t800.specs.TagTree.{pathToRoot}
-use Rattle.t800.specs.State.{notYetIncluded, notYetPlanes, Block, blockOf, blocksIn, bandNodes, bandLength, blocksFrom, blocksAt, blocks, endOf}
+use Rattle.t800.specs.State.{notYetIncluded, notYetPlanes, Block, blockOf, blocksIn, bandNodes, bandLength, blocksFrom}
+use Rattle.t800.specs.State.{blocksAt, blocks, endOf}
 use Rattle.t800.proofs.Laws.Tests.{if-lt, if-ge}
-use Rattle.t800.proofs.Laws.Paths.{All, NotIn, Rising, rising-from, AllBelow, Ancestors, parentOf, parent-in-tree, LeafPath, leaf-path, addresses, Apart, AllApart, all-addresses, lower-not-in, reversed-apart, address-ancestors, all-reversed}
+use Rattle.t800.proofs.Laws.Paths.{All, NotIn, Rising, rising-from, AllBelow, Ancestors, parentOf, parent-in-tree, LeafPath}
+use Rattle.t800.proofs.Laws.Paths.{leaf-path, addresses, Apart, AllApart, all-addresses, lower-not-in, reversed-apart}
+use Rattle.t800.proofs.Laws.Paths.{address-ancestors, all-reversed}
 
 -- ---- the two trees of a band
 
@@ -156,14 +160,17 @@ node-between t at (b ∷ bs) a (inr n) = let i = node-between t (at + bandLength
 pub block-between : (at : ℕ) (bs : List Band) (p : ℕ) → BlockFrom at bs p → (at ≤ p) × (p + 4 ≤ endOf at bs)
 unfolding endOf
 block-between at [] p n = absurd n
-block-between at (b ∷ bs) p (inl c) = let l = band-length b in let m = end-after (at + bandLength b) bs in (omega (arith, c .1, c .2), omega (arith, c .1, c .2))
+block-between at (b ∷ bs) p (inl c) = let l = band-length b in let m = end-after (at + bandLength b) bs in
+    (omega (arith, c .1, c .2), omega (arith, c .1, c .2))
 block-between at (b ∷ bs) p (inr n) = let i = block-between (at + bandLength b) bs p n in (omega arith, i .1)
 
 pub other-tree-from : (at : ℕ) (bs : List Band) (a c : ℕ) → NodeFrom inclusion at bs a → NodeFrom zeroPlanes at bs c → a ≢ c
 other-tree-from at [] a c n m = absurd n
 other-tree-from at (b ∷ bs) a c (inl n) (inl m) = omega (arith, n .1, n .2, m .1, m .2)
-other-tree-from at (b ∷ bs) a c (inl n) (inr m) = let i = node-between zeroPlanes (at + bandLength b) bs c m .0 in let l = band-length b in omega (arith, n .1, n .2)
-other-tree-from at (b ∷ bs) a c (inr n) (inl m) = let i = node-between inclusion (at + bandLength b) bs a n .0 in let l = band-length b in omega (arith, m .1, m .2)
+other-tree-from at (b ∷ bs) a c (inl n) (inr m) = let i = node-between zeroPlanes (at + bandLength b) bs c m .0 in let l =
+    band-length b in omega (arith, n .1, n .2)
+other-tree-from at (b ∷ bs) a c (inr n) (inl m) = let i = node-between inclusion (at + bandLength b) bs a n .0 in let l =
+    band-length b in omega (arith, m .1, m .2)
 other-tree-from at (b ∷ bs) a c (inr n) (inr m) = other-tree-from (at + bandLength b) bs a c n m
 
 -- nodes of one band stand at multiples of three from its start
@@ -181,17 +188,22 @@ nodes-apart-from t u at (b ∷ bs) a c (inl n) (inl m) e =
     cells : (i j : ℕ) → a ≡ at + 3 * i → c ≡ at + 3 * j → Apart a c
     cells i j p q = omega arith
 nodes-apart-from t u at (b ∷ bs) a c (inl n) (inr m) e =
-    let i = node-between u (at + bandLength b) bs c m .0 in let l = band-length b in let k = tree-in t at b in omega (arith, n .1, n .2, k .1)
+    let i = node-between u (at + bandLength b) bs c m .0 in let l = band-length b in let k = tree-in t at b in
+    omega (arith, n .1, n .2, k .1)
 nodes-apart-from t u at (b ∷ bs) a c (inr n) (inl m) e =
-    let i = node-between t (at + bandLength b) bs a n .0 in let l = band-length b in let k = tree-in u at b in omega (arith, m .1, m .2, k .1)
+    let i = node-between t (at + bandLength b) bs a n .0 in let l = band-length b in let k = tree-in u at b in
+    omega (arith, m .1, m .2, k .1)
 nodes-apart-from t u at (b ∷ bs) a c (inr n) (inr m) e = nodes-apart-from t u (at + bandLength b) bs a c n m e
 
-pub node-off-block-from : (t : Tree) (at : ℕ) (bs : List Band) (a p : ℕ) → NodeFrom t at bs a → BlockFrom at bs p → 0 < (a - (p + 3)) + (p - (a + 2))
+pub node-off-block-from : (t : Tree) (at : ℕ) (bs : List Band) (a p : ℕ) → NodeFrom t at bs a → BlockFrom at bs p
+    → 0 < (a - (p + 3)) + (p - (a + 2))
 node-off-block-from t at [] a p n m = absurd n
 node-off-block-from t at (b ∷ bs) a p (inl n) (inl m) = let k = tree-in t at b in omega (arith, n .1, n .2, m .1, m .2, k .1)
 node-off-block-from t at (b ∷ bs) a p (inl n) (inr m) =
-    let i = block-between (at + bandLength b) bs p m .0 in let l = band-length b in let k = tree-in t at b in omega (arith, n .1, n .2, k .1)
-node-off-block-from t at (b ∷ bs) a p (inr n) (inl m) = let i = node-between t (at + bandLength b) bs a n .0 in let l = band-length b in omega (arith, m .1, m .2)
+    let i = block-between (at + bandLength b) bs p m .0 in let l = band-length b in let k = tree-in t at b in
+    omega (arith, n .1, n .2, k .1)
+node-off-block-from t at (b ∷ bs) a p (inr n) (inl m) = let i = node-between t (at + bandLength b) bs a n .0 in let l =
+    band-length b in omega (arith, m .1, m .2)
 node-off-block-from t at (b ∷ bs) a p (inr n) (inr m) = node-off-block-from t (at + bandLength b) bs a p n m
 
 pub blocks-apart-from : (at : ℕ) (bs : List Band) (p q : ℕ) → BlockFrom at bs p → BlockFrom at bs q → p ≢ q → 4 ≤ (p - q) + (q - p)
@@ -200,8 +212,10 @@ blocks-apart-from at (b ∷ bs) p q (inl n) (inl m) e = cells (n .0) (m .0) (n .
   where
     cells : (i j : ℕ) → p ≡ at + 6 * bandNodes b + 4 * i → q ≡ at + 6 * bandNodes b + 4 * j → 4 ≤ (p - q) + (q - p)
     cells i j x y = omega arith
-blocks-apart-from at (b ∷ bs) p q (inl n) (inr m) e = let i = block-between (at + bandLength b) bs q m .0 in let l = band-length b in omega (arith, n .1, n .2)
-blocks-apart-from at (b ∷ bs) p q (inr n) (inl m) e = let i = block-between (at + bandLength b) bs p n .0 in let l = band-length b in omega (arith, m .1, m .2)
+blocks-apart-from at (b ∷ bs) p q (inl n) (inr m) e = let i = block-between (at + bandLength b) bs q m .0 in let l =
+    band-length b in omega (arith, n .1, n .2)
+blocks-apart-from at (b ∷ bs) p q (inr n) (inl m) e = let i = block-between (at + bandLength b) bs p n .0 in let l =
+    band-length b in omega (arith, m .1, m .2)
 blocks-apart-from at (b ∷ bs) p q (inr n) (inr m) e = blocks-apart-from (at + bandLength b) bs p q n m e
 
 -- ---- parents, by address
@@ -218,7 +232,8 @@ parentAt at (b ∷ bs) a =
 number-back : (base j : ℕ) → (base + 3 * j - base) / 3 ≡ j
 number-back base j = omega arith
 
-parent-here : (t : Tree) (at : ℕ) (b : Band) (bs : List Band) (j : ℕ) → j < bandNodes b → parentAt at (b ∷ bs) (treeFrom t at b + 3 * j) ≡ treeFrom t at b + 3 * parentOf (b .across) (b .down) j
+parent-here : (t : Tree) (at : ℕ) (b : Band) (bs : List Band) (j : ℕ) → j < bandNodes b
+    → parentAt at (b ∷ bs) (treeFrom t at b + 3 * j) ≡ treeFrom t at b + 3 * parentOf (b .across) (b .down) j
 unfolding parentAt
 parent-here inclusion at b bs j h =
     if-lt (at + 3 * j) (at + 3 * bandNodes b) _ _ (omega arith)
@@ -228,7 +243,8 @@ parent-here zeroPlanes at b bs j h =
     ∙ if-lt (at + 3 * bandNodes b + 3 * j) (at + 6 * bandNodes b) _ _ (omega arith)
     ∙ ap (λ (z : ℕ). at + 3 * bandNodes b + 3 * parentOf (b .across) (b .down) z) (number-back (at + 3 * bandNodes b) j)
 
-parent-later : (at : ℕ) (b : Band) (bs : List Band) (a : ℕ) → at + bandLength b ≤ a → parentAt at (b ∷ bs) a ≡ parentAt (at + bandLength b) bs a
+parent-later : (at : ℕ) (b : Band) (bs : List Band) (a : ℕ) → at + bandLength b ≤ a → parentAt at (b ∷ bs) a
+    ≡ parentAt (at + bandLength b) bs a
 unfolding parentAt
 parent-later at b bs a h =
     let l = band-length b in
@@ -240,9 +256,16 @@ parent-in-band b j h = parent-in-tree (b .across) (b .down) j h
 
 pub parent-node-from : (t : Tree) (at : ℕ) (bs : List Band) (a : ℕ) → NodeFrom t at bs a → NodeFrom t at bs (parentAt at bs a)
 parent-node-from t at [] a n = absurd n
-parent-node-from t at (b ∷ bs) a (inl n) = inl (parentOf (b .across) (b .down) (n .0), parent-in-band b (n .0) (n .1), ap (parentAt at (b ∷ bs)) (n .2) ∙ parent-here t at b bs (n .0) (n .1))
+parent-node-from t at (b ∷ bs) a (inl n) =
+    inl (
+      parentOf (b .across) (b .down) (n .0),
+      parent-in-band b (n .0) (n .1),
+      ap (parentAt at (b ∷ bs)) (n .2)
+          ∙ parent-here t at b bs (n .0) (n .1),
+    )
 parent-node-from t at (b ∷ bs) a (inr n) =
-    inr (subst (NodeFrom t (at + bandLength b) bs) (sym (parent-later at b bs a (node-between t (at + bandLength b) bs a n .0))) (parent-node-from t (at + bandLength b) bs a n))
+    inr (subst (NodeFrom t (at + bandLength b) bs) (sym (parent-later at b bs a (node-between t (at + bandLength b) bs a n .0)))
+    (parent-node-from t (at + bandLength b) bs a n))
 
 -- ---- the whole state
 
@@ -288,8 +311,14 @@ not-in-before a m (b ∷ xs) h g = (omega (arith, g .0), not-in-before a m xs h 
 
 sides-separate : (m : ℕ) (k j : Block) → Before m k → From m j → Separate k j × Separate j k
 sides-separate m k j u b = (
-  record { places = omega (arith, u .place, b .place); leaf = λ t. not-in-from (leafOf t k) m (addresses (treeOf t j) (j .path)) (u .leaf t) (b .path t) },
-  record { places = omega (arith, u .place, b .place); leaf = λ t. not-in-before (leafOf t j) m (addresses (treeOf t k) (k .path)) (b .leaf t) (u .path t) },
+  record {
+    places = omega (arith, u .place, b .place);
+    leaf = λ t. not-in-from (leafOf t k) m (addresses (treeOf t j) (j .path)) (u .leaf t) (b .path t);
+  },
+  record {
+    places = omega (arith, u .place, b .place);
+    leaf = λ t. not-in-before (leafOf t j) m (addresses (treeOf t k) (k .path)) (b .leaf t) (u .path t);
+  },
 )
 
 separate-from : (m : ℕ) (k : Block) (js : List Block) → Before m k → AllFrom m js → SeparateFromAll k js
@@ -299,7 +328,11 @@ separate-from m k (j ∷ js) u b = (sides-separate m k j u (b .0), separate-from
 all-from-less : (m n : ℕ) (ks : List Block) → m ≤ n → AllFrom n ks → AllFrom m ks
 all-from-less m n [] h b = tt
 all-from-less m n (k ∷ ks) h b = (
-  record { place = le-trans h (b .0 .place); leaf = λ t. le-trans h (b .0 .leaf t); path = λ t. more (addresses (treeOf t k) (k .path)) (b .0 .path t) },
+  record {
+    place = le-trans h (b .0 .place);
+    leaf = λ t. le-trans h (b .0 .leaf t);
+    path = λ t. more (addresses (treeOf t k) (k .path)) (b .0 .path t);
+  },
   all-from-less m n ks h (b .1),
 )
   where
@@ -335,12 +368,16 @@ module _ (b : Band) (i : ℕ) (h : i < blocksIn b) where
   rising : Rising 0 (i ∷ on)
   rising = (omega arith, rising-from (i + 1) (blocksIn b) on (omega arith) above-leaves)
 
-  all-path : (P : ℕ → Type 0) (base : ℕ) → ((j : ℕ) → j < bandNodes b → P (base + 3 * j)) → All P (addresses base (pathToRoot (b .across) (b .down) i))
-  all-path P base f = subst (λ (z : List ℕ). All P (addresses base z)) (sym (leaf-path-in .is)) (all-addresses P base (bandNodes b) (i ∷ on) f below)
+  all-path : (P : ℕ → Type 0) (base : ℕ) → ((j : ℕ) → j < bandNodes b → P (base + 3 * j))
+      → All P (addresses base (pathToRoot (b .across) (b .down) i))
+  all-path P base f = subst (λ (z : List ℕ). All P (addresses base z)) (sym (leaf-path-in .is))
+      (all-addresses P base (bandNodes b) (i ∷ on) f below)
 
   -- another leaf is not on this one's path
   not-on-path : (base j : ℕ) → j < blocksIn b → j ≢ i → NotIn (base + 3 * j) (addresses base (pathToRoot (b .across) (b .down) i))
-  not-on-path base j l e = subst (λ (z : List ℕ). NotIn (base + 3 * j) (addresses base z)) (sym (leaf-path-in .is)) (omega arith, lower-not-in base j (blocksIn b) on l above-leaves)
+  not-on-path base j l e =
+      subst (λ (z : List ℕ). NotIn (base + 3 * j) (addresses base z)) (sym (leaf-path-in .is))
+      (omega arith, lower-not-in base j (blocksIn b) on l above-leaves)
 
   block-from : (at : ℕ) → From at (blockOf at b i)
   block-from at = record { place = omega arith; leaf = leaf; path = path }
@@ -374,8 +411,13 @@ two-separate at b i j h g e = record { places = omega arith; leaf = leaf }
 separate-in-band : (at : ℕ) (b : Band) (i n j : ℕ) → i < j → j + n ≤ blocksIn b → SeparateFromAll (blockOf at b i) (blocksFrom at b n j)
 unfolding blocksFrom
 separate-in-band at b i zero j h l = tt
-separate-in-band at b i (suc n) j h l =
-    ((two-separate at b i j (omega arith) (omega arith) (omega arith), two-separate at b j i (omega arith) (omega arith) (omega arith)), separate-in-band at b i n (j + 1) (omega arith) (omega arith))
+separate-in-band at b i (suc n) j h l = (
+  (
+    two-separate at b i j (omega arith) (omega arith) (omega arith),
+    two-separate at b j i (omega arith) (omega arith) (omega arith),
+  ),
+  separate-in-band at b i n (j + 1) (omega arith) (omega arith),
+)
 
 band-from : (at : ℕ) (b : Band) (n j : ℕ) → j + n ≤ blocksIn b → AllFrom at (blocksFrom at b n j)
 unfolding blocksFrom
@@ -404,13 +446,21 @@ lies-later L at b bs l =
     }
 
 block-placed : (L : Layout) (at : ℕ) (b : Band) (bs : List Band) (i : ℕ) → i < blocksIn b → LiesIn L at (b ∷ bs) → Placed L (blockOf at b i)
-block-placed L at b bs i h l = record { above = on b i h; path-is = leaf-path-in b i h .is; path = path; block = l .block (at + 6 * bandNodes b + 4 * i) (inl (i, h, refl)) }
+block-placed L at b bs i h l =
+    record {
+      above = on b i h;
+      path-is = leaf-path-in b i h .is;
+      path = path;
+      block = l .block (at + 6 * bandNodes b + 4 * i) (inl (i, h, refl));
+    }
   where
     path-in : (t : Tree) → PathIn L t (treeFrom t at b) i (on b i h)
     path-in t = record {
-      nodes = all-addresses (L .Node t) (treeFrom t at b) (bandNodes b) (i ∷ on b i h) (λ j g. l .node t (treeFrom t at b + 3 * j) (inl (j, g, refl))) (below b i h);
+      nodes = all-addresses (L .Node t) (treeFrom t at b) (bandNodes b) (i ∷ on b i h)
+          (λ j g. l .node t (treeFrom t at b + 3 * j) (inl (j, g, refl))) (below b i h);
       ancestors = address-ancestors (L .parent) (parentOf (b .across) (b .down)) (treeFrom t at b) (bandNodes b) i (on b i h)
-          (λ j g. l .parent t (treeFrom t at b + 3 * j) (inl (j, g, refl)) ∙ parent-here t at b bs j g) (below b i h) (leaf-path-in b i h .ancestors);
+          (λ j g. l .parent t (treeFrom t at b + 3 * j) (inl (j, g, refl)) ∙ parent-here t at b bs j g) (below b i h)
+          (leaf-path-in b i h .ancestors);
       apart = reversed-apart (treeFrom t at b) 0 (i ∷ on b i h) (rising b i h);
       leaf-once = lower-not-in (treeFrom t at b) i (blocksIn b) (on b i h) h (above-leaves b i h);
     }
@@ -419,7 +469,8 @@ block-placed L at b bs i h l = record { above = on b i h; path-is = leaf-path-in
     path inclusion = path-in inclusion
     path zeroPlanes = path-in zeroPlanes
 
-band-placed : (L : Layout) (at : ℕ) (b : Band) (bs : List Band) (n i : ℕ) (rest : List Block) → i + n ≤ blocksIn b → LiesIn L at (b ∷ bs) → AllFrom (at + bandLength b) rest → AllPlaced L rest
+band-placed : (L : Layout) (at : ℕ) (b : Band) (bs : List Band) (n i : ℕ) (rest : List Block) → i + n ≤ blocksIn b
+    → LiesIn L at (b ∷ bs) → AllFrom (at + bandLength b) rest → AllPlaced L rest
     → AllPlaced L (blocksFrom at b n i ++ rest)
 unfolding blocksFrom
 band-placed L at b bs zero i rest h l r f = f
@@ -436,7 +487,8 @@ bands-placed : (L : Layout) (at : ℕ) (bs : List Band) → LiesIn L at bs → A
 unfolding blocksAt
 bands-placed L at [] l = tt
 bands-placed L at (b ∷ bs) l =
-    band-placed L at b bs (blocksIn b) 0 (blocksAt (at + bandLength b) bs) (omega arith) l (bands-from (at + bandLength b) bs) (bands-placed L (at + bandLength b) bs (lies-later L at b bs l))
+    band-placed L at b bs (blocksIn b) 0 (blocksAt (at + bandLength b) bs) (omega arith) l (bands-from (at + bandLength b) bs)
+    (bands-placed L (at + bandLength b) bs (lies-later L at b bs l))
 
 pub blocks-placed : (bs : List Band) → AllPlaced (layoutOf bs) (blocks bs)
 unfolding blocks

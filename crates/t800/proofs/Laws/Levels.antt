@@ -29,9 +29,11 @@ ends-within zero w h w1 wf h1 hf = go (leb (w * h) 1)
     go : (t : Bool) → EndsInOneNode (record { w = w; h = h } ∷ cond t [] [])
     go true = omega arith
     go false = omega arith
-ends-within (suc f) w h w1 wf h1 hf = go (leb (w * h) 1) refl (ends-within f ((w + 1) / 2) ((h + 1) / 2) (omega arith) (omega arith) (omega arith) (omega arith))
+ends-within (suc f) w h w1 wf h1 hf =
+    go (leb (w * h) 1) refl (ends-within f ((w + 1) / 2) ((h + 1) / 2) (omega arith) (omega arith) (omega arith) (omega arith))
   where
-    go : (t : Bool) → leb (w * h) 1 ≡ t → EndsInOneNode (levelsFrom (suc f) ((w + 1) / 2) ((h + 1) / 2)) → EndsInOneNode (record { w = w; h = h } ∷ cond t [] (levelsFrom (suc f) ((w + 1) / 2) ((h + 1) / 2)))
+    go : (t : Bool) → leb (w * h) 1 ≡ t → EndsInOneNode (levelsFrom (suc f) ((w + 1) / 2) ((h + 1) / 2))
+        → EndsInOneNode (record { w = w; h = h } ∷ cond t [] (levelsFrom (suc f) ((w + 1) / 2) ((h + 1) / 2)))
     go true e r = let a : w * h ≤ 1 = leb-true (w * h) 1 e in (omega (arith, one-of w h h1 a), omega (arith, one-of h w w1 (omega arith)))
     go false e r = r
 
@@ -45,7 +47,8 @@ unfolding levelsFrom
 at-most zero w h = omega arith
 at-most (suc f) w h = go (leb (w * h) 1) (at-most f ((w + 1) / 2) ((h + 1) / 2))
   where
-    go : (t : Bool) → length (levelsFrom f ((w + 1) / 2) ((h + 1) / 2)) ≤ f → suc (length (cond t [] (levelsFrom f ((w + 1) / 2) ((h + 1) / 2)))) ≤ suc f
+    go : (t : Bool) → length (levelsFrom f ((w + 1) / 2) ((h + 1) / 2)) ≤ f
+        → suc (length (cond t [] (levelsFrom f ((w + 1) / 2) ((h + 1) / 2)))) ≤ suc f
     go true r = omega arith
     go false r = omega arith
 

@@ -43,7 +43,8 @@ unfolding segmentsFrom
 last-pass n len l m = rw (or-true (not (eqb m 0)))
 
 -- a contribution whose lists are right
-pub lists-right : (p : Contribution) (n : ℕ) → wrongLists p n ≡ false → (length (p .counts) ≡ n) × (length (p .lengths) ≡ sum (p .counts)) × (length (p .marks) ≡ sum (p .counts))
+pub lists-right : (p : Contribution) (n : ℕ) → wrongLists p n ≡ false → (length (p .counts) ≡ n)
+    × (length (p .lengths) ≡ sum (p .counts)) × (length (p .marks) ≡ sum (p .counts))
 unfolding wrongLists
 lists-right p n h =
     let a : Bool = not (eqb (length (p .counts)) n) in

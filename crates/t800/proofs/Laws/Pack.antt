@@ -37,13 +37,16 @@ last-may-follow x byte h = (h, go (eqb byte 255) refl)
 packed-may-follow : (x byte free : ℕ) (bs : List ℕ) → AreBits bs → (x ≡ 255 → byte + 2 ^ free ≤ 128) → MayFollow x (packFrom byte free bs)
 unfolding packFrom bitsAfter
 packed-may-follow x byte free [] bits h = last-may-follow x byte (λ e. omega (arith, h e, pow-pos free))
-packed-may-follow x byte zero (b ∷ bs) bits h = ((λ e. omega (arith, h e)), go (eqb byte 255) refl (λ n f. packed-may-follow byte n f bs (bits .1)))
+packed-may-follow x byte zero (b ∷ bs) bits h =
+    ((λ e. omega (arith, h e)), go (eqb byte 255) refl (λ n f. packed-may-follow byte n f bs (bits .1)))
   where
-    go : (t : Bool) → eqb byte 255 ≡ t → ((n f : ℕ) → (byte ≡ 255 → n + 2 ^ f ≤ 128) → MayFollow byte (packFrom n f bs)) → MayFollow byte (packFrom (b * 2 ^ (cond t 7 8 - 1)) (cond t 7 8 - 1) bs)
+    go : (t : Bool) → eqb byte 255 ≡ t → ((n f : ℕ) → (byte ≡ 255 → n + 2 ^ f ≤ 128) → MayFollow byte (packFrom n f bs))
+        → MayFollow byte (packFrom (b * 2 ^ (cond t 7 8 - 1)) (cond t 7 8 - 1) bs)
     go true e next = next (b * 64) 6 (λ _. omega (arith, bits .0))
     go false e next = next (b * 128) 7 (λ q. absurd (eqb-false byte 255 e q))
 packed-may-follow x byte (suc free) (b ∷ bs) bits h =
-    packed-may-follow x (byte + b * 2 ^ free) free bs (bits .1) (λ e. omega (arith, rw pow-suc at (h e), mul-le-mul-right (2 ^ free) (le-of-suc-le-suc (bits .0))))
+    packed-may-follow x (byte + b * 2 ^ free) free bs (bits .1)
+    (λ e. omega (arith, rw pow-suc at (h e), mul-le-mul-right (2 ^ free) (le-of-suc-le-suc (bits .0))))
 
 pub packed-no-marker : (bits : List ℕ) → AreBits bits → NoMarker (pack bits)
 unfolding pack

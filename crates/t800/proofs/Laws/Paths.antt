@@ -53,7 +53,8 @@ Halves w h (l ∷ ls) = (l .w ≡ w) × (l .h ≡ h) × Halves ((w + 1) / 2) ((h
 pub levels-halve : (f w h : ℕ) → Halves w h (levelsFrom f w h)
 unfolding levelsFrom
 levels-halve zero w h = tt
-levels-halve (suc f) w h = (refl, refl, either (Halves ((w + 1) / 2) ((h + 1) / 2)) (leb (w * h) 1) _ _ tt (levels-halve f ((w + 1) / 2) ((h + 1) / 2)))
+levels-halve (suc f) w h =
+    (refl, refl, either (Halves ((w + 1) / 2) ((h + 1) / 2)) (leb (w * h) 1) _ _ tt (levels-halve f ((w + 1) / 2) ((h + 1) / 2)))
 
 -- column x, row y of a level whose nodes are numbered from n on
 number-in : (n w h x y : ℕ) → x < w → y < h → n + y * w + x < n + w * h
@@ -76,8 +77,11 @@ path-below : (ls : List Level) (w h n x y m : ℕ) → Halves w h ls → x < w �
 unfolding pathFrom nodesIn
 path-below [] w h n x y m v hx hy b = tt
 path-below (l ∷ ls) w h n x y m v hx hy b =
-    let q = number-in n (l .w) (l .h) x y (omega (arith, v .0)) (omega (arith, v .1)) in
-    (omega arith, path-below ls ((w + 1) / 2) ((h + 1) / 2) (n + size l) (x / 2) (y / 2) m (v .2) (half-below x w hx) (half-below y h hy) (omega arith))
+    let q = number-in n (l .w) (l .h) x y (omega (arith, v .0)) (omega (arith, v .1)) in (
+      omega arith,
+      path-below ls ((w + 1) / 2) ((h + 1) / 2) (n + size l) (x / 2) (y / 2) m (v .2) (half-below x w hx)
+          (half-below y h hy) (omega arith),
+    )
 
 -- ---- parents
 
@@ -103,9 +107,11 @@ unfolding parentFrom
 parent-above l k ks n j h = if-ge j (n + size l) _ _ h
 
 -- two parent functions that agree from m on have the same ancestors there
-ancestors-by : (p q : ℕ → ℕ) (j : ℕ) (js : List ℕ) (m : ℕ) → m ≤ j → Rising m js → ((i : ℕ) → m ≤ i → p i ≡ q i) → Ancestors q j js → Ancestors p j js
+ancestors-by : (p q : ℕ → ℕ) (j : ℕ) (js : List ℕ) (m : ℕ) → m ≤ j → Rising m js → ((i : ℕ) → m ≤ i → p i ≡ q i) → Ancestors q j js
+    → Ancestors p j js
 ancestors-by p q j [] m h a e c = e j h ∙ c
-ancestors-by p q j (k ∷ ks) m h a e c = (c .0 ∙ sym (e j h), ancestors-by p q k ks m (a .0) (rising-from m (k + 1) ks (omega (arith, a .0)) (a .1)) e (c .1))
+ancestors-by p q j (k ∷ ks) m h a e c =
+    (c .0 ∙ sym (e j h), ancestors-by p q k ks m (a .0) (rising-from m (k + 1) ks (omega (arith, a .0)) (a .1)) e (c .1))
 
 path-ancestors : (l : Level) (ls : List Level) (w h n x y : ℕ) → Halves w h (l ∷ ls) → x < w → y < h
     → Ancestors (parentFrom (l ∷ ls) n) (n + y * l .w + x) (pathFrom ls (n + size l) (x / 2) (y / 2))
@@ -119,7 +125,8 @@ path-ancestors l (k ∷ ks) w h n x y v hx hy =
     let on : List ℕ = pathFrom ks (m + size k) (x / 2 / 2) (y / 2 / 2) in
     let r = path-rising (k ∷ ks) w₂ h₂ m (x / 2) (y / 2) (v .2) (half-below x w hx) (half-below y h hy) in (
       sym (parent-here l k ks n x y (omega (arith, v .0)) (omega (arith, v .1))),
-      ancestors-by (parentFrom (l ∷ k ∷ ks) n) (parentFrom (k ∷ ks) m) j on m (r .0) (rising-from m (j + 1) on (omega (arith, r .0)) (r .1)) (λ i g. parent-above l k ks n i g)
+      ancestors-by (parentFrom (l ∷ k ∷ ks) n) (parentFrom (k ∷ ks) m) j on m (r .0)
+          (rising-from m (j + 1) on (omega (arith, r .0)) (r .1)) (λ i g. parent-above l k ks n i g)
           (path-ancestors k ks w₂ h₂ m (x / 2) (y / 2) (v .2) (half-below x w hx) (half-below y h hy)),
     )
 
@@ -146,7 +153,8 @@ parent-below (l ∷ k ∷ ks) w h n j v lo hi =
     let hx : x < l .w = column-below (j - n) (l .w) (l .h) d in
     let q = number-in (n + size l) (k .w) (k .h) (x / 2) (y / 2) (omega (arith, v .0, v .2 .0)) (omega (arith, v .1, v .2 .1)) in
     rw (if-lt j (n + size l) _ _ b) (omega arith))
-    (λ b. rw (if-ge j (n + size l) _ _ b) (omega (arith, parent-below (k ∷ ks) ((w + 1) / 2) ((h + 1) / 2) (n + size l) j (v .2) b (omega arith))))
+    (λ b. rw (if-ge j (n + size l) _ _ b)
+    (omega (arith, parent-below (k ∷ ks) ((w + 1) / 2) ((h + 1) / 2) (n + size l) j (v .2) b (omega arith))))
 
 -- ---- the path from a leaf of a tree of w by h leaves
 
@@ -156,7 +164,8 @@ parentOf w h j = parentFrom (levels w h) 0 j
 pub parent-in-tree : (w h j : ℕ) → j < nodes w h → parentOf w h j < nodes w h
 unfolding parentOf nodes levels
 parent-in-tree w h j l =
-    le-trans (parent-below (levelsFrom 7 w h) w h 0 j (levels-halve 7 w h) (omega arith) (le-trans l (le-of-eq (sym (zero-add (nodesIn (levelsFrom 7 w h)))))))
+    le-trans (parent-below (levelsFrom 7 w h) w h 0 j (levels-halve 7 w h) (omega arith)
+    (le-trans l (le-of-eq (sym (zero-add (nodesIn (levelsFrom 7 w h)))))))
     (le-of-eq (zero-add (nodesIn (levelsFrom 7 w h))))
 
 pub record LeafPath (w h leaf : ℕ) : Type 0 where
@@ -178,11 +187,13 @@ leaf-path w h leaf b =
     let v : Halves w h (l ∷ ls) = levels-halve 7 w h in
     let e : 0 + y * w + x ≡ leaf = omega (arith, div-add-mod' leaf w) in
     let above : List ℕ = pathFrom ls (0 + w * h) (x / 2) (y / 2) in
-    let below : AllBelow (nodesIn (l ∷ ls)) ((0 + y * w + x) ∷ above) = path-below (l ∷ ls) w h 0 x y (nodesIn (l ∷ ls)) v hx hy (omega arith) in
+    let below : AllBelow (nodesIn (l ∷ ls)) ((0 + y * w + x) ∷ above) =
+    path-below (l ∷ ls) w h 0 x y (nodesIn (l ∷ ls)) v hx hy (omega arith) in
     record {
       above = above;
       is = ap (λ (z : ℕ). z ∷ above) e;
-      rising = rising-from (w * h) (0 + w * h) above (omega arith) (path-rising ls ((w + 1) / 2) ((h + 1) / 2) (0 + w * h) (x / 2) (y / 2) (v .2) (half-below x w hx) (half-below y h hy));
+      rising = rising-from (w * h) (0 + w * h) above (omega arith)
+          (path-rising ls ((w + 1) / 2) ((h + 1) / 2) (0 + w * h) (x / 2) (y / 2) (v .2) (half-below x w hx) (half-below y h hy));
       below = (subst (λ (z : ℕ). z < nodesIn (l ∷ ls)) e (below .0), below .1);
       ancestors = subst (λ (z : ℕ). Ancestors (parentFrom (l ∷ ls) 0) z above) e (path-ancestors l ls w h 0 x y v hx hy);
     }
@@ -208,7 +219,8 @@ abbrev pub AllApart : List ℕ → Type 0
 AllApart [] = Unit {0}
 AllApart (a ∷ xs) = ApartFromAll a xs × AllApart xs
 
-pub all-addresses : (P : ℕ → Type 0) (base m : ℕ) (js : List ℕ) → ((j : ℕ) → j < m → P (base + 3 * j)) → AllBelow m js → All P (addresses base js)
+pub all-addresses : (P : ℕ → Type 0) (base m : ℕ) (js : List ℕ) → ((j : ℕ) → j < m → P (base + 3 * j)) → AllBelow m js
+    → All P (addresses base js)
 all-addresses P base m [] f h = tt
 all-addresses P base m (j ∷ js) f h = (f j (h .0), all-addresses P base m js f (h .1))
 
@@ -228,7 +240,8 @@ rising-apart base m (j ∷ js) r = (lower-apart base j (j + 1) js (omega arith) 
 abbrev EachApart : ℕ → List ℕ → List ℕ → Type 0
 EachApart base js ks = All (λ a. ApartFromAll a (addresses base ks)) (addresses base js)
 
-each-cons : (base : ℕ) (js : List ℕ) (k : ℕ) (ks : List ℕ) → ApartFromAll (base + 3 * k) (addresses base js) → EachApart base js ks → EachApart base js (k ∷ ks)
+each-cons : (base : ℕ) (js : List ℕ) (k : ℕ) (ks : List ℕ) → ApartFromAll (base + 3 * k) (addresses base js) → EachApart base js ks
+    → EachApart base js (k ∷ ks)
 each-cons base [] k ks a p = tt
 each-cons base (j ∷ js) k ks a p = ((omega (arith, a .0), p .0), each-cons base js k ks (a .1) (p .1))
 
@@ -236,21 +249,25 @@ each-nil : (base : ℕ) (js : List ℕ) → EachApart base js []
 each-nil base [] = tt
 each-nil base (j ∷ js) = (tt, each-nil base js)
 
-reverse-onto : (base : ℕ) (js ks : List ℕ) → AllApart (addresses base js) → AllApart (addresses base ks) → EachApart base js ks → AllApart (addresses base (reverseAux js ks))
+reverse-onto : (base : ℕ) (js ks : List ℕ) → AllApart (addresses base js) → AllApart (addresses base ks) → EachApart base js ks
+    → AllApart (addresses base (reverseAux js ks))
 reverse-onto base [] ks d e a = e
 reverse-onto base (j ∷ js) ks d e a = reverse-onto base js (j ∷ ks) (d .1) (a .0, e) (each-cons base js j ks (d .0) (a .1))
 
 pub reversed-apart : (base m : ℕ) (js : List ℕ) → Rising m js → AllApart (addresses base (reverse js))
 reversed-apart base m js r = reverse-onto base js [] (rising-apart base m js r) tt (each-nil base js)
 
-pub address-ancestors : (parent q : ℕ → ℕ) (base m j : ℕ) (js : List ℕ) → ((i : ℕ) → i < m → parent (base + 3 * i) ≡ base + 3 * q i) → AllBelow m (j ∷ js) → Ancestors q j js
+pub address-ancestors : (parent q : ℕ → ℕ) (base m j : ℕ) (js : List ℕ) → ((i : ℕ) → i < m → parent (base + 3 * i) ≡ base + 3 * q i)
+    → AllBelow m (j ∷ js) → Ancestors q j js
     → Ancestors parent (base + 3 * j) (addresses base js)
 address-ancestors parent q base m j [] f b c = f j (b .0) ∙ ap (λ (z : ℕ). base + 3 * z) c
-address-ancestors parent q base m j (k ∷ ks) f b c = (ap (λ (z : ℕ). base + 3 * z) (c .0) ∙ sym (f j (b .0)), address-ancestors parent q base m k ks f (b .1) (c .1))
+address-ancestors parent q base m j (k ∷ ks) f b c =
+    (ap (λ (z : ℕ). base + 3 * z) (c .0) ∙ sym (f j (b .0)), address-ancestors parent q base m k ks f (b .1) (c .1))
 
 -- ---- the same nodes from the root
 
-all-onto : (P : ℕ → Type 0) (base : ℕ) (js ks : List ℕ) → All P (addresses base js) → All P (addresses base ks) → All P (addresses base (reverseAux js ks))
+all-onto : (P : ℕ → Type 0) (base : ℕ) (js ks : List ℕ) → All P (addresses base js) → All P (addresses base ks)
+    → All P (addresses base (reverseAux js ks))
 all-onto P base [] ks h g = g
 all-onto P base (j ∷ js) ks h g = all-onto P base js (j ∷ ks) (h .1) (h .0, g)
 

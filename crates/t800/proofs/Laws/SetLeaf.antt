@@ -1,4 +1,5 @@
--- Setting a leaf of a tag tree (B.10.2): which words it leaves alone, what the leaf then holds, and that no value lies below its parent's if
+-- Setting a leaf of a tag tree (B.10.2): which words it leaves alone, what the leaf then holds, and that no value lies below its
+-- parent's if
 -- none did before.
 use mathlib.Core.Path.{_≡_, refl, sym, ap, _∙_}
 use mathlib.Core.Logic.{_≢_}
@@ -15,7 +16,8 @@ use Rattle.t800.proofs.Laws.Paths.{All, NotIn, Ancestors, addresses}
 use Rattle.t800.proofs.Laws.Layout.{Tree, Layout}
 
 -- one step: a larger value is lowered, and the path goes on; or it ends
-pub lowers : (base n : ℕ) (ns : List ℕ) (v : ℕ) (ws : List ℕ) → v < value ws (base + 3 * n) → setValue base (n ∷ ns) v ws ≡ setValue base ns v (set ws (base + 3 * n) v)
+pub lowers : (base n : ℕ) (ns : List ℕ) (v : ℕ) (ws : List ℕ) → v < value ws (base + 3 * n) → setValue base (n ∷ ns) v ws
+    ≡ setValue base ns v (set ws (base + 3 * n) v)
 unfolding setValue
 lowers base n ns v ws h = if-lt v (value ws (base + 3 * n)) _ _ h
 
@@ -31,7 +33,8 @@ length-setValue base (n ∷ ns) v ws =
     (length-setValue base ns v (set ws (base + 3 * n) v) ∙ length-set ws (base + 3 * n) v) refl
 
 -- a word that is no value on the path stays
-pub off-path-stays : (base : ℕ) (ns : List ℕ) (v : ℕ) (ws : List ℕ) (i : ℕ) → NotIn i (addresses base ns) → getD (setValue base ns v ws) i 0 ≡ getD ws i 0
+pub off-path-stays : (base : ℕ) (ns : List ℕ) (v : ℕ) (ws : List ℕ) (i : ℕ) → NotIn i (addresses base ns)
+    → getD (setValue base ns v ws) i 0 ≡ getD ws i 0
 unfolding setValue
 off-path-stays base [] v ws i h = refl
 off-path-stays base (n ∷ ns) v ws i h =
@@ -39,7 +42,8 @@ off-path-stays base (n ∷ ns) v ws i h =
     (off-path-stays base ns v (set ws (base + 3 * n) v) i (h .1) ∙ getD-set-other ws (base + 3 * n) i v 0 (h .0)) refl
 
 -- no word rises, and none that isn't v changes: what holds of v and of each word before holds of each word after
-pub every-word : (P : ℕ → Type 0) (base : ℕ) (ns : List ℕ) (v : ℕ) (ws : List ℕ) (i : ℕ) → (v < getD ws i 0 → P v) → P (getD ws i 0) → P (getD (setValue base ns v ws) i 0)
+pub every-word : (P : ℕ → Type 0) (base : ℕ) (ns : List ℕ) (v : ℕ) (ws : List ℕ) (i : ℕ) → (v < getD ws i 0 → P v) → P (getD ws i 0)
+    → P (getD (setValue base ns v ws) i 0)
 unfolding setValue
 every-word P base [] v ws i f p = p
 every-word P base (n ∷ ns) v ws i f p =
@@ -57,7 +61,8 @@ every-word P base (n ∷ ns) v ws i f p =
     (λ h. rw (if-ge v (value ws a) (setValue base ns v (set ws a v)) ws h) p)
 
 -- the leaf has the value
-pub leaf-is-set : (base n : ℕ) (ns : List ℕ) (v : ℕ) (ws : List ℕ) → base + 3 * n < length ws → NotIn (base + 3 * n) (addresses base ns) → v < value ws (base + 3 * n)
+pub leaf-is-set : (base n : ℕ) (ns : List ℕ) (v : ℕ) (ws : List ℕ) → base + 3 * n < length ws
+    → NotIn (base + 3 * n) (addresses base ns) → v < value ws (base + 3 * n)
     → value (setValue base (n ∷ ns) v ws) (base + 3 * n) ≡ v
 leaf-is-set base n ns v ws l h lt =
     ap (λ (z : List ℕ). getD z (base + 3 * n) 0) (lowers base n ns v ws lt)
@@ -72,7 +77,8 @@ Ordered L ws = (t : Tree) (a : ℕ) → L .Node t a → value ws (L .parent a) �
 module _ (L : Layout) (v : ℕ) where
   -- the same, but that node j may lie above children that were lowered to v
   abbrev OrderedBut : ℕ → List ℕ → Type 0
-  OrderedBut j ws = (t : Tree) (a : ℕ) → L .Node t a → (L .parent a ≢ j → value ws (L .parent a) ≤ value ws a) × (L .parent a ≡ j → min v (value ws j) ≤ value ws a)
+  OrderedBut j ws = (t : Tree) (a : ℕ) → L .Node t a → (L .parent a ≢ j → value ws (L .parent a) ≤ value ws a)
+      × (L .parent a ≡ j → min v (value ws j) ≤ value ws a)
 
   ordered-but : (j : ℕ) (ws : List ℕ) → Ordered L ws → OrderedBut j ws
   ordered-but j ws o t a n = ((λ _. o t a n), (λ e. omega (arith, rw e at (o t a n))))
@@ -101,7 +107,8 @@ module _ (L : Layout) (v : ℕ) where
             omega (arith, rw m at (o t a n .0 (λ z. q (sym m ∙ z)))))),
       ))
 
-  keeps-order : (t : Tree) (base n : ℕ) (ns ws : List ℕ) → length ws ≡ L .size → All (L .Node t) (addresses base (n ∷ ns)) → Ancestors (L .parent) (base + 3 * n) (addresses base ns)
+  keeps-order : (t : Tree) (base n : ℕ) (ns ws : List ℕ) → length ws ≡ L .size → All (L .Node t) (addresses base (n ∷ ns))
+      → Ancestors (L .parent) (base + 3 * n) (addresses base ns)
       → OrderedBut (base + 3 * n) ws → Ordered L (setValue base (n ∷ ns) v ws)
   unfolding setValue
   keeps-order t base n [] ws l b c o =
@@ -119,6 +126,7 @@ module _ (L : Layout) (v : ℕ) where
       (keeps-order t base m ms (set ws j v) (length-set ws j v ∙ l) (b .1) (c .1) (rw (c .0) (but-parent j ws (omega arith) h o))))
       (λ h. rw (ends base n (m ∷ ms) v ws h) (but-none j ws h o))
 
-  pub setValue-ordered : (t : Tree) (base n : ℕ) (ns ws : List ℕ) → length ws ≡ L .size → All (L .Node t) (addresses base (n ∷ ns)) → Ancestors (L .parent) (base + 3 * n) (addresses base ns)
+  pub setValue-ordered : (t : Tree) (base n : ℕ) (ns ws : List ℕ) → length ws ≡ L .size → All (L .Node t) (addresses base (n ∷ ns))
+      → Ancestors (L .parent) (base + 3 * n) (addresses base ns)
       → Ordered L ws → Ordered L (setValue base (n ∷ ns) v ws)
   setValue-ordered t base n ns ws l b c o = keeps-order t base n ns ws l b c (ordered-but (base + 3 * n) ws o)

@@ -1,4 +1,5 @@
--- The parts of a band's range check, as the code reads them, make the definition's. Each law takes a Bool for each part, so that a part that
+-- The parts of a band's range check, as the code reads them, make the definition's. Each law takes a Bool for each part, so that a
+-- part that
 -- is known to fail decides.
 use mathlib.Core.Path.{_≡_, refl}
 use mathlib.Core.Bool.{Bool, true, false, cond, _&&_, _||_}
@@ -20,7 +21,8 @@ use Rattle.tcd_shape.specs.Parts.{LimitsOf, isOneOf, lengthBitsInRange, segment
 pub at-most-zero : (n : ℕ) → leb n 0 ≡ eqb n 0
 at-most-zero n = on-eq n 0 (λ e. simp (le-leb n 0 (omega arith), eq-eqb n 0 e)) (λ e. simp (lt-leb n 0 (omega arith), ne-eqb n 0 e))
 
-pub length-bits-parts : (p b least most : ℕ) → least ≡ cond (eqb p 0) 0 3 → most ≡ cond (eqb p 0) 0 32 → (leb least b && leb b most) ≡ lengthBitsInRange p b
+pub length-bits-parts : (p b least most : ℕ) → least ≡ cond (eqb p 0) 0 3 → most ≡ cond (eqb p 0) 0 32 → (leb least b && leb b most)
+    ≡ lengthBitsInRange p b
 unfolding lengthBitsInRange
 length-bits-parts p b least most x y = rw (x, y) (go (eqb p 0))
   where
@@ -33,7 +35,8 @@ pub segment-parts : (r : ℕ) (l : Limits) (p m u least : ℕ) (none : Bool) →
 unfolding segmentInRange writer
 segment-parts r l p m u least none x y = rw (y, ← x) (go none)
   where
-    go : (t : Bool) → (cond t (eqb m 0) (isOneOf l m) && leb (cond t 0 1) u && leb u m) ≡ cond t (eqb m 0 && eqb u 0) (isOneOf l m && leb 1 u && leb u m)
+    go : (t : Bool) → (cond t (eqb m 0) (isOneOf l m) && leb (cond t 0 1) u && leb u m)
+        ≡ cond t (eqb m 0 && eqb u 0) (isOneOf l m && leb 1 u && leb u m)
     go true = on-eq m 0 (λ e. rw (e, le-leb 0 u (omega arith)) (at-most-zero u)) (λ e. simp (ne-eqb m 0 e))
     go false = refl
 
@@ -43,7 +46,8 @@ unfolding blockWordsInRange blockInRange lengthBitsInRange segmentInRange isOneO
 block-words ws at r s t l p q h k = rw (k .first, k .second, k .third, p, q, h)
 
 -- n nodes in each tree, the second's from `zeros` on, and m blocks from `blocks` on
-pub band-parts : (ws : List ℕ) (at : ℕ) (b : Band) (n zeros blocks m : ℕ) (t u v : Bool) → n ≡ bandNodes b → zeros ≡ at + 3 * n → blocks ≡ zeros + 3 * n → m ≡ blocksIn b
+pub band-parts : (ws : List ℕ) (at : ℕ) (b : Band) (n zeros blocks m : ℕ) (t u v : Bool) → n ≡ bandNodes b → zeros ≡ at + 3 * n
+    → blocks ≡ zeros + 3 * n → m ≡ blocksIn b
     → t ≡ every n (λ i. nodeInRange ws notYetIncluded (at + 3 * i))
     → u ≡ every n (λ i. nodeInRange ws notYetPlanes (zeros + 3 * i))
     → v ≡ every m (λ i. blockInRange ws (blocks + 4 * i)) → (t && u && v) ≡ bandInRange ws at b

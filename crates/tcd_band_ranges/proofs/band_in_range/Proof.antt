@@ -27,7 +27,8 @@ nodes-in-range-requires c κs = let s = c .before in omega (arith, s .pre .0, ba
 returns : tie.Need-returns
 returns c =
     let s = c .before .before .before .args in
-    band-parts (s .state .now) (s .at) (s .band) _ _ _ _ false _ _ (c .before .before .before .pre .0) refl refl refl (sym (not-true _ (c .if1 .taken)) ∙ c .before .nodes-in-range .ensures) refl refl
+    band-parts (s .state .now) (s .at) (s .band) _ _ _ _ false _ _ (c .before .before .before .pre .0) refl refl refl
+    (sym (not-true _ (c .if1 .taken)) ∙ c .before .nodes-in-range .ensures) refl refl
 
 nodes-in-range-requires-2 : tie.Need-nodes-in-range-requires-2
 nodes-in-range-requires-2 c κs = let s = c .before .before .before in omega (arith, s .pre .0, band-length (s .args .band), s .pre .1)
@@ -41,7 +42,8 @@ returns-2 c =
     band-parts (s .state .now) (s .at) (s .band) _ _ _ _ true false _ (incl .before .before .pre .0) refl refl refl t u refl
 
 blocks-in-range-requires : tie.Need-blocks-in-range-requires
-blocks-in-range-requires c κs = let s = c .before .before .before .before .before .before in omega (arith, s .pre .0, c .band-blocks .ensures, band-length (s .args .band), s .pre .1)
+blocks-in-range-requires c κs = let s = c .before .before .before .before .before .before in
+    omega (arith, s .pre .0, c .band-blocks .ensures, band-length (s .args .band), s .pre .1)
 
 returns-3 : tie.Need-returns-3
 returns-3 c =
@@ -49,7 +51,8 @@ returns-3 c =
     let s = incl .before .before .args in
     let t = sym (not-false _ (c .before .before .before .before .if1 .left)) ∙ incl .nodes-in-range .ensures in
     let u = sym (not-false _ (c .before .before .if2 .left)) ∙ c .before .before .before .nodes-in-range2 .ensures in
-    band-parts (s .state .now) (s .at) (s .band) _ _ _ _ true true _ (incl .before .before .pre .0) refl refl (c .before .band-blocks .ensures) t u (c .blocks-in-range .ensures)
+    band-parts (s .state .now) (s .at) (s .band) _ _ _ _ true true _ (incl .before .before .pre .0) refl refl
+    (c .before .band-blocks .ensures) t u (c .blocks-in-range .ensures)
 
 pub band-in-range-spec : {M : Type 1} → statement M
 band-in-range-spec =

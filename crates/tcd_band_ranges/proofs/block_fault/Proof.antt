@@ -11,7 +11,8 @@ returns : tie.Need-returns
 unfolding blockWordsInRange
 returns c =
     let s = c .before .before .before .args in
-    fault-three _ _ _ (leb (s .passes) (164 * s .layer)) (lengthBitsInRange (s .passes) (s .bits)) (segmentInRange (s .role) (s .limits) (s .passes) (s .limit) (s .used))
+    fault-three _ _ _ (leb (s .passes) (164 * s .layer)) (lengthBitsInRange (s .passes) (s .bits))
+    (segmentInRange (s .role) (s .limits) (s .passes) (s .limit) (s .used))
     (c .before .before .passes-fault .ensures) (c .before .length-bits-fault .ensures) (c .segment-fault .ensures)
 
 pub block-fault-spec : {M : Type 1} → statement M

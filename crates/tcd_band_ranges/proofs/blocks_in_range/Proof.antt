@@ -27,8 +27,12 @@ loop-again c =
     let l = looped .loop in
     let layered = looped .before .before in
     let s = layered .before .before .before .before .args in
-    let words = block-words (s .state .now) (s .at + 4 * l .i) _ _ _ _ (layered .before .before .word .ensures) (layered .before .word2 .ensures) (layered .word3 .ensures) (looped .before .limits-of .ensures) in
-    (omega arith, faults-turn (λ k. blockInRange (s .state .now) (s .at + 4 * k)) (l .i) (l .faults) _ (l .inv .1) (c .block-fault .ensures ∙ ap fault words))
+    let words = block-words (s .state .now) (s .at + 4 * l .i) _ _ _ _ (layered .before .before .word .ensures)
+    (layered .before .word2 .ensures) (layered .word3 .ensures) (looped .before .limits-of .ensures) in (
+      omega arith,
+      faults-turn (λ k. blockInRange (s .state .now) (s .at + 4 * k)) (l .i) (l .faults) _ (l .inv .1)
+          (c .block-fault .ensures ∙ ap fault words),
+    )
 
 returns : tie.Need-returns Inv-loop μ-loop
 returns c =

@@ -14,7 +14,9 @@ returns c =
     let s = c .before .before .before .before .args in
     let least = c .before .before .before .chosen .result in
     let most = c .before .before .chosen2 .result in
-    ap₂ bitOr (c .before .over .ensures) (c .over2 .ensures) ∙ fault-both (leb least (s .bits)) (leb (s .bits) most) ∙ ap fault (length-bits-parts (s .passes) (s .bits) least most (c .before .before .before .chosen .ensures) (c .before .before .chosen2 .ensures))
+    ap₂ bitOr (c .before .over .ensures) (c .over2 .ensures) ∙ fault-both (leb least (s .bits)) (leb (s .bits) most)
+    ∙ ap fault (length-bits-parts (s .passes) (s .bits) least most (c .before .before .before .chosen .ensures)
+    (c .before .before .chosen2 .ensures))
 
 pub length-bits-fault-spec : {M : Type 1} → statement M
 length-bits-fault-spec =

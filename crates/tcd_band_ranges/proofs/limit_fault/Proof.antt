@@ -14,7 +14,8 @@ unfolding isOneOf
 returns c =
     let s = c .before .before .before .args in
     let m = s .limit in
-    ap₂ bitAnd (ap₂ bitAnd (c .before .before .differs .ensures) (c .before .differs2 .ensures) ∙ fault-either (eqb m (s .limits .first)) (eqb m (s .limits .second))) (c .differs3 .ensures)
+    ap₂ bitAnd (ap₂ bitAnd (c .before .before .differs .ensures) (c .before .differs2 .ensures)
+    ∙ fault-either (eqb m (s .limits .first)) (eqb m (s .limits .second))) (c .differs3 .ensures)
     ∙ fault-either (eqb m (s .limits .first) || eqb m (s .limits .second)) (eqb m (s .limits .third))
 
 pub limit-fault-spec : {M : Type 1} → statement M

@@ -23,11 +23,15 @@ loop-again : tie.Need-loop-again Inv-loop μ-loop
 unfolding nodeInRange
 loop-again c =
     let l = c .before .before .before .before .before .loop in
-    let s = c .before .before .before .before .before .before .before .args in
-    (omega arith, faults-turn (λ k. nodeInRange (s .state .now) (s .most) (s .at + 3 * k)) (l .i) (l .faults) _ (l .inv .1) (c .node-fault .ensures))
+    let s = c .before .before .before .before .before .before .before .args in (
+      omega arith,
+      faults-turn (λ k. nodeInRange (s .state .now) (s .most) (s .at + 3 * k)) (l .i) (l .faults) _ (l .inv .1)
+          (c .node-fault .ensures),
+    )
 
 returns : tie.Need-returns Inv-loop μ-loop
-returns c = let l = c .before .loop in let s = c .before .before .before .args in faults-end (λ k. nodeInRange (s .state .now) (s .most) (s .at + 3 * k)) (s .n) (l .i) (l .faults) (omega arith) (l .inv .1)
+returns c = let l = c .before .loop in let s = c .before .before .before .args in
+    faults-end (λ k. nodeInRange (s .state .now) (s .most) (s .at + 3 * k)) (s .n) (l .i) (l .faults) (omega arith) (l .inv .1)
 
 pub nodes-in-range-spec : {M : Type 1} → statement M
 nodes-in-range-spec =

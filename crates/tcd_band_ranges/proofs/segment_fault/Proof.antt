@@ -14,9 +14,14 @@ returns c =
     let s = c .before .before .before .before .before .before .before .args in
     let none = c .before .before .before .before .before .before .has-no-segment .result in
     let least = c .before .before .before .before .before .chosen .result in
-    let wrong = c .before .before .chosen2 .ensures ∙ ap₂ (cond none) (c .before .before .before .before .differs .ensures) (c .before .before .before .limit-fault .ensures) ∙ chosen-fault none (eqb (s .limit) 0) (isOneOf (s .limits) (s .limit)) in
-    fault-three _ _ _ (cond none (eqb (s .limit) 0) (isOneOf (s .limits) (s .limit))) (leb least (s .used)) (leb (s .used) (s .limit)) wrong (c .before .over .ensures) (c .over2 .ensures)
-    ∙ ap fault (segment-parts (s .role) (s .limits) (s .passes) (s .limit) (s .used) least none (c .before .before .before .before .before .before .has-no-segment .ensures) (c .before .before .before .before .before .chosen .ensures))
+    let wrong = c .before .before .chosen2 .ensures
+    ∙ ap₂ (cond none) (c .before .before .before .before .differs .ensures) (c .before .before .before .limit-fault .ensures)
+    ∙ chosen-fault none (eqb (s .limit) 0) (isOneOf (s .limits) (s .limit)) in
+    fault-three _ _ _ (cond none (eqb (s .limit) 0) (isOneOf (s .limits) (s .limit))) (leb least (s .used))
+    (leb (s .used) (s .limit)) wrong (c .before .over .ensures) (c .over2 .ensures)
+    ∙ ap fault (segment-parts (s .role) (s .limits) (s .passes) (s .limit) (s .used) least none
+    (c .before .before .before .before .before .before .has-no-segment .ensures)
+    (c .before .before .before .before .before .chosen .ensures))
 
 pub segment-fault-spec : {M : Type 1} → statement M
 segment-fault-spec =

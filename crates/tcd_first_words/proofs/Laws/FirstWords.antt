@@ -31,14 +31,17 @@ pub unused-zero : (ws : List ℕ) (n : ℕ) → n ≡ bandCount ws → every 9 (
 unfolding unusedBandsZero
 unused-zero ws n p = rw p
 
-pub shape-parts : (r : ℕ) (ws : List ℕ) (n : ℕ) (bs : List Band) (t u : Bool) → n ≡ bandCount ws → bs ≡ threeBands ws → t ≡ eqb (role ws) r → u ≡ badShape n (take n bs) → (t && not u) ≡ shapeInRange r ws
+pub shape-parts : (r : ℕ) (ws : List ℕ) (n : ℕ) (bs : List Band) (t u : Bool) → n ≡ bandCount ws → bs ≡ threeBands ws → t
+    ≡ eqb (role ws) r → u ≡ badShape n (take n bs) → (t && not u) ≡ shapeInRange r ws
 unfolding shapeInRange
 shape-parts r ws n bs t u en eb et eu =
     let e : take n bs ≡ bands ws = first-bands ws n bs en eb in
     rw (et, eu, e, en)
 
-pub first-words-parts : (r : ℕ) (ws : List ℕ) (shape style′ layer′ deep unused : Bool) → shape ≡ shapeInRange r ws → style′ ≡ badStyle (style ws) → layer′ ≡ leb (layer ws) notYetIncluded
-    → deep ≡ bandTooDeep (bands ws) → unused ≡ unusedBandsZero ws → (shape && not style′ && layer′ && not deep && unused) ≡ firstWordsInRange r ws
+pub first-words-parts : (r : ℕ) (ws : List ℕ) (shape style′ layer′ deep unused : Bool) → shape ≡ shapeInRange r ws → style′
+    ≡ badStyle (style ws) → layer′ ≡ leb (layer ws) notYetIncluded
+    → deep ≡ bandTooDeep (bands ws) → unused ≡ unusedBandsZero ws → (shape && not style′ && layer′ && not deep && unused)
+    ≡ firstWordsInRange r ws
 unfolding firstWordsInRange
 first-words-parts r ws a b c d e ea eb ec ed ee = rw (ea, eb, ec, ed, ee)
 
@@ -52,4 +55,6 @@ and-right false b e = absurd (let z : _≡_ {A = ℕ} 0 1 = cc in omega arith)
 
 pub shape-known : (r : ℕ) (ws : List ℕ) → shapeInRange r ws ≡ true → (1 ≤ bandCount ws) × (bandCount ws ≤ 3) × AllUpTo64 (bands ws)
 unfolding shapeInRange bands
-shape-known r ws e = shape-not-refused (bandCount ws) (threeBands ws) (not-true (badShape (bandCount ws) (bands ws)) (and-right (eqb (role ws) r) (not (badShape (bandCount ws) (bands ws))) e))
+shape-known r ws e =
+    shape-not-refused (bandCount ws) (threeBands ws)
+    (not-true (badShape (bandCount ws) (bands ws)) (and-right (eqb (role ws) r) (not (badShape (bandCount ws) (bands ws))) e))

@@ -11,7 +11,9 @@ use Rattle.tcd_first_words.proofs.first_words_in_range.Statement.{state
 use Rattle.tcd_first_words.proofs.first_words_in_range.Tie as tie
 
 returns : tie.Need-returns
-returns c = let s = c .before .before .before .args in first-words-parts (s .role) (s .state .now) false _ _ _ _ (sym (not-true _ (c .if1 .taken)) ∙ c .before .shape-in-range .ensures) refl refl refl refl
+returns c = let s = c .before .before .before .args in
+    first-words-parts (s .role) (s .state .now) false _ _ _ _
+    (sym (not-true _ (c .if1 .taken)) ∙ c .before .shape-in-range .ensures) refl refl refl refl
 
 returns-2 : tie.Need-returns-2
 returns-2 c =
@@ -36,7 +38,9 @@ returns-3 c =
 band-too-deep-requires : tie.Need-band-too-deep-requires
 band-too-deep-requires c κs =
     let s = c .before .before .before .before .before .before .before .before .before .args in
-    let k = shape-known (s .role) (s .state .now) (sym (c .before .before .before .before .before .before .before .shape-in-range .ensures) ∙ not-false _ (c .before .before .before .before .before .before .if1 .left)) in
+    let k = shape-known (s .role) (s .state .now)
+    (sym (c .before .before .before .before .before .before .before .shape-in-range .ensures)
+    ∙ not-false _ (c .before .before .before .before .before .before .if1 .left)) in
     omega (arith, c .word3 .ensures, k .1)
 
 returns-4 : tie.Need-returns-4
@@ -50,7 +54,8 @@ returns-4 c =
     let shape = sym (not-false _ (styled .before .before .if1 .left)) ∙ shaped .shape-in-range .ensures in
     let style′ = sym (layered .before .if2 .left) ∙ styled .is-refused .ensures ∙ ap badStyle (styled .before .word .ensures) in
     let layer′ = sym (le-leb (layer ws) notYetIncluded (omega (arith, layered .word2 .ensures))) in
-    let depth = sym (c .if4 .taken) ∙ deep .band-too-deep .ensures ∙ ap bandTooDeep (first-bands ws _ _ (deep .before .word3 .ensures) (s .pre)) in
+    let depth = sym (c .if4 .taken) ∙ deep .band-too-deep .ensures
+    ∙ ap bandTooDeep (first-bands ws _ _ (deep .before .word3 .ensures) (s .pre)) in
     first-words-parts (s .args .role) ws true false true true _ shape style′ layer′ depth refl
 
 returns-5 : tie.Need-returns-5
@@ -64,8 +69,10 @@ returns-5 c =
     let shape = sym (not-false _ (styled .before .before .if1 .left)) ∙ shaped .shape-in-range .ensures in
     let style′ = sym (layered .before .if2 .left) ∙ styled .is-refused .ensures ∙ ap badStyle (styled .before .word .ensures) in
     let layer′ = sym (le-leb (layer ws) notYetIncluded (omega (arith, layered .word2 .ensures))) in
-    let depth = sym (c .before .if4 .left) ∙ deep .band-too-deep .ensures ∙ ap bandTooDeep (first-bands ws _ _ (deep .before .word3 .ensures) (s .pre)) in
-    first-words-parts (s .args .role) ws true false true false _ shape style′ layer′ depth (c .unused-bands-zero .ensures ∙ unused-zero ws _ (deep .before .word3 .ensures))
+    let depth = sym (c .before .if4 .left) ∙ deep .band-too-deep .ensures
+    ∙ ap bandTooDeep (first-bands ws _ _ (deep .before .word3 .ensures) (s .pre)) in
+    first-words-parts (s .args .role) ws true false true false _ shape style′ layer′ depth
+    (c .unused-bands-zero .ensures ∙ unused-zero ws _ (deep .before .word3 .ensures))
 
 pub first-words-in-range-spec : {M : Type 1} → statement M
 first-words-in-range-spec =

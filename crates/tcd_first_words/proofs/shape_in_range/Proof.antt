@@ -8,7 +8,9 @@ use Rattle.tcd_first_words.proofs.shape_in_range.Statement.{statement}
 use Rattle.tcd_first_words.proofs.shape_in_range.Tie as tie
 
 returns : tie.Need-returns
-returns c = let s = c .before .before .before in shape-parts (s .args .role) (s .args .state .now) _ _ false _ refl (s .pre) (sym (ne-eqb _ _ (λ e. c .if1 .taken (c .before .word .ensures ∙ e)))) refl
+returns c = let s = c .before .before .before in
+    shape-parts (s .args .role) (s .args .state .now) _ _ false _ refl (s .pre)
+    (sym (ne-eqb _ _ (λ e. c .if1 .taken (c .before .word .ensures ∙ e)))) refl
 
 returns-2 : tie.Need-returns-2
 returns-2 c =

@@ -24,11 +24,15 @@ loop-holds c = (omega arith, refl)
 loop-again : tie.Need-loop-again Inv-loop μ-loop
 loop-again c =
     let l = c .before .before .loop in
-    let s = c .before .before .before .before .args in
-    (omega arith, faults-turn (λ k. ltb k (3 * s .n) || eqb (getD (s .state .now) (4 + k) 0) 0) (l .i) (l .faults) _ (l .inv .1) (c .unused-fault .ensures))
+    let s = c .before .before .before .before .args in (
+      omega arith,
+      faults-turn (λ k. ltb k (3 * s .n) || eqb (getD (s .state .now) (4 + k) 0) 0) (l .i) (l .faults) _ (l .inv .1)
+          (c .unused-fault .ensures),
+    )
 
 returns : tie.Need-returns Inv-loop μ-loop
-returns c = let l = c .before .loop in let s = c .before .before .before .args in faults-end (λ k. ltb k (3 * s .n) || eqb (getD (s .state .now) (4 + k) 0) 0) 9 (l .i) (l .faults) (omega arith) (l .inv .1)
+returns c = let l = c .before .loop in let s = c .before .before .before .args in
+    faults-end (λ k. ltb k (3 * s .n) || eqb (getD (s .state .now) (4 + k) 0) 0) 9 (l .i) (l .faults) (omega arith) (l .inv .1)
 
 pub unused-bands-zero-spec : {M : Type 1} → statement M
 unused-bands-zero-spec =

@@ -38,7 +38,8 @@ pub levels-of-three : (bs : List Band) (p q r : List Level) → length bs ≡ 3
 unfolding bandLevels
 levels-of-three bs p q r l x y z = rw (three bs noBand l, x, y, z)
 
-pub band-levels-at : (bs : List Band) (i : ℕ) → i < length bs → getD (bandLevels bs) i [] ≡ padded (levels (getD bs i noBand .across) (getD bs i noBand .down))
+pub band-levels-at : (bs : List Band) (i : ℕ) → i < length bs → getD (bandLevels bs) i []
+    ≡ padded (levels (getD bs i noBand .across) (getD bs i noBand .down))
 unfolding bandLevels
 band-levels-at [] i h = absurd (omega arith)
 band-levels-at (b ∷ bs) zero h = refl
@@ -71,7 +72,10 @@ sides-of-all [] e = tt
 sides-of-all (b ∷ bs) e =
     let rest : Bool = any (λ b. ltb 64 (b .across) || ltb 64 (b .down)) bs in
     let here = or-left (ltb 64 (b .across) || ltb 64 (b .down)) rest e in (
-      (ltb-false 64 (b .across) (or-left (ltb 64 (b .across)) (ltb 64 (b .down)) here), ltb-false 64 (b .down) (or-right (ltb 64 (b .across)) (ltb 64 (b .down)) here)),
+      (
+        ltb-false 64 (b .across) (or-left (ltb 64 (b .across)) (ltb 64 (b .down)) here),
+        ltb-false 64 (b .down) (or-right (ltb 64 (b .across)) (ltb 64 (b .down)) here),
+      ),
       sides-of-all bs (or-right (ltb 64 (b .across) || ltb 64 (b .down)) rest e),
     )
 
@@ -83,8 +87,13 @@ shape-not-refused n bs e =
     let count = or-left (eqb n 0 || ltb 3 n) tooWide e in
     let t : take n (take n bs) ≡ take n bs = take-take n n bs (le-refl n) in
     let one = eqb-false n 0 (or-left (eqb n 0) (ltb 3 n) count) in
-    let most = ltb-false 3 n (or-right (eqb n 0) (ltb 3 n) count) in
-    (omega arith, most, sides-of-all (take n bs) (subst (λ (l : List Band). any (λ b. ltb 64 (b .across) || ltb 64 (b .down)) l ≡ false) t (or-right (eqb n 0 || ltb 3 n) tooWide e)))
+    let most = ltb-false 3 n (or-right (eqb n 0) (ltb 3 n) count) in (
+      omega arith,
+      most,
+      sides-of-all (take n bs)
+          (subst (λ (l : List Band). any (λ b. ltb 64 (b .across) || ltb 64 (b .down)) l ≡ false) t
+          (or-right (eqb n 0 || ltb 3 n) tooWide e)),
+    )
 
 -- ---- words and blocks
 
@@ -109,7 +118,8 @@ blocks-split at b zero n i =
 blocks-split at b (suc m) n i =
     let e : suc m + n ≡ suc (m + n) = omega arith in
     let q : i + 1 + m ≡ i + suc m = omega arith in
-    rw e (ap (λ (ks : List Block). blockOf at b i ∷ ks) (blocks-split at b m n (i + 1) ∙ ap (λ (k : ℕ). blocksFrom at b m (i + 1) ++ blocksFrom at b n k) q))
+    rw e (ap (λ (ks : List Block). blockOf at b i ∷ ks)
+    (blocks-split at b m n (i + 1) ∙ ap (λ (k : ℕ). blocksFrom at b m (i + 1) ++ blocksFrom at b n k) q))
 
 length-at : (at : ℕ) (bs : List Band) → length (blocksAt at bs) ≡ sum (map blocksIn bs)
 unfolding blocksAt sum
@@ -135,9 +145,12 @@ pub blocks-turn : (bs : List Band) (n i total : ℕ) → n ≤ length bs → i <
     → total + blocksIn (getD bs i noBand) + sum (map blocksIn (drop (i + 1) (take n bs))) ≡ total + sum (map blocksIn (drop i (take n bs)))
 unfolding sum
 blocks-turn bs n i total h k =
-    let e : sum (map blocksIn (drop i (take n bs))) ≡ blocksIn (getD bs i noBand) + sum (map blocksIn (drop (i + 1) (take n bs))) = ap (λ (l : List Band). sum (map blocksIn l)) (next-band bs n i h k) in
+    let e : sum (map blocksIn (drop i (take n bs)))
+    ≡ blocksIn (getD bs i noBand) + sum (map blocksIn (drop (i + 1) (take n bs))) =
+    ap (λ (l : List Band). sum (map blocksIn l)) (next-band bs n i h k) in
     omega arith
 
-pub end-turn : (bs : List Band) (n i at : ℕ) → n ≤ length bs → i < n → endOf (at + bandLength (getD bs i noBand)) (drop (i + 1) (take n bs)) ≡ endOf at (drop i (take n bs))
+pub end-turn : (bs : List Band) (n i at : ℕ) → n ≤ length bs → i < n
+    → endOf (at + bandLength (getD bs i noBand)) (drop (i + 1) (take n bs)) ≡ endOf at (drop i (take n bs))
 unfolding endOf
 end-turn bs n i at h k = sym (ap (endOf at) (next-band bs n i h k))

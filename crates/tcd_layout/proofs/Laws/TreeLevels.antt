@@ -47,21 +47,25 @@ module _ (x y u v : ℕ) (below : 1 < x * y) (across : u ≡ (x + 1) / 2) (down 
   parents : (n m : ℕ) → n ≡ suc m → levelsFrom n x y ≡ level x y ∷ levelsFrom m u v
   parents n m e = levels-on x y n m e below ∙ rw (across, down)
 
-  pub stored-turn : (tree : List Level) (i : ℕ) → i < 7 → sets (set tree i (level x y)) (i + 1) (levelsFrom (7 - (i + 1)) u v) ≡ sets tree i (levelsFrom (7 - i) x y)
+  pub stored-turn : (tree : List Level) (i : ℕ) → i < 7 → sets (set tree i (level x y)) (i + 1) (levelsFrom (7 - (i + 1)) u v)
+      ≡ sets tree i (levelsFrom (7 - i) x y)
   stored-turn tree i h =
       ap (λ (j : ℕ). sets (set tree i (level x y)) j (levelsFrom (7 - (i + 1)) u v)) (add-one i)
       ∙ sym (ap (λ (ls : List Level). sets tree i ls) (parents (7 - i) (7 - (i + 1)) (omega arith)))
 
   pub counted-turn : (i : ℕ) → i < 7 → i + 1 + length (levelsFrom (7 - (i + 1)) u v) ≡ i + length (levelsFrom (7 - i) x y)
-  counted-turn i h = let e : length (levelsFrom (7 - i) x y) ≡ suc (length (levelsFrom (7 - (i + 1)) u v)) = ap length (parents (7 - i) (7 - (i + 1)) (omega arith)) in omega arith
+  counted-turn i h = let e : length (levelsFrom (7 - i) x y)
+      ≡ suc (length (levelsFrom (7 - (i + 1)) u v)) = ap length (parents (7 - i) (7 - (i + 1)) (omega arith)) in omega arith
 
   pub summed-turn : (n sum : ℕ) → 0 < n → sum + x * y + nodesIn (levelsFrom (n - 1) u v) ≡ sum + nodesIn (levelsFrom n x y)
   unfolding nodesIn
-  summed-turn n sum h = let e : nodesIn (levelsFrom n x y) ≡ x * y + nodesIn (levelsFrom (n - 1) u v) = ap nodesIn (parents n (n - 1) (omega arith)) in omega arith
+  summed-turn n sum h = let e : nodesIn (levelsFrom n x y)
+      ≡ x * y + nodesIn (levelsFrom (n - 1) u v) = ap nodesIn (parents n (n - 1) (omega arith)) in omega arith
 
 pub summed-stop : (x y n sum : ℕ) → 0 < n → x * y ≤ 1 → sum + x * y ≡ sum + nodesIn (levelsFrom n x y)
 unfolding nodesIn
-summed-stop x y n sum h k = let e : nodesIn (levelsFrom n x y) ≡ x * y + 0 = ap nodesIn (levels-stop x y n (n - 1) (omega arith) k) in omega arith
+summed-stop x y n sum h k = let e : nodesIn (levelsFrom n x y)
+    ≡ x * y + 0 = ap nodesIn (levels-stop x y n (n - 1) (omega arith) k) in omega arith
 
 -- a level of a tree with sides up to 64
 pub area-up-to-4096 : (w h : ℕ) → w ≤ 64 → h ≤ 64 → w * h ≤ 4096
@@ -74,7 +78,8 @@ nodes-from-up-to (suc f) w h k l =
     let a = area-up-to-4096 w h k l in
     let r = nodes-from-up-to f ((w + 1) / 2) ((h + 1) / 2) (omega arith) (omega arith) in
     let above : List Level = levelsFrom f ((w + 1) / 2) ((h + 1) / 2) in
-    let e : nodesIn (cond (leb (w * h) 1) [] above) ≤ 4096 * f = either (λ (ls : List Level). nodesIn ls ≤ 4096 * f) (leb (w * h) 1) [] above (omega arith) r in
+    let e : nodesIn (cond (leb (w * h) 1) [] above) ≤ 4096 * f =
+    either (λ (ls : List Level). nodesIn ls ≤ 4096 * f) (leb (w * h) 1) [] above (omega arith) r in
     omega arith
 
 -- far more than there are, and enough that no sum of words wraps

@@ -7,7 +7,8 @@ use Rattle.tcd_layout.proofs.area.Statement.{statement}
 use Rattle.tcd_layout.proofs.area.Tie as tie
 
 mul-result : tie.Need-mul-result
-mul-result c = let b : c .args .w * c .args .h ≤ 4294967295 * 4294967295 = mul-le-mul {n₂ = 4294967295} {m₂ = 4294967295} (omega arith) (omega arith) in omega arith
+mul-result c = let b : c .args .w * c .args .h ≤ 4294967295 * 4294967295 =
+    mul-le-mul {n₂ = 4294967295} {m₂ = 4294967295} (omega arith) (omega arith) in omega arith
 
 pub area-spec : {M : Type 1} → statement M
 area-spec = tie.close (tie.spec mul-result (λ c. search needs))

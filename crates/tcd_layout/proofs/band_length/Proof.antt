@@ -15,7 +15,13 @@ mul-result-2 c = let s = c .before .before in omega (arith, c .band-blocks .ensu
 add-result : tie.Need-add-result
 add-result c =
     let s = c .before .before in
-    omega (arith, c .before .band-nodes .ensures, c .band-blocks .ensures, nodes-of-band-up-to (s .args .band) (s .pre), blocks-up-to-4096 (s .args .band) (s .pre))
+    omega (
+      arith,
+      c .before .band-nodes .ensures,
+      c .band-blocks .ensures,
+      nodes-of-band-up-to (s .args .band) (s .pre),
+      blocks-up-to-4096 (s .args .band) (s .pre),
+    )
 
 returns : tie.Need-returns
 unfolding bandLength

@@ -32,7 +32,12 @@ add-at c =
     let s = c .before .before .before .before in
     let l = c .before .before .before .loop in
     let g : length (s .args .t1) ≡ 3 = search needs in
-    omega (arith, c .band-length .ensures, band-length-up-to (getD (s .args .t1) (l .i) noBand) (sides-of-first (s .args .t1) (s .args .n) (l .i) (omega arith) (omega arith) (s .pre .1)))
+    omega (
+      arith,
+      c .band-length .ensures,
+      band-length-up-to (getD (s .args .t1) (l .i) noBand)
+          (sides-of-first (s .args .t1) (s .args .n) (l .i) (omega arith) (omega arith) (s .pre .1)),
+    )
 
 loop-again : tie.Need-loop-again Inv-loop μ-loop
 loop-again c =
@@ -41,8 +46,11 @@ loop-again c =
     let g : length (s .args .t1) ≡ 3 = search needs in
     let b : Band = getD (s .args .t1) (l .i) noBand in
     let m = band-length-up-to b (sides-of-first (s .args .t1) (s .args .n) (l .i) (omega arith) (omega arith) (s .pre .1)) in
-    let e = end-turn (s .args .t1) (s .args .n) (l .i) (l .at) (omega arith) (omega arith) in
-    (omega arith, omega (arith, c .band-length .ensures), ap (λ (w : ℕ). endOf (l .at + w) (drop (l .i + 1) (take (s .args .n) (s .args .t1)))) (c .band-length .ensures) ∙ e ∙ l .inv .2)
+    let e = end-turn (s .args .t1) (s .args .n) (l .i) (l .at) (omega arith) (omega arith) in (
+      omega arith,
+      omega (arith, c .band-length .ensures),
+      ap (λ (w : ℕ). endOf (l .at + w) (drop (l .i + 1) (take (s .args .n) (s .args .t1)))) (c .band-length .ensures) ∙ e ∙ l .inv .2,
+    )
 
 returns : tie.Need-returns Inv-loop μ-loop
 unfolding endOf

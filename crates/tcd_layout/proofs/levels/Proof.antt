@@ -31,7 +31,8 @@ returns c =
 loop-again : tie.Need-loop-again Inv-loop μ-loop
 loop-again c =
     let l = c .before .before .before .before .before .loop in
-    let e = stored-turn (l .x) (l .y) _ _ (omega (arith, c .before .before .before .area .ensures)) (c .before .half-up .ensures) (c .half-up2 .ensures) (l .tree) (l .i) (omega arith) in
+    let e = stored-turn (l .x) (l .y) _ _ (omega (arith, c .before .before .before .area .ensures)) (c .before .half-up .ensures)
+    (c .half-up2 .ensures) (l .tree) (l .i) (omega arith) in
     (simp length-set (l .inv .0), omega arith, e ∙ l .inv .2)
 
 returns-2 : tie.Need-returns-2 Inv-loop μ-loop

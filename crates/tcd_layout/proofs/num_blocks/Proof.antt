@@ -13,7 +13,8 @@ use Rattle.tcd_layout.proofs.num_blocks.Statement.{statement}
 use Rattle.tcd_layout.proofs.num_blocks.Tie as tie
 
 abbrev Inv-loop : tie.InvT-loop
-Inv-loop n bands total₀ i₀ total i = (i ≤ n) × (total ≤ 4096 * i) × (total + sum (map blocksIn (drop i (take n bands))) ≡ length (blocks (take n bands)))
+Inv-loop n bands total₀ i₀ total i = (i ≤ n) × (total ≤ 4096 * i)
+    × (total + sum (map blocksIn (drop i (take n bands))) ≡ length (blocks (take n bands)))
 
 abbrev μ-loop : tie.MeasureT-loop
 μ-loop n bands total₀ i₀ total i = n - i

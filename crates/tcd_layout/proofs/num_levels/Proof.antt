@@ -27,7 +27,8 @@ returns c =
 loop-again : tie.Need-loop-again Inv-loop μ-loop
 loop-again c =
     let l = c .before .before .before .before .before .loop in
-    let e = counted-turn (l .x) (l .y) _ _ (omega (arith, c .before .before .before .area .ensures)) (c .before .half-up .ensures) (c .half-up2 .ensures) (l .i) (omega arith) in
+    let e = counted-turn (l .x) (l .y) _ _ (omega (arith, c .before .before .before .area .ensures)) (c .before .half-up .ensures)
+    (c .half-up2 .ensures) (l .i) (omega arith) in
     (omega arith, e ∙ l .inv .1)
 
 returns-2 : tie.Need-returns-2 Inv-loop μ-loop

@@ -8,7 +8,8 @@ use Rattle.tcd_layout.proofs.num_nodes.Statement.{statement}
 use Rattle.tcd_layout.proofs.num_nodes.Tie as tie
 
 abbrev Inv-loop : tie.InvT-loop
-Inv-loop w h x₀ y₀ sum₀ left₀ x y sum left = (x ≤ 64) × (y ≤ 64) × (left ≤ 7) × (sum ≤ 4096 * (7 - left)) × (sum + nodesIn (levelsFrom left x y) ≡ nodes w h)
+Inv-loop w h x₀ y₀ sum₀ left₀ x y sum left = (x ≤ 64) × (y ≤ 64) × (left ≤ 7) × (sum ≤ 4096 * (7 - left))
+    × (sum + nodesIn (levelsFrom left x y) ≡ nodes w h)
 
 abbrev μ-loop : tie.MeasureT-loop
 μ-loop w h x₀ y₀ sum₀ left₀ x y sum left = left
@@ -32,7 +33,8 @@ loop-again c =
     let l = c .before .before .before .before .before .loop in
     let a = c .before .before .before .area .ensures in
     let small = area-up-to-4096 (l .x) (l .y) (l .inv .0) (l .inv .1) in
-    let e = summed-turn (l .x) (l .y) _ _ (omega arith) (c .before .half-up .ensures) (c .half-up2 .ensures) (l .left) (l .sum) (omega arith) in
+    let e = summed-turn (l .x) (l .y) _ _ (omega arith) (c .before .half-up .ensures) (c .half-up2 .ensures) (l .left) (l .sum)
+    (omega arith) in
     (omega (arith, c .before .half-up .ensures), omega (arith, c .half-up2 .ensures), omega arith, omega arith, omega (arith, l .inv .4))
 
 returns-2 : tie.Need-returns-2 Inv-loop μ-loop

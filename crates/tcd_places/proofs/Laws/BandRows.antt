@@ -39,20 +39,30 @@ module _ (size start : ℕ) (b : Band) (h : BandIn size start b) where
     abbrev row : List ℕ
     row = rowOver (padded (levels (b .across) (b .down))) (length (levels (b .across) (b .down))) y
 
-    in-row : (base x : ℕ) → x < b .across → base + 3 * bandNodes b ≤ start + 6 * bandNodes b + 4 * (y * b .across) → PathIn (place .at) base row (place .depth) (0 + x)
+    in-row : (base x : ℕ) → x < b .across → base + 3 * bandNodes b ≤ start + 6 * bandNodes b + 4 * (y * b .across)
+        → PathIn (place .at) base row (place .depth) (0 + x)
     unfolding bandNodes
-    in-row base x k e = subst (PathIn (place .at) base row (place .depth)) (sym (zero-add x)) (tgt.path-in (b .across) (b .down) _ _ has-levels x y k l (place .at) base e)
+    in-row base x k e = subst (PathIn (place .at) base row (place .depth)) (sym (zero-add x))
+        (tgt.path-in (b .across) (b .down) _ _ has-levels x y k l (place .at) base e)
 
     pub row-in : RowIn size place row (b .across)
-    row-in = record { incl = λ x k. in-row start x k (omega arith); zero = λ x k. in-row (start + 3 * bandNodes b) x k (omega arith); inside = row-ends y l; small = omega (arith, h .sides .0) }
+    row-in = record {
+      incl = λ x k. in-row start x k (omega arith);
+      zero = λ x k. in-row (start + 3 * bandNodes b) x k (omega arith);
+      inside = row-ends y l;
+      small = omega (arith, h .sides .0);
+    }
 
     -- the code's place, row and width are these
-    pub at-row : (P : Place → List ℕ → ℕ → Type 0) (p : Place) (r : List ℕ) (n : ℕ) → p ≡ place → r ≡ row → n ≡ b .across → P place row (b .across) → P p r n
-    at-row P p r n a c d k = subst (λ (z : Place). P z r n) (sym a) (subst (λ (z : List ℕ). P place z n) (sym c) (subst (P place row) (sym d) k))
+    pub at-row : (P : Place → List ℕ → ℕ → Type 0) (p : Place) (r : List ℕ) (n : ℕ) → p ≡ place → r ≡ row → n ≡ b .across
+        → P place row (b .across) → P p r n
+    at-row P p r n a c d k =
+        subst (λ (z : Place). P z r n) (sym a) (subst (λ (z : List ℕ). P place z n) (sym c) (subst (P place row) (sym d) k))
 
     path-as : (x : ℕ) → x < b .across → pathOver row (place .depth) (0 + x) ≡ pathToRoot (b .across) (b .down) (y * b .across + x)
     path-as x k =
-        ap (pathOver row (place .depth)) (zero-add x) ∙ tgt.path-climbs (b .across) (b .down) _ _ has-levels x y k l ∙ sym (tgt.climb (b .across) (b .down) _ _ has-levels x y k l .is)
+        ap (pathOver row (place .depth)) (zero-add x) ∙ tgt.path-climbs (b .across) (b .down) _ _ has-levels x y k l
+        ∙ sym (tgt.climb (b .across) (b .down) _ _ has-levels x y k l .is)
 
     pub same-block : (x : ℕ) → x < b .across → blockIn (placeAt place x) row (b .planes) ≡ blockOf start b (y * b .across + x)
     same-block x k =
@@ -76,7 +86,8 @@ module _ (size start : ℕ) (b : Band) (h : BandIn size start b) where
 
     pub split-row : left y ≡ blocksFrom start b (b .across) (y * b .across + 0) ++ left (y + 1)
     split-row =
-        let e : b .across * (b .down - y) ≡ b .across + b .across * (b .down - (y + 1)) = let d : b .down - y ≡ suc (b .down - (y + 1)) = omega arith in ap (λ (z : ℕ). b .across * z) d ∙ omega arith in
+        let e : b .across * (b .down - y) ≡ b .across + b .across * (b .down - (y + 1)) = let d : b .down - y
+        ≡ suc (b .down - (y + 1)) = omega arith in ap (λ (z : ℕ). b .across * z) d ∙ omega arith in
         let f : y * b .across + b .across ≡ (y + 1) * b .across = omega arith in
         let g : y * b .across ≡ y * b .across + 0 = omega arith in
         ap (λ (z : ℕ). blocksFrom start b z (y * b .across)) e

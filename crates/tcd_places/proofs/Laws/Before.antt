@@ -13,17 +13,23 @@ use Rattle.tgt.specs.Path.{nodesOver, pathOver, PathIn}
 -- ---- a path
 
 pub path-wider : (m n base : ℕ) (row : List ℕ) (depth x : ℕ) → m ≤ n → PathIn m base row depth x → PathIn n base row depth x
-path-wider m n base row depth x h p = record { some = p .some; atMostSeven = p .atMostSeven; long = p .long; inside = λ i l. omega (arith, p .inside i l) }
+path-wider m n base row depth x h p =
+    record { some = p .some; atMostSeven = p .atMostSeven; long = p .long; inside = λ i l. omega (arith, p .inside i l) }
 
 abbrev pub Before : ℕ → ℕ → List ℕ → Type 0
 Before q base ns = All (λ n. base + 3 * n + 2 < q) ns
 
-nodes-before : (q base : ℕ) (row : List ℕ) (depth x : ℕ) → ((i : ℕ) → i < depth → base + 3 * (getD row i 0 + x / 2 ^ i) + 2 < q) → Before q base (nodesOver (take depth row) x)
+nodes-before : (q base : ℕ) (row : List ℕ) (depth x : ℕ) → ((i : ℕ) → i < depth → base + 3 * (getD row i 0 + x / 2 ^ i) + 2 < q)
+    → Before q base (nodesOver (take depth row) x)
 unfolding nodesOver
 nodes-before q base row zero x h = tt
 nodes-before q base [] (suc d) x h = tt
-nodes-before q base (n ∷ ns) (suc d) x h =
-    (omega (arith, h 0 (omega arith)), nodes-before q base ns d (x / 2) (λ i l. subst (λ (z : ℕ). base + 3 * (getD ns i 0 + z) + 2 < q) (sym (shr-shr x 1 i ∙ ap (λ (z : ℕ). x / 2 ^ z) (omega arith))) (h (suc i) (omega arith))))
+nodes-before q base (n ∷ ns) (suc d) x h = (
+  omega (arith, h 0 (omega arith)),
+  nodes-before q base ns d (x / 2)
+      (λ i l. subst (λ (z : ℕ). base + 3 * (getD ns i 0 + z) + 2 < q) (sym (shr-shr x 1 i ∙ ap (λ (z : ℕ). x / 2 ^ z) (omega arith)))
+      (h (suc i) (omega arith))),
+)
 
 pub below-before : (q base m : ℕ) (ns : List ℕ) → base + 3 * m ≤ q → AllBelow m ns → Before q base ns
 below-before q base m [] h a = tt
@@ -63,7 +69,8 @@ all-append P (k ∷ ks) js a b = (a .0, all-append P ks js (a .1) b)
 pub same-word : (q i : ℕ) (ws vs : List ℕ) → drop q ws ≡ drop q vs → q ≤ i → getD ws i 0 ≡ getD vs i 0
 same-word q i ws vs e h =
     let s : q + (i - q) ≡ i = omega arith in
-    subst (λ (k : ℕ). getD ws k 0 ≡ getD vs k 0) s (sym (getD-drop q ws (i - q) 0) ∙ ap (λ (l : List ℕ). getD l (i - q) 0) e ∙ getD-drop q vs (i - q) 0)
+    subst (λ (k : ℕ). getD ws k 0 ≡ getD vs k 0) s
+    (sym (getD-drop q ws (i - q) 0) ∙ ap (λ (l : List ℕ). getD l (i - q) 0) e ∙ getD-drop q vs (i - q) 0)
 
 pub drop-later : (q r : ℕ) (ws vs : List ℕ) → q ≤ r → drop q ws ≡ drop q vs → drop r ws ≡ drop r vs
 drop-later q r ws vs h e =

@@ -12,7 +12,8 @@ unfolding rowBlocks
 row-from q p row planes zero i h = tt
 row-from q p row planes (suc n) i h = (h, row-from q p row planes n (i + 1) (omega arith))
 
-pub row-turn : (p : Place) (row : List ℕ) (planes n i : ℕ) → i < n → rowBlocks p row planes (n - i) i ≡ blockIn (placeAt p i) row planes ∷ rowBlocks p row planes (n - (i + 1)) (i + 1)
+pub row-turn : (p : Place) (row : List ℕ) (planes n i : ℕ) → i < n → rowBlocks p row planes (n - i) i
+    ≡ blockIn (placeAt p i) row planes ∷ rowBlocks p row planes (n - (i + 1)) (i + 1)
 unfolding rowBlocks
 row-turn p row planes n i h = let e : n - i ≡ suc (n - (i + 1)) = omega arith in rw e
 
@@ -32,7 +33,9 @@ module _ (size n i : ℕ) (p : Place) (row : List ℕ) (h : i < n) (r : RowIn si
   pub before-next : (planes : ℕ) → BlockBefore (p .at + 4 * (i + 1)) (blockIn (placeAt p i) row planes)
   before-next planes =
       record {
-        incl = path-before _ (p .incl) row (p .depth) (p .x + i) (path-wider (p .at) _ (p .incl) row (p .depth) (p .x + i) (omega arith) (r .incl i h));
-        zero = path-before _ (p .zero) row (p .depth) (p .x + i) (path-wider (p .at) _ (p .zero) row (p .depth) (p .x + i) (omega arith) (r .zero i h));
+        incl = path-before _ (p .incl) row (p .depth) (p .x + i)
+            (path-wider (p .at) _ (p .incl) row (p .depth) (p .x + i) (omega arith) (r .incl i h));
+        zero = path-before _ (p .zero) row (p .depth) (p .x + i)
+            (path-wider (p .at) _ (p .zero) row (p .depth) (p .x + i) (omega arith) (r .zero i h));
         own = omega arith;
       }

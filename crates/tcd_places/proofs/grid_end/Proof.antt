@@ -12,25 +12,53 @@ mul-result : tie.Need-mul-result
 mul-result c =
     let s = c .before .before in
     let n = ap (λ (k : Grid). k .nodes) (s .pre .1) in
-    omega (arith, n, c .before .band-blocks .ensures, nodes-of-band-up-to (s .args .band) (s .pre .0), blocks-up-to-4096 (s .args .band) (s .pre .0), s .pre .2)
+    omega (
+      arith,
+      n,
+      c .before .band-blocks .ensures,
+      nodes-of-band-up-to (s .args .band) (s .pre .0),
+      blocks-up-to-4096 (s .args .band) (s .pre .0),
+      s .pre .2,
+    )
 
 add-result : tie.Need-add-result
 add-result c =
     let s = c .before .before .before in
     let n = ap (λ (k : Grid). k .nodes) (s .pre .1) in
-    omega (arith, n, c .before .before .band-blocks .ensures, nodes-of-band-up-to (s .args .band) (s .pre .0), blocks-up-to-4096 (s .args .band) (s .pre .0), s .pre .2)
+    omega (
+      arith,
+      n,
+      c .before .before .band-blocks .ensures,
+      nodes-of-band-up-to (s .args .band) (s .pre .0),
+      blocks-up-to-4096 (s .args .band) (s .pre .0),
+      s .pre .2,
+    )
 
 mul-result-2 : tie.Need-mul-result-2
 mul-result-2 c =
     let s = c .before .before .before in
     let n = ap (λ (k : Grid). k .nodes) (s .pre .1) in
-    omega (arith, n, c .before .before .band-blocks .ensures, nodes-of-band-up-to (s .args .band) (s .pre .0), blocks-up-to-4096 (s .args .band) (s .pre .0), s .pre .2)
+    omega (
+      arith,
+      n,
+      c .before .before .band-blocks .ensures,
+      nodes-of-band-up-to (s .args .band) (s .pre .0),
+      blocks-up-to-4096 (s .args .band) (s .pre .0),
+      s .pre .2,
+    )
 
 add-result-2 : tie.Need-add-result-2
 add-result-2 c =
     let s = c .before .before .before in
     let n = ap (λ (k : Grid). k .nodes) (s .pre .1) in
-    omega (arith, n, c .before .before .band-blocks .ensures, nodes-of-band-up-to (s .args .band) (s .pre .0), blocks-up-to-4096 (s .args .band) (s .pre .0), s .pre .2)
+    omega (
+      arith,
+      n,
+      c .before .before .band-blocks .ensures,
+      nodes-of-band-up-to (s .args .band) (s .pre .0),
+      blocks-up-to-4096 (s .args .band) (s .pre .0),
+      s .pre .2,
+    )
 
 returns : tie.Need-returns
 returns c =

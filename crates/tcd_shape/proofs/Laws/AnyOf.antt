@@ -47,14 +47,18 @@ none-over false false = refl
 
 -- a loop's fault over a list: 0 as long as no entry is over
 module _ (most : ℕ) (l : List ℕ) where
-  pub over-turn : (i faults m : ℕ) → i < length l → faults ≡ fault (not (any (λ x. ltb most x) (take i l))) → m ≡ fault (leb (getD l i 0) most)
+  pub over-turn : (i faults m : ℕ) → i < length l → faults ≡ fault (not (any (λ x. ltb most x) (take i l))) → m
+      ≡ fault (leb (getD l i 0) most)
       → bitOr faults m ≡ fault (not (any (λ x. ltb most x) (take (i + 1) l)))
   over-turn i faults m h p q =
       let x : ℕ = getD l i 0 in
-      let e : any (λ x. ltb most x) (take (i + 1) l) ≡ (any (λ x. ltb most x) (take i l) || ltb most x) = rw (add-one, take-suc l i 0 h) (any-and-one (λ x. ltb most x) (take i l) x) in
+      let e : any (λ x. ltb most x) (take (i + 1) l)
+      ≡ (any (λ x. ltb most x) (take i l) || ltb most x) =
+      rw (add-one, take-suc l i 0 h) (any-and-one (λ x. ltb most x) (take i l) x) in
       rw (p, q, at-most-or-over x most, e) (none-over (any (λ x. ltb most x) (take i l)) (ltb most x))
 
-  pub over-end : (i faults : ℕ) → length l ≤ i → faults ≡ fault (not (any (λ x. ltb most x) (take i l))) → not (eqb faults 0) ≡ any (λ x. ltb most x) l
+  pub over-end : (i faults : ℕ) → length l ≤ i → faults ≡ fault (not (any (λ x. ltb most x) (take i l))) → not (eqb faults 0)
+      ≡ any (λ x. ltb most x) l
   over-end i faults h p = rw (p, take-all i l h) (ends (any (λ x. ltb most x) l))
     where
       ends : (t : Bool) → not (eqb (fault (not t)) 0) ≡ t

@@ -24,7 +24,8 @@ or-group true b c = refl
 or-group false b c = refl
 
 -- n blocks of one band
-of-band : (at : ℕ) (b : Band) (n i : ℕ) (ks : List Block) (ps : List ℕ) → blockTooDeep (blocksFrom at b n i ++ ks) ps ≡ (any (λ p. ltb (b .planes) p) (take n ps) || blockTooDeep ks (drop n ps))
+of-band : (at : ℕ) (b : Band) (n i : ℕ) (ks : List Block) (ps : List ℕ) → blockTooDeep (blocksFrom at b n i ++ ks) ps
+    ≡ (any (λ p. ltb (b .planes) p) (take n ps) || blockTooDeep ks (drop n ps))
 unfolding blockTooDeep blocksFrom any
 of-band at b zero i ks ps = refl
 of-band at b (suc n) i ks [] = sym (none-too-deep ks)
@@ -47,15 +48,19 @@ deep-is bs ps = sym (deep-at 13 bs ps)
 take-as-many : (n : ℕ) (l : List ℕ) → take (min n (length l)) l ≡ take n l
 take-as-many n l =
     on-le n (length l) (λ h. let e : min n (length l) ≡ n = omega arith in rw e)
-    (λ h. let e : min n (length l) ≡ length l = omega arith in rw e (take-all (length l) l (omega arith) ∙ sym (take-all n l (omega arith))))
+    (λ h. let e : min n (length l)
+    ≡ length l = omega arith in rw e (take-all (length l) l (omega arith) ∙ sym (take-all n l (omega arith))))
 
 drop-as-many : (n : ℕ) (l : List ℕ) → drop (min n (length l)) l ≡ drop n l
 drop-as-many n l =
     on-le n (length l) (λ h. let e : min n (length l) ≡ n = omega arith in rw e)
-    (λ h. let e : min n (length l) ≡ length l = omega arith in rw e (drop-of-length-le l {i = length l} (omega arith) ∙ sym (drop-of-length-le l {i = n} (omega arith))))
+    (λ h. let e : min n (length l)
+    ≡ length l = omega arith in
+    rw e (drop-of-length-le l {i = length l} (omega arith) ∙ sym (drop-of-length-le l {i = n} (omega arith))))
 
 -- one band more, whose blocks' planes stand from `from` on up to `to`
-pub deep-turn : (l : List Band) (b : Band) (bs : List Band) (ps : List ℕ) (from to : ℕ) (t : Bool) → l ≡ b ∷ bs → to ≡ from + min (blocksIn b) (length ps - from)
+pub deep-turn : (l : List Band) (b : Band) (bs : List Band) (ps : List ℕ) (from to : ℕ) (t : Bool) → l ≡ b ∷ bs → to
+    ≡ from + min (blocksIn b) (length ps - from)
     → t ≡ any (λ p. ltb (b .planes) p) (take (to - from) (drop from ps)) → deepFrom l (drop from ps) ≡ (t || deepFrom bs (drop to ps))
 unfolding deepFrom
 deep-turn l b bs ps from to t e w a =

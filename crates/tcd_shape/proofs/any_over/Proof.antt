@@ -28,7 +28,8 @@ loop-again c =
     (omega arith, over-turn (s .most) (s .planes .now) (l .i) (l .faults) _ (omega arith) (l .inv .1) (c .over .ensures))
 
 returns : tie.Need-returns Inv-loop μ-loop
-returns c = let l = c .before .loop in let s = c .before .before .before .args in over-end (s .most) (s .planes .now) (l .i) (l .faults) (omega arith) (l .inv .1)
+returns c = let l = c .before .loop in let s = c .before .before .before .args in
+    over-end (s .most) (s .planes .now) (l .i) (l .faults) (omega arith) (l .inv .1)
 
 pub any-over-spec : {M : Type 1} → statement M
 any-over-spec =

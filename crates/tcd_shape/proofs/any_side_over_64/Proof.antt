@@ -14,7 +14,9 @@ use Rattle.tcd_shape.proofs.any_side_over_64.Statement.{statement}
 use Rattle.tcd_shape.proofs.any_side_over_64.Tie as tie
 
 abbrev Inv-loop : tie.InvT-loop
-Inv-loop n bands i₀ i = (i ≤ n) × (any (λ b. ltb 64 (b .across) || ltb 64 (b .down)) (drop i (take n bands)) ≡ any (λ b. ltb 64 (b .across) || ltb 64 (b .down)) (take n bands))
+Inv-loop n bands i₀ i = (i ≤ n)
+    × (any (λ b. ltb 64 (b .across) || ltb 64 (b .down)) (drop i (take n bands))
+    ≡ any (λ b. ltb 64 (b .across) || ltb 64 (b .down)) (take n bands))
 
 abbrev μ-loop : tie.MeasureT-loop
 μ-loop n bands i₀ i = n - i
@@ -27,14 +29,20 @@ returns c =
     let s = c .before .before .before .before .before in
     let l = c .before .before .before .before .loop in
     let g : length (s .args .t1) ≡ 3 = search needs in
-    sym (any-here (λ (b : Band). ltb 64 (b .across) || ltb 64 (b .down)) _ _ _ (next-band (s .args .t1) (s .args .n) (l .i) (omega arith) (omega arith)) (sym (c .before .side-over-64 .ensures) ∙ c .if1 .taken)) ∙ l .inv .1
+    sym (any-here (λ (b : Band). ltb 64 (b .across) || ltb 64 (b .down)) _ _ _
+    (next-band (s .args .t1) (s .args .n) (l .i) (omega arith) (omega arith))
+    (sym (c .before .side-over-64 .ensures) ∙ c .if1 .taken)) ∙ l .inv .1
 
 loop-again : tie.Need-loop-again Inv-loop μ-loop
 loop-again c =
     let s = c .before .before .before .before .before in
     let l = c .before .before .before .before .loop in
-    let g : length (s .args .t1) ≡ 3 = search needs in
-    (omega arith, sym (any-later (λ (b : Band). ltb 64 (b .across) || ltb 64 (b .down)) _ _ _ (next-band (s .args .t1) (s .args .n) (l .i) (omega arith) (omega arith)) (sym (c .before .side-over-64 .ensures) ∙ c .if1 .left)) ∙ l .inv .1)
+    let g : length (s .args .t1) ≡ 3 = search needs in (
+      omega arith,
+      sym (any-later (λ (b : Band). ltb 64 (b .across) || ltb 64 (b .down)) _ _ _
+          (next-band (s .args .t1) (s .args .n) (l .i) (omega arith) (omega arith))
+          (sym (c .before .side-over-64 .ensures) ∙ c .if1 .left)) ∙ l .inv .1,
+    )
 
 returns-2 : tie.Need-returns-2 Inv-loop μ-loop
 unfolding any

@@ -29,15 +29,19 @@ returns c =
     let s = c .before .before .before .before .before in
     let l = c .before .before .before .before .loop in
     let g : length (s .args .t1) ≡ 3 = search needs in
-    sym (any-here (λ (b : Band). ltb 998 (b .planes)) _ _ _ (next-band (s .args .t1) (s .args .n) (l .i) (omega arith) (omega arith)) (lt-ltb _ _ (c .if1 .taken))) ∙ l .inv .1
+    sym (any-here (λ (b : Band). ltb 998 (b .planes)) _ _ _
+    (next-band (s .args .t1) (s .args .n) (l .i) (omega arith) (omega arith)) (lt-ltb _ _ (c .if1 .taken))) ∙ l .inv .1
 
 loop-again : tie.Need-loop-again Inv-loop μ-loop
 unfolding bandTooDeep
 loop-again c =
     let s = c .before .before .before .before .before in
     let l = c .before .before .before .before .loop in
-    let g : length (s .args .t1) ≡ 3 = search needs in
-    (omega arith, sym (any-later (λ (b : Band). ltb 998 (b .planes)) _ _ _ (next-band (s .args .t1) (s .args .n) (l .i) (omega arith) (omega arith)) (le-ltb _ _ (c .if1 .left))) ∙ l .inv .1)
+    let g : length (s .args .t1) ≡ 3 = search needs in (
+      omega arith,
+      sym (any-later (λ (b : Band). ltb 998 (b .planes)) _ _ _
+          (next-band (s .args .t1) (s .args .n) (l .i) (omega arith) (omega arith)) (le-ltb _ _ (c .if1 .left))) ∙ l .inv .1,
+    )
 
 returns-2 : tie.Need-returns-2 Inv-loop μ-loop
 unfolding any bandTooDeep

@@ -13,7 +13,8 @@ use Rattle.tcd_shape.proofs.block_too_deep.Statement.{statement}
 use Rattle.tcd_shape.proofs.block_too_deep.Tie as tie
 
 abbrev Inv-loop : tie.InvT-loop
-Inv-loop n planes bands from₀ i₀ from i = (i ≤ n) × (from ≤ length planes) × (deepFrom (drop i (take n bands)) (drop from planes) ≡ blockTooDeep (blocks (take n bands)) planes)
+Inv-loop n planes bands from₀ i₀ from i = (i ≤ n) × (from ≤ length planes)
+    × (deepFrom (drop i (take n bands)) (drop from planes) ≡ blockTooDeep (blocks (take n bands)) planes)
 
 abbrev μ-loop : tie.MeasureT-loop
 μ-loop n planes bands from₀ i₀ from i = n - i
@@ -42,7 +43,8 @@ returns c =
     let l = c .before .before .before .before .before .before .before .loop in
     let g : length (s .args .t1) ≡ 3 = search needs in
     let e = next-band (s .args .t1) (s .args .n) (l .i) (omega arith) (omega arith) in
-    let n = c .before .before .before .smaller .ensures ∙ ap (λ (k : ℕ). min k (length (s .args .planes .now) - l .from)) (c .before .before .before .before .band-blocks .ensures) in
+    let n = c .before .before .before .smaller .ensures
+    ∙ ap (λ (k : ℕ). min k (length (s .args .planes .now) - l .from)) (c .before .before .before .before .band-blocks .ensures) in
     let w = ap (λ (k : ℕ). l .from + k) n in
     sym (deep-turn _ _ _ (s .args .planes .now) (l .from) _ true e w (sym (c .if1 .taken) ∙ c .before .any-over .ensures)) ∙ l .inv .2
 
@@ -52,9 +54,14 @@ loop-again c =
     let l = c .before .before .before .before .before .before .before .loop in
     let g : length (s .args .t1) ≡ 3 = search needs in
     let e = next-band (s .args .t1) (s .args .n) (l .i) (omega arith) (omega arith) in
-    let n = c .before .before .before .smaller .ensures ∙ ap (λ (k : ℕ). min k (length (s .args .planes .now) - l .from)) (c .before .before .before .before .band-blocks .ensures) in
-    let w = ap (λ (k : ℕ). l .from + k) n in
-    (omega arith, omega (arith, c .before .before .before .smaller .ensures), sym (deep-turn _ _ _ (s .args .planes .now) (l .from) _ false e w (sym (c .if1 .left) ∙ c .before .any-over .ensures)) ∙ l .inv .2)
+    let n = c .before .before .before .smaller .ensures
+    ∙ ap (λ (k : ℕ). min k (length (s .args .planes .now) - l .from)) (c .before .before .before .before .band-blocks .ensures) in
+    let w = ap (λ (k : ℕ). l .from + k) n in (
+      omega arith,
+      omega (arith, c .before .before .before .smaller .ensures),
+      sym (deep-turn _ _ _ (s .args .planes .now) (l .from) _ false e w (sym (c .if1 .left) ∙ c .before .any-over .ensures))
+          ∙ l .inv .2,
+    )
 
 returns-2 : tie.Need-returns-2 Inv-loop μ-loop
 unfolding deepFrom

@@ -13,7 +13,8 @@ use Rattle.tcd_layout.specs.Geometry.{AllUpTo64}
 use Rattle.tcd_shape.specs.Parts.{threeBands, shapeInRange, firstWordsInRange}
 use Rattle.tcd_first_words.proofs.Laws.FirstWords.{and-left, first-bands, shape-known}
 
-pub bands-turn : (ws : List ℕ) (at : ℕ) (l : List Band) (b : Band) (bs : List Band) (t : Bool) → l ≡ b ∷ bs → t ≡ bandInRange ws at b → (t && bandsInRange ws (at + bandLength b) bs) ≡ bandsInRange ws at l
+pub bands-turn : (ws : List ℕ) (at : ℕ) (l : List Band) (b : Band) (bs : List Band) (t : Bool) → l ≡ b ∷ bs → t
+    ≡ bandInRange ws at b → (t && bandsInRange ws (at + bandLength b) bs) ≡ bandsInRange ws at l
 unfolding bandsInRange
 bands-turn ws at l b bs t e h = rw (e, h)
 
@@ -26,7 +27,8 @@ first-words-shape r ws e =
     let d : Bool = not (bandTooDeep (bands ws)) in
     and-left a b (and-left (a && b) c (and-left (a && b && c) d (and-left (a && b && c && d) (unusedBandsZero ws) e)))
 
-pub sides-known : (r : ℕ) (ws : List ℕ) (n : ℕ) (bs : List Band) → firstWordsInRange r ws ≡ true → n ≡ bandCount ws → bs ≡ threeBands ws → (n ≤ 3) × AllUpTo64 (take n bs)
+pub sides-known : (r : ℕ) (ws : List ℕ) (n : ℕ) (bs : List Band) → firstWordsInRange r ws ≡ true → n ≡ bandCount ws → bs
+    ≡ threeBands ws → (n ≤ 3) × AllUpTo64 (take n bs)
 sides-known r ws n bs e p q =
     let k = shape-known r ws (first-words-shape r ws e) in
     (omega (arith, k .1), subst AllUpTo64 (sym (first-bands ws n bs p q)) (k .2))
@@ -39,7 +41,10 @@ regroup true false true w = refl
 regroup true false false w = refl
 regroup false u v w = refl
 
-pub valid-parts : (r : ℕ) (ws : List ℕ) (n : ℕ) (t v w : Bool) → t ≡ firstWordsInRange r ws → v ≡ eqb n (length ws) → w ≡ (eqb (length ws) (stateLength (bands ws)) && bandsInRange ws 13 (bands ws))
+pub valid-parts : (r : ℕ) (ws : List ℕ) (n : ℕ) (t v w : Bool) → t ≡ firstWordsInRange r ws → v ≡ eqb n (length ws) → w
+    ≡ (eqb (length ws) (stateLength (bands ws)) && bandsInRange ws 13 (bands ws))
     → (t && v && w) ≡ validState r ws n
 unfolding validState firstWordsInRange shapeInRange
-valid-parts r ws n t v w et ev ew = rw (et, ev, ew) (regroup (firstWordsInRange r ws) (eqb (length ws) (stateLength (bands ws))) (eqb n (length ws)) (bandsInRange ws 13 (bands ws)))
+valid-parts r ws n t v w et ev ew =
+    rw (et, ev, ew) (regroup (firstWordsInRange r ws) (eqb (length ws) (stateLength (bands ws))) (eqb n (length ws))
+    (bandsInRange ws 13 (bands ws)))

@@ -12,8 +12,10 @@ use Rattle.t800.specs.declared.Band.{Band}
 use Rattle.t800.specs.Base.{every}
 use Rattle.t800.specs.TagTree.{value, low, known}
 use Rattle.t800.specs.Segments.{termAll, bypass, firstLimit, nextLimit, isLimit}
-use Rattle.t800.specs.State.{writer, notYetIncluded, notYetPlanes, role, bandCount, style, layer, bands, bandNodes, blocksIn, bandLength, stateLength, passesSoFar, lengthBits, segmentLimit, segmentPasses}
-use Rattle.t800.specs.Ranges.{badShape, badStyle, bandTooDeep, nodeInRange, blockInRange, bandInRange, bandsInRange, unusedBandsZero, validState}
+use Rattle.t800.specs.State.{writer, notYetIncluded, notYetPlanes, role, bandCount, style, layer, bands, bandNodes, blocksIn}
+use Rattle.t800.specs.State.{bandLength, stateLength, passesSoFar, lengthBits, segmentLimit, segmentPasses}
+use Rattle.t800.specs.Ranges.{badShape, badStyle, bandTooDeep, nodeInRange, blockInRange, bandInRange, bandsInRange}
+use Rattle.t800.specs.Ranges.{unusedBandsZero, validState}
 use Rattle.t800.proofs.Laws.Tests.{on-eq}
 use Rattle.t800.proofs.Laws.Layout.{Tree, inclusion, zeroPlanes, notYet, treeFrom, NodeFrom, BlockFrom, end-after}
 use Rattle.tcd_layout.specs.Geometry.{AllUpTo64}
@@ -86,11 +88,13 @@ too-short r ws n h = go (validState r ws n) refl
 pub every-true : (n : ℕ) (f : ℕ → Bool) → every n f ≡ true → (k : ℕ) → k < n → f k ≡ true
 unfolding every
 every-true zero f e k h = absurd (omega arith)
-every-true (suc n) f e k h = on-eq k n (λ q. ap f q ∙ and-left (f n) (every n f) e) (λ q. every-true n f (and-right (f n) (every n f) e) k (omega arith))
+every-true (suc n) f e k h =
+    on-eq k n (λ q. ap f q ∙ and-left (f n) (every n f) e) (λ q. every-true n f (and-right (f n) (every n f) e) k (omega arith))
 
 -- a band's two trees and its blocks
 band-known : (ws : List ℕ) (at : ℕ) (b : Band) → bandInRange ws at b ≡ true
-    → ((t : Tree) → every (bandNodes b) (λ i. nodeInRange ws (notYet t) (treeFrom t at b + 3 * i)) ≡ true) × (every (blocksIn b) (λ i. blockInRange ws (at + 6 * bandNodes b + 4 * i)) ≡ true)
+    → ((t : Tree) → every (bandNodes b) (λ i. nodeInRange ws (notYet t) (treeFrom t at b + 3 * i)) ≡ true)
+    × (every (blocksIn b) (λ i. blockInRange ws (at + 6 * bandNodes b + 4 * i)) ≡ true)
 unfolding bandInRange
 band-known ws at b e =
     let i : Bool = every (bandNodes b) (λ i. nodeInRange ws notYetIncluded (at + 3 * i)) in
@@ -99,26 +103,32 @@ band-known ws at b e =
     let e₁ = both i z (e₂ .0) in
     (trees (e₁ .0) (e₁ .1), e₂ .1)
   where
-    trees : every (bandNodes b) (λ i. nodeInRange ws notYetIncluded (at + 3 * i)) ≡ true → every (bandNodes b) (λ i. nodeInRange ws notYetPlanes (at + 3 * bandNodes b + 3 * i)) ≡ true
+    trees : every (bandNodes b) (λ i. nodeInRange ws notYetIncluded (at + 3 * i)) ≡ true
+        → every (bandNodes b) (λ i. nodeInRange ws notYetPlanes (at + 3 * bandNodes b + 3 * i)) ≡ true
         → (t : Tree) → every (bandNodes b) (λ i. nodeInRange ws (notYet t) (treeFrom t at b + 3 * i)) ≡ true
     trees x y inclusion = x
     trees x y zeroPlanes = y
 
-pub node-known : (ws : List ℕ) (t : Tree) (at : ℕ) (bs : List Band) (a : ℕ) → bandsInRange ws at bs ≡ true → NodeFrom t at bs a → nodeInRange ws (notYet t) a ≡ true
+pub node-known : (ws : List ℕ) (t : Tree) (at : ℕ) (bs : List Band) (a : ℕ) → bandsInRange ws at bs ≡ true → NodeFrom t at bs a
+    → nodeInRange ws (notYet t) a ≡ true
 unfolding bandsInRange
 node-known ws t at [] a e n = absurd n
 node-known ws t at (b ∷ bs) a e (inl c) =
     let k = band-known ws at b (and-left (bandInRange ws at b) (bandsInRange ws (at + bandLength b) bs) e) in
-    ap (nodeInRange ws (notYet t)) (c .2) ∙ every-true (bandNodes b) (λ i. nodeInRange ws (notYet t) (treeFrom t at b + 3 * i)) (k .0 t) (c .0) (c .1)
-node-known ws t at (b ∷ bs) a e (inr n) = node-known ws t (at + bandLength b) bs a (and-right (bandInRange ws at b) (bandsInRange ws (at + bandLength b) bs) e) n
+    ap (nodeInRange ws (notYet t)) (c .2)
+    ∙ every-true (bandNodes b) (λ i. nodeInRange ws (notYet t) (treeFrom t at b + 3 * i)) (k .0 t) (c .0) (c .1)
+node-known ws t at (b ∷ bs) a e (inr n) =
+    node-known ws t (at + bandLength b) bs a (and-right (bandInRange ws at b) (bandsInRange ws (at + bandLength b) bs) e) n
 
-pub block-known : (ws : List ℕ) (at : ℕ) (bs : List Band) (p : ℕ) → bandsInRange ws at bs ≡ true → BlockFrom at bs p → blockInRange ws p ≡ true
+pub block-known : (ws : List ℕ) (at : ℕ) (bs : List Band) (p : ℕ) → bandsInRange ws at bs ≡ true → BlockFrom at bs p
+    → blockInRange ws p ≡ true
 unfolding bandsInRange
 block-known ws at [] p e n = absurd n
 block-known ws at (b ∷ bs) p e (inl c) =
     let k = band-known ws at b (and-left (bandInRange ws at b) (bandsInRange ws (at + bandLength b) bs) e) in
     ap (blockInRange ws) (c .2) ∙ every-true (blocksIn b) (λ i. blockInRange ws (at + 6 * bandNodes b + 4 * i)) (k .1) (c .0) (c .1)
-block-known ws at (b ∷ bs) p e (inr n) = block-known ws (at + bandLength b) bs p (and-right (bandInRange ws at b) (bandsInRange ws (at + bandLength b) bs) e) n
+block-known ws at (b ∷ bs) p e (inr n) =
+    block-known ws (at + bandLength b) bs p (and-right (bandInRange ws at b) (bandsInRange ws (at + bandLength b) bs) e) n
 
 -- ---- bounds on their words
 
@@ -134,9 +144,11 @@ unfolding isLimit firstLimit nextLimit
 limit-up-to-109 s m e = go (termAll s) (bypass s) e
   where
     one : (a b c : ℕ) → a ≤ 109 → b ≤ 109 → c ≤ 109 → (eqb m a || eqb m b || eqb m c) ≡ true → m ≤ 109
-    one a b c x y z e = on-eq m a (λ q. omega arith) (λ q. on-eq m b (λ q. omega arith) (λ r. omega (arith, eqb-true m c (rw (ne-eqb m a q, ne-eqb m b r) at e))))
+    one a b c x y z e = on-eq m a (λ q. omega arith)
+        (λ q. on-eq m b (λ q. omega arith) (λ r. omega (arith, eqb-true m c (rw (ne-eqb m a q, ne-eqb m b r) at e))))
 
-    go : (t b : Bool) → (eqb m (cond t 1 (cond b 10 109)) || eqb m (cond t 1 (cond b (cond (eqb 2 2) 1 2) 109)) || eqb m (cond t 1 (cond b (cond (eqb 1 2) 1 2) 109))) ≡ true → m ≤ 109
+    go : (t b : Bool) → (eqb m (cond t 1 (cond b 10 109)) || eqb m (cond t 1 (cond b (cond (eqb 2 2) 1 2) 109)) || eqb m
+        (cond t 1 (cond b (cond (eqb 1 2) 1 2) 109))) ≡ true → m ≤ 109
     go true b e = one 1 1 1 (omega arith) (omega arith) (omega arith) e
     go false true e = one 10 1 2 (omega arith) (omega arith) (omega arith) e
     go false false e = one 109 109 109 (omega arith) (omega arith) (omega arith) e
@@ -162,7 +174,8 @@ block-bounds ws p e =
     most-bits false b e = leb-true b 32 (and-right (leb 3 b) (leb b 32) e)
 
     segments : (none : Bool) (s m u : ℕ) → cond none (eqb m 0 && eqb u 0) (isLimit s m && leb 1 u && leb u m) ≡ true → (u ≤ m) × (m ≤ 109)
-    segments true s m u e = let k = both (eqb m 0) (eqb u 0) e in (omega (arith, eqb-true m 0 (k .0), eqb-true u 0 (k .1)), omega (arith, eqb-true m 0 (k .0)))
+    segments true s m u e = let k = both (eqb m 0) (eqb u 0) e in
+        (omega (arith, eqb-true m 0 (k .0), eqb-true u 0 (k .1)), omega (arith, eqb-true m 0 (k .0)))
     segments false s m u e =
         let k = both (isLimit s m && leb 1 u) (leb u m) e in
         (leb-true u m (k .1), limit-up-to-109 s m (and-left (isLimit s m) (leb 1 u) (k .0)))

@@ -12,14 +12,17 @@ use Rattle.t800.proofs.Laws.Layout.{band-length, end-after}
 use Rattle.t800.specs.Ranges.{bandsInRange}
 use Rattle.t800.specs.State.{bandLength, endOf, stateLength}
 use Rattle.t800.specs.declared.Band.{Band}
-use Rattle.tcd_layout.proofs.Laws.Bands.{band-length-up-to, blocks-up-to-4096, end-turn, next-band, no-more-bands, nodes-of-band-up-to, sides-of-first}
+use Rattle.tcd_layout.proofs.Laws.Bands.{band-length-up-to, blocks-up-to-4096, end-turn, next-band, no-more-bands}
+use Rattle.tcd_layout.proofs.Laws.Bands.{nodes-of-band-up-to, sides-of-first}
 use Rattle.tcd_layout.specs.Geometry.{noBand}
 use Rattle.tcd_state.proofs.Laws.RangeParts.{bands-turn}
 use Rattle.tcd_state.proofs.bands_in_range.Statement.{statement}
 use Rattle.tcd_state.proofs.bands_in_range.Tie as tie
 
 abbrev Inv-loop : tie.InvT-loop
-Inv-loop state n bands at₀ i₀ at i = (i ≤ n) × (at ≤ 13 + 188416 * i) × (bandsInRange state at (drop i (take n bands)) ≡ bandsInRange state 13 (take n bands)) × (endOf at (drop i (take n bands)) ≡ stateLength (take n bands))
+Inv-loop state n bands at₀ i₀ at i = (i ≤ n) × (at ≤ 13 + 188416 * i)
+    × (bandsInRange state at (drop i (take n bands)) ≡ bandsInRange state 13 (take n bands))
+    × (endOf at (drop i (take n bands)) ≡ stateLength (take n bands))
 
 abbrev μ-loop : tie.MeasureT-loop
 μ-loop state n bands at₀ i₀ at i = n - i
@@ -79,15 +82,27 @@ returns c =
     let b : Band = getD (s .args .t2) (l .i) noBand in
     let e = end-turn (s .args .t2) (s .args .n) (l .i) (l .at) (omega arith) (omega arith) in
     let after = end-after (l .at + bandLength b) (drop (l .i + 1) (take (s .args .n) (s .args .t2))) in
-    simp (ne-eqb (length (s .args .state .now)) (stateLength (take (s .args .n) (s .args .t2))) (omega (arith, c .before .before .band-nodes .ensures, c .before .band-blocks .ensures, band-length b, e, after, l .inv .3, c .if1 .taken)))
+    simp (ne-eqb (length (s .args .state .now)) (stateLength (take (s .args .n) (s .args .t2)))
+    (omega (
+      arith,
+      c .before .before .band-nodes .ensures,
+      c .before .band-blocks .ensures,
+      band-length b,
+      e,
+      after,
+      l .inv .3,
+      c .if1 .taken,
+    )))
 
 band-in-range-requires : tie.Need-band-in-range-requires Inv-loop μ-loop
 band-in-range-requires c κs =
     let s = c .before .before .before .before .before .before .before in
     let l = c .before .before .before .before .before .loop in
     let g : length (s .args .t2) ≡ 3 = search needs in
-    let b : Band = getD (s .args .t2) (l .i) noBand in
-    (c .before .before .band-nodes .ensures, omega (arith, c .before .before .band-nodes .ensures, c .before .band-blocks .ensures, band-length b))
+    let b : Band = getD (s .args .t2) (l .i) noBand in (
+      c .before .before .band-nodes .ensures,
+      omega (arith, c .before .before .band-nodes .ensures, c .before .band-blocks .ensures, band-length b),
+    )
 
 returns-2 : tie.Need-returns-2 Inv-loop μ-loop
 returns-2 c =
@@ -95,7 +110,10 @@ returns-2 c =
     let l = c .before .before .before .before .before .before .before .loop in
     let g : length (s .args .t2) ≡ 3 = search needs in
     let whole : Bool = eqb (length (s .args .state .now)) (stateLength (take (s .args .n) (s .args .t2))) in
-    sym (and-false whole) ∙ ap (λ (t : Bool). whole && t) (bands-turn (s .args .state .now) (l .at) _ _ _ false (next-band (s .args .t2) (s .args .n) (l .i) (omega arith) (omega arith)) (sym (not-true _ (c .if2 .taken)) ∙ c .before .band-in-range .ensures) ∙ l .inv .2)
+    sym (and-false whole)
+    ∙ ap (λ (t : Bool). whole && t)
+    (bands-turn (s .args .state .now) (l .at) _ _ _ false (next-band (s .args .t2) (s .args .n) (l .i) (omega arith) (omega arith))
+    (sym (not-true _ (c .if2 .taken)) ∙ c .before .band-in-range .ensures) ∙ l .inv .2)
 
 loop-again : tie.Need-loop-again Inv-loop μ-loop
 loop-again c =
@@ -105,10 +123,20 @@ loop-again c =
     let b : Band = getD (s .args .t2) (l .i) noBand in
     let m = sides-of-first (s .args .t2) (s .args .n) (l .i) (omega arith) (omega arith) (s .pre .1) in
     let rest : List Band = drop (l .i + 1) (take (s .args .n) (s .args .t2)) in
-    let k : l .at + 6 * c .before .before .before .before .band-nodes .result + 4 * c .before .before .before .band-blocks .result ≡ l .at + bandLength b = omega (arith, c .before .before .before .before .band-nodes .ensures, c .before .before .before .band-blocks .ensures, band-length b) in (
+    let k : l .at + 6 * c .before .before .before .before .band-nodes .result + 4 * c .before .before .before .band-blocks .result
+    ≡ l .at + bandLength b =
+    omega (
+      arith,
+      c .before .before .before .before .band-nodes .ensures,
+      c .before .before .before .band-blocks .ensures,
+      band-length b,
+    ) in (
       omega arith,
       omega (arith, k, band-length-up-to b m),
-      ap (λ (z : ℕ). bandsInRange (s .args .state .now) z rest) k ∙ bands-turn (s .args .state .now) (l .at) _ _ _ true (next-band (s .args .t2) (s .args .n) (l .i) (omega arith) (omega arith)) (sym (not-false _ (c .if2 .left)) ∙ c .before .band-in-range .ensures) ∙ l .inv .2,
+      ap (λ (z : ℕ). bandsInRange (s .args .state .now) z rest) k
+          ∙ bands-turn (s .args .state .now) (l .at) _ _ _ true
+          (next-band (s .args .t2) (s .args .n) (l .i) (omega arith) (omega arith))
+          (sym (not-false _ (c .if2 .left)) ∙ c .before .band-in-range .ensures) ∙ l .inv .2,
       ap (λ (z : ℕ). endOf z rest) k ∙ end-turn (s .args .t2) (s .args .n) (l .i) (l .at) (omega arith) (omega arith) ∙ l .inv .3,
     )
 
@@ -120,7 +148,8 @@ returns-3 c =
     let z = no-more-bands (s .args .t2) (s .args .n) (l .i) (omega arith) in
     let ranges = rw z at (l .inv .2) in
     let total = rw z at (l .inv .3) in
-    sym (and-true (eqb (length (s .args .state .now)) (l .at))) ∙ ap₂ (λ (k : ℕ) (t : Bool). eqb (length (s .args .state .now)) k && t) total ranges
+    sym (and-true (eqb (length (s .args .state .now)) (l .at)))
+    ∙ ap₂ (λ (k : ℕ) (t : Bool). eqb (length (s .args .state .now)) k && t) total ranges
 
 pub bands-in-range-spec : {M : Type 1} → statement M
 bands-in-range-spec =

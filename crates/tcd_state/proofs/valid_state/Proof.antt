@@ -21,7 +21,8 @@ returns c = let s = c .before .before .args in too-short (s .role) (s .state .no
 returns-2 : tie.Need-returns-2
 returns-2 c =
     let s = c .before .before .before .before .before .args in
-    valid-parts (s .role) (s .state .now) (s .scratch-len) false _ _ (sym (not-true _ (c .if2 .taken)) ∙ c .before .first-words-in-range .ensures) refl refl
+    valid-parts (s .role) (s .state .now) (s .scratch-len) false _ _
+    (sym (not-true _ (c .if2 .taken)) ∙ c .before .first-words-in-range .ensures) refl refl
 
 returns-3 : tie.Need-returns-3
 returns-3 c =
@@ -39,9 +40,11 @@ returns-4 : tie.Need-returns-4
 returns-4 c =
     let s = c .before .before .before .before .before .before .before .before .args in
     let ws = s .state .now in
-    let first = sym (not-false _ (c .before .before .before .if2 .left)) ∙ c .before .before .before .before .first-words-in-range .ensures in
+    let first = sym (not-false _ (c .before .before .before .if2 .left))
+    ∙ c .before .before .before .before .first-words-in-range .ensures in
     let b = first-bands ws _ _ (c .before .word .ensures) (c .before .before .before .before .before .bands-of .ensures) in
-    valid-parts (s .role) ws (s .scratch-len) true true _ first (sym (eq-eqb _ _ (c .before .before .if3 .left))) (c .bands-in-range .ensures ∙ ap (λ (bs : List Band). eqb (length ws) (stateLength bs) && bandsInRange ws 13 bs) b)
+    valid-parts (s .role) ws (s .scratch-len) true true _ first (sym (eq-eqb _ _ (c .before .before .if3 .left)))
+    (c .bands-in-range .ensures ∙ ap (λ (bs : List Band). eqb (length ws) (stateLength bs) && bandsInRange ws 13 bs) b)
 
 pub valid-state-spec : {M : Type 1} → statement M
 valid-state-spec =

@@ -17,7 +17,8 @@ use Rattle.tgt.specs.Path.{rowFrom, rowOver, nodesOver, pathOver, leafWo
 -- ---- one node more, from the leaf up and from the root down
 
 module _ (row : List ℕ) (depth x i : ℕ) (long : depth ≤ length row) (here : i < depth) where
-  pub node-up : nodesOver (drop i (take depth row)) (x / 2 ^ i) ≡ (getD row i 0 + x / 2 ^ i) ∷ nodesOver (drop (i + 1) (take depth row)) (x / 2 ^ (i + 1))
+  pub node-up : nodesOver (drop i (take depth row)) (x / 2 ^ i)
+      ≡ (getD row i 0 + x / 2 ^ i) ∷ nodesOver (drop (i + 1) (take depth row)) (x / 2 ^ (i + 1))
   unfolding nodesOver
   node-up =
       let e : suc i ≡ i + 1 = omega arith in
@@ -28,13 +29,15 @@ module _ (row : List ℕ) (depth x i : ℕ) (long : depth ≤ length row) (here 
       ∙ ap (λ (j : ℕ). (getD row i 0 + x / 2 ^ i) ∷ nodesOver (drop j (take depth row)) (x / 2 ^ (i + 1))) e
 
 -- the last of i + 1
-last-node : (row : List ℕ) (i x : ℕ) → i < length row → nodesOver (take (suc i) row) x ≡ nodesOver (take i row) x ++ ((getD row i 0 + x / 2 ^ i) ∷ [])
+last-node : (row : List ℕ) (i x : ℕ) → i < length row → nodesOver (take (suc i) row) x
+    ≡ nodesOver (take i row) x ++ ((getD row i 0 + x / 2 ^ i) ∷ [])
 unfolding nodesOver
 last-node [] i x h = absurd (omega arith)
 last-node (n ∷ ns) zero x h = ap (λ (z : ℕ). (n + z) ∷ []) (omega arith)
 last-node (n ∷ ns) (suc i) x h =
     let e : x / 2 / 2 ^ i ≡ x / 2 ^ suc i = shr-shr x 1 i ∙ ap (λ (z : ℕ). x / 2 ^ z) (omega arith) in
-    ap (λ (js : List ℕ). (n + x) ∷ js) (last-node ns i (x / 2) (omega arith) ∙ ap (λ (z : ℕ). nodesOver (take i ns) (x / 2) ++ ((getD ns i 0 + z) ∷ [])) e)
+    ap (λ (js : List ℕ). (n + x) ∷ js)
+    (last-node ns i (x / 2) (omega arith) ∙ ap (λ (z : ℕ). nodesOver (take i ns) (x / 2) ++ ((getD ns i 0 + z) ∷ [])) e)
 
 pub node-down : (row : List ℕ) (i x : ℕ) → 0 < i → i ≤ length row
     → reverse (nodesOver (take i row) x) ≡ (getD row (i - 1) 0 + x / 2 ^ (i - 1)) ∷ reverse (nodesOver (take (i - 1) row) x)
@@ -66,16 +69,19 @@ pub tree-levels : (w h : ℕ) (rest : List Level) → TreeLevels w h (levels w h
 tree-levels w h rest = record { are = take-append-seam (levels w h) rest; many = refl }
 
 -- what holds of all of them holds of each
-all-at : (P : ℕ → Type 0) (row : List ℕ) (depth x i : ℕ) → i < depth → depth ≤ length row → All P (nodesOver (take depth row) x) → P (getD row i 0 + x / 2 ^ i)
+all-at : (P : ℕ → Type 0) (row : List ℕ) (depth x i : ℕ) → i < depth → depth ≤ length row → All P (nodesOver (take depth row) x)
+    → P (getD row i 0 + x / 2 ^ i)
 unfolding nodesOver
 all-at P [] depth x i h l a = absurd (omega arith)
 all-at P (n ∷ ns) zero x i h l a = absurd (omega arith)
 all-at P (n ∷ ns) (suc d) x zero h l a = subst (λ (z : ℕ). P (n + z)) (omega arith) (a .0)
 all-at P (n ∷ ns) (suc d) x (suc i) h l a =
-    subst (λ (z : ℕ). P (getD ns i 0 + z)) (shr-shr x 1 i ∙ ap (λ (z : ℕ). x / 2 ^ z) (omega arith)) (all-at P ns d (x / 2) i (omega arith) (omega arith) (a .1))
+    subst (λ (z : ℕ). P (getD ns i 0 + z)) (shr-shr x 1 i ∙ ap (λ (z : ℕ). x / 2 ^ z) (omega arith))
+    (all-at P ns d (x / 2) i (omega arith) (omega arith) (a .1))
 
 -- and the first is the leaf
-first-node : (row : List ℕ) (depth x j : ℕ) (js : List ℕ) → depth ≤ length row → nodesOver (take depth row) x ≡ j ∷ js → (0 < depth) × (getD row 0 0 + x ≡ j)
+first-node : (row : List ℕ) (depth x j : ℕ) (js : List ℕ) → depth ≤ length row → nodesOver (take depth row) x ≡ j ∷ js → (0 < depth)
+    × (getD row 0 0 + x ≡ j)
 unfolding nodesOver
 first-node row zero x j js l e = let n : 0 ≡ suc (length js) = ap length e in absurd (omega arith)
 first-node [] (suc d) x j js l e = absurd (omega arith)
@@ -115,7 +121,9 @@ module _ (w h : ℕ) (ls : List Level) (depth : ℕ) (t : TreeLevels w h ls dept
   unfolding levels
   small-levels a b =
       let each : (i : ℕ) → i < depth → (getD ls i noLevel .w ≤ 64) × (getD ls i noLevel .h ≤ 64) = λ i l.
-      subst (λ (k : Level). (k .w ≤ 64) × (k .h ≤ 64)) (ap (λ (ks : List Level). getD ks i noLevel) (sym (t .are)) ∙ getD-take depth ls i noLevel l) (halves-small (levels w h) w h i a b (levels-halve 7 w h)) in
+      subst (λ (k : Level). (k .w ≤ 64) × (k .h ≤ 64))
+      (ap (λ (ks : List Level). getD ks i noLevel) (sym (t .are)) ∙ getD-take depth ls i noLevel l)
+      (halves-small (levels w h) w h i a b (levels-halve 7 w h)) in
       record { atMostSeven = few; across = λ i l. each i l .0; down = λ i l. each i l .1 }
 
   -- ---- in column x, row y
@@ -136,7 +144,8 @@ module _ (w h : ℕ) (ls : List Level) (depth : ℕ) (t : TreeLevels w h ls dept
     path-climbs = path-of-leaf ∙ climb .is
 
     pub leaf-word : (base : ℕ) → leafWord base (rowOver ls depth y) x ≡ base + 3 * (y * w + x)
-    leaf-word base = ap (λ (n : ℕ). base + 3 * n) (first-node (rowOver ls depth y) depth x (y * w + x) (climb .above) (omega (arith, row-long y, few)) path-climbs .1)
+    leaf-word base = ap (λ (n : ℕ). base + 3 * n)
+        (first-node (rowOver ls depth y) depth x (y * w + x) (climb .above) (omega (arith, row-long y, few)) path-climbs .1)
 
     -- the tree's words lie in the list
     pub path-in : (size base : ℕ) → base + 3 * nodes w h ≤ size → PathIn size base (rowOver ls depth y) depth x
@@ -145,5 +154,10 @@ module _ (w h : ℕ) (ls : List Level) (depth : ℕ) (t : TreeLevels w h ls dept
           some = first-node (rowOver ls depth y) depth x (y * w + x) (climb .above) (omega (arith, row-long y, few)) path-climbs .0;
           atMostSeven = few;
           long = omega (arith, row-long y, few);
-          inside = λ i l. omega (arith, fits, all-at (λ j. j < nodes w h) (rowOver ls depth y) depth x i l (omega (arith, row-long y, few)) (subst (AllBelow (nodes w h)) (sym path-climbs) (climb .below)));
+          inside = λ i l. omega (
+            arith,
+            fits,
+            all-at (λ j. j < nodes w h) (rowOver ls depth y) depth x i l (omega (arith, row-long y, few))
+                (subst (AllBelow (nodes w h)) (sym path-climbs) (climb .below)),
+          );
         }

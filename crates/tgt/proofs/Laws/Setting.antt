@@ -18,7 +18,8 @@ module _ (base n : ℕ) (ns : List ℕ) (v : ℕ) (ws : List ℕ) where
   unfolding setValue
   set-on h = if-lt v (value ws (base + 3 * n)) _ _ h
 
-pub fresh-turn : (ws : List ℕ) (at v left : ℕ) → 0 < left → sets (set (set (set ws at v) (at + 1) 0) (at + 2) 0) (at + 3) (freshNodes v (left - 1)) ≡ sets ws at (freshNodes v left)
+pub fresh-turn : (ws : List ℕ) (at v left : ℕ) → 0 < left
+    → sets (set (set (set ws at v) (at + 1) 0) (at + 2) 0) (at + 3) (freshNodes v (left - 1)) ≡ sets ws at (freshNodes v left)
 unfolding freshNodes
 fresh-turn ws at v zero h = absurd (omega arith)
 fresh-turn ws at v (suc left) h =

@@ -11,7 +11,8 @@ use Rattle.tgt.proofs.opj_tgt_reset.Statement.{statement}
 use Rattle.tgt.proofs.opj_tgt_reset.Tie as tie
 
 abbrev Inv-loop : tie.InvT-loop
-Inv-loop words₀ from nodes fresh at₀ left₀ words at left = (length words ≡ length words₀) × (at + 3 * left ≤ length words₀) × (sets words at (freshNodes fresh left) ≡ sets words₀ from (freshNodes fresh nodes))
+Inv-loop words₀ from nodes fresh at₀ left₀ words at left = (length words ≡ length words₀) × (at + 3 * left ≤ length words₀)
+    × (sets words at (freshNodes fresh left) ≡ sets words₀ from (freshNodes fresh nodes))
 
 abbrev μ-loop : tie.MeasureT-loop
 μ-loop words₀ from nodes fresh at₀ left₀ words at left = left
@@ -23,7 +24,9 @@ slice-write-words-2 : tie.Need-slice-write-words-2 Inv-loop μ-loop
 slice-write-words-2 c = let l = c .before .loop in lt-length-set (l .words) (l .at) _ {i = l .at + 1} (omega arith)
 
 slice-write-words-3 : tie.Need-slice-write-words-3 Inv-loop μ-loop
-slice-write-words-3 c = let l = c .before .loop in lt-length-set (set (l .words) (l .at) _) (l .at + 1) _ {i = l .at + 2} (lt-length-set (l .words) (l .at) _ {i = l .at + 2} (omega arith))
+slice-write-words-3 c = let l = c .before .loop in
+    lt-length-set (set (l .words) (l .at) _) (l .at + 1) _ {i = l .at + 2}
+    (lt-length-set (l .words) (l .at) _ {i = l .at + 2} (omega arith))
 
 loop-again : tie.Need-loop-again Inv-loop μ-loop
 loop-again c = let l = c .before .loop in

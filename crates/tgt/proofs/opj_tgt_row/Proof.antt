@@ -60,12 +60,21 @@ element-write-row c = omega (arith, c .before .before .before .before .before .p
 mul-size : tie.Need-mul-size Inv-loop μ-loop
 mul-size c = let l = c .before .before .before .before .loop in
     let s = c .before .before .before .before .before in
-    omega (arith, mul-le-mul (s .pre .0 .across (l .i) (c .before .before .before .loop-test .taken)) (s .pre .0 .down (l .i) (c .before .before .before .loop-test .taken)))
+    omega (
+      arith,
+      mul-le-mul (s .pre .0 .across (l .i) (c .before .before .before .loop-test .taken))
+          (s .pre .0 .down (l .i) (c .before .before .before .loop-test .taken)),
+    )
 
 add-below : tie.Need-add-below Inv-loop μ-loop
 add-below c = let l = c .before .before .before .before .loop in
     let s = c .before .before .before .before .before in
-    omega (arith, s .pre .0 .atMostSeven, mul-le-mul (s .pre .0 .across (l .i) (c .before .before .before .loop-test .taken)) (s .pre .0 .down (l .i) (c .before .before .before .loop-test .taken)))
+    omega (
+      arith,
+      s .pre .0 .atMostSeven,
+      mul-le-mul (s .pre .0 .across (l .i) (c .before .before .before .loop-test .taken))
+          (s .pre .0 .down (l .i) (c .before .before .before .loop-test .taken)),
+    )
 
 loop-again : tie.Need-loop-again Inv-loop μ-loop
 loop-again c = let l = c .before .before .before .before .loop in
@@ -80,7 +89,8 @@ loop-again c = let l = c .before .before .before .before .loop in
       omega arith,
       omega (arith, mul-le-mul (s .pre .0 .across (l .i) here) (s .pre .0 .down (l .i) here)),
       omega arith,
-      row-turn (take depth levels) (l .row) (getD levels (l .i) noLevel) (l .i) (l .below) (l .place) (omega arith) (omega arith) (sym (getD-take depth levels (l .i) noLevel here)) ∙ l .inv .4,
+      row-turn (take depth levels) (l .row) (getD levels (l .i) noLevel) (l .i) (l .below) (l .place) (omega arith) (omega arith)
+          (sym (getD-take depth levels (l .i) noLevel here)) ∙ l .inv .4,
       rest-turn (l .row) (l .i) (l .below + l .place * getD levels (l .i) noLevel .w) (omega arith) (l .inv .5),
     )
 
@@ -95,7 +105,8 @@ returns c = let l = c .before .loop in
     let e : l .i ≡ depth = omega arith in
     let none : drop (l .i) (take depth levels) ≡ [] = drop-of-length-le (take depth levels) {i = l .i} (omega arith) in
     let stored : take (l .i) (l .row) ≡ rowFrom (take depth levels) 0 (s .args .y) =
-    sym (append-nil (take (l .i) (l .row))) ∙ sym (ap (λ (ls : List Level). take (l .i) (l .row) ++ rowFrom ls (l .below) (l .place)) none) ∙ l .inv .4 in
+    sym (append-nil (take (l .i) (l .row)))
+    ∙ sym (ap (λ (ls : List Level). take (l .i) (l .row) ++ rowFrom ls (l .below) (l .place)) none) ∙ l .inv .4 in
     sym (take-append-drop (l .i) (l .row))
     ∙ ap (λ (ns : List ℕ). ns ++ drop (l .i) (l .row)) stored
     ∙ ap (λ (ns : List ℕ). rowFrom (take depth levels) 0 (s .args .y) ++ ns) (l .inv .5)

@@ -25,7 +25,9 @@ module _ (src : List ℕ) (Kept : Bio → Type 0) (bit : (b : Bio) → Kept b �
   unfolding readNode
   node-keeps zero v l b h = h
   node-keeps (suc d) v l b h =
-      either (λ (r : NodeRead). Kept (r .bio)) (ltb l v) _ _ (either (λ (r : NodeRead). Kept (r .bio)) (eqb (getBit src b .value) 0) _ _ (node-keeps d v (l + 1) (getBit src b .bio) (bit b h)) (bit b h)) h
+      either (λ (r : NodeRead). Kept (r .bio)) (ltb l v) _ _
+      (either (λ (r : NodeRead). Kept (r .bio)) (eqb (getBit src b .value) 0) _ _
+      (node-keeps d v (l + 1) (getBit src b .bio) (bit b h)) (bit b h)) h
 
   pub path-keeps : (base t : ℕ) (ns : List ℕ) (l : ℕ) (ws : List ℕ) (b : Bio) → Kept b → Kept (readPath src base t ns l ws b .bio)
   unfolding readPath
@@ -38,7 +40,8 @@ module _ (src : List ℕ) (Kept : Bio → Type 0) (bit : (b : Bio) → Kept b �
   raising-keeps k (suc f) t ws b h =
       let r = readPath src (k .zeroTree) t (reverse (k .path)) 0 ws b in
       let g = path-keeps (k .zeroTree) t (reverse (k .path)) 0 ws b h in
-      either (λ (p : PathRead). Kept (p .bio)) (ltb (value (r .words) (k .zeroTree + 3 * k .leaf)) t) _ _ g (raising-keeps k f (t + 1) (r .words) (r .bio) g)
+      either (λ (p : PathRead). Kept (p .bio)) (ltb (value (r .words) (k .zeroTree + 3 * k .leaf)) t) _ _ g
+      (raising-keeps k f (t + 1) (r .words) (r .bio) g)
 
 pub readAt-ct : (src : List ℕ) (t at l : ℕ) (ws : List ℕ) (b : Bio) → b .ct ≤ 8 → readAt src t at l ws b .bio .ct ≤ 8
 unfolding readAt
@@ -74,7 +77,8 @@ module _ (src : List ℕ) (t at l : ℕ) (ws : List ℕ) (b : Bio) where
   read-sought f r e q = ap stored (q ∙ sym (cut-short src t (value ws at) f b) ∙ ap (λ (g : ℕ). readNode src (t - g) (value ws at) g b) e)
 
   -- there are none: nothing but low changes
-  pub read-nothing : (f : ℕ) → f ≡ from → min (value ws at) t ≤ f → record { words = set ws (at + 1) f; bio = b; low = f } ≡ readAt src t at l ws b
+  pub read-nothing : (f : ℕ) → f ≡ from → min (value ws at) t ≤ f → record { words = set ws (at + 1) f; bio = b; low = f }
+      ≡ readAt src t at l ws b
   unfolding readNode
   read-nothing f e h =
       let z : min (value ws at) t - f ≡ 0 = omega arith in
@@ -83,18 +87,25 @@ module _ (src : List ℕ) (t at l : ℕ) (ws : List ℕ) (b : Bio) where
       ∙ read-sought f r e (ap (λ (n : ℕ). readNode src n (value ws at) f b) (sym z))
 
 -- ---- a path: its first node, and the rest from there
-pub read-turn : (src : List ℕ) (base t n : ℕ) (ns : List ℕ) (l : ℕ) (ws : List ℕ) (b : Bio) (k : NodeAfter) → k ≡ readAt src t (base + 3 * n) l ws b
+pub read-turn : (src : List ℕ) (base t n : ℕ) (ns : List ℕ) (l : ℕ) (ws : List ℕ) (b : Bio) (k : NodeAfter) → k
+    ≡ readAt src t (base + 3 * n) l ws b
     → readPath src base t ns (k .low) (k .words) (k .bio) ≡ readPath src base t (n ∷ ns) l ws b
 unfolding readPath readAt
 read-turn src base t n ns l ws b k e = ap (λ (j : NodeAfter). readPath src base t ns (j .low) (j .words) (j .bio)) e
 
 -- ---- a leaf: what an answer says of the path that was read
-pub leaf-says : (t at : ℕ) (ws : List ℕ) (r : LeafRead) (p : PathRead) → leafAfter ws r ≡ belowIn t at p → (pathRead ws (r .bio) ≡ p) × (ltb (value ws at) t ≡ r .below)
-leaf-says t at ws r p e = (ap (λ (a : LeafAfter). pathRead (a .words) (a .bio)) e, ap (λ (a : LeafAfter). ltb (value (a .words) at) t) e ∙ sym (ap (λ (a : LeafAfter). a .below) e))
+pub leaf-says : (t at : ℕ) (ws : List ℕ) (r : LeafRead) (p : PathRead) → leafAfter ws r ≡ belowIn t at p
+    → (pathRead ws (r .bio) ≡ p) × (ltb (value ws at) t ≡ r .below)
+leaf-says t at ws r p e = (
+  ap (λ (a : LeafAfter). pathRead (a .words) (a .bio)) e,
+  ap (λ (a : LeafAfter). ltb (value (a .words) at) t) e
+      ∙ sym (ap (λ (a : LeafAfter). a .below) e),
+)
 
 -- ---- raising the threshold
 
-module _ (src : List ℕ) (k : Block) (t : ℕ) (ws : List ℕ) (b : Bio) (r : PathRead) (is : r ≡ readPath src (k .zeroTree) t (reverse (k .path)) 0 ws b) (less : t < notYetPlanes + 2) where
+module _ (src : List ℕ) (k : Block) (t : ℕ) (ws : List ℕ) (b : Bio) (r : PathRead)
+    (is : r ≡ readPath src (k .zeroTree) t (reverse (k .path)) 0 ws b) (less : t < notYetPlanes + 2) where
   abbrev after : ℕ → PathRead → PathRead
   after f r = cond (ltb (value (r .words) (k .zeroTree + 3 * k .leaf)) t) r (readZeroPlanesFrom src k f (t + 1) (r .words) (r .bio))
 
@@ -107,9 +118,12 @@ module _ (src : List ℕ) (k : Block) (t : ℕ) (ws : List ℕ) (b : Bio) (r : P
   pub raise-stop : ltb (value (r .words) (k .zeroTree + 3 * k .leaf)) t ≡ true → readZeroPlanesFrom src k (notYetPlanes + 2 - t) t ws b ≡ r
   raise-stop h = raise-by ∙ if-true _ _ _ h
 
-  pub raise-on : ltb (value (r .words) (k .zeroTree + 3 * k .leaf)) t ≡ false → readZeroPlanesFrom src k (notYetPlanes + 2 - (t + 1)) (t + 1) (r .words) (r .bio) ≡ readZeroPlanesFrom src k (notYetPlanes + 2 - t) t ws b
+  pub raise-on : ltb (value (r .words) (k .zeroTree + 3 * k .leaf)) t ≡ false
+      → readZeroPlanesFrom src k (notYetPlanes + 2 - (t + 1)) (t + 1) (r .words) (r .bio)
+      ≡ readZeroPlanesFrom src k (notYetPlanes + 2 - t) t ws b
   raise-on h = sym (raise-by ∙ if-false _ _ _ h)
 
-pub raise-end : (src : List ℕ) (k : Block) (t : ℕ) (ws : List ℕ) (b : Bio) → notYetPlanes + 2 ≤ t → readZeroPlanesFrom src k (notYetPlanes + 2 - t) t ws b ≡ pathRead ws b
+pub raise-end : (src : List ℕ) (k : Block) (t : ℕ) (ws : List ℕ) (b : Bio) → notYetPlanes + 2 ≤ t
+    → readZeroPlanesFrom src k (notYetPlanes + 2 - t) t ws b ≡ pathRead ws b
 unfolding readZeroPlanesFrom
 raise-end src k t ws b h = let e : notYetPlanes + 2 - t ≡ 0 = omega arith in ap (λ (f : ℕ). readZeroPlanesFrom src k f t ws b) e

@@ -25,21 +25,25 @@ cut-by src zero v l b = let e : min 0 (v - l) ≡ 0 = omega arith in rw e
 cut-by src (suc d) v l b =
     on-lt l v
     (λ h. let e : min (suc d) (v - l) ≡ suc (min d (v - (l + 1))) = omega arith in
-    ap (λ (r : NodeRead). cond (ltb l v) (cond (eqb (getBit src b .value) 0) r (seen l l (getBit src b .bio))) (seen v l b)) (cut-by src d v (l + 1) (getBit src b .bio))
+    ap (λ (r : NodeRead). cond (ltb l v) (cond (eqb (getBit src b .value) 0) r (seen l l (getBit src b .bio))) (seen v l b))
+    (cut-by src d v (l + 1) (getBit src b .bio))
     ∙ ap (λ (k : ℕ). readNode src k v l b) (sym e))
     (λ h. let e : min (suc d) (v - l) ≡ 0 = omega arith in
     if-ge l v _ _ h ∙ ap (λ (k : ℕ). readNode src k v l b) (sym e))
 
 pub cut-short : (src : List ℕ) (t v l : ℕ) (b : Bio) → readNode src (t - l) v l b ≡ readNode src (min v t - l) v l b
-cut-short src t v l b = let e : min (t - l) (v - l) ≡ min v t - l = omega arith in cut-by src (t - l) v l b ∙ ap (λ (k : ℕ). readNode src k v l b) e
+cut-short src t v l b = let e : min (t - l) (v - l) ≡ min v t - l = omega arith in cut-by src (t - l) v l b
+    ∙ ap (λ (k : ℕ). readNode src k v l b) e
 
 -- ---- a held bit
 
 module _ (src : List ℕ) (d v l p u c : ℕ) (under : l < v) where
   abbrev afterBit : Decoded → NodeRead
-  afterBit g = cond (ltb l v) (cond (eqb (g .value) 0) (readNode src d v (l + 1) (g .bio)) (seen l l (g .bio))) (seen v l (bioOf p u (suc c)))
+  afterBit g = cond (ltb l v) (cond (eqb (g .value) 0) (readNode src d v (l + 1) (g .bio)) (seen l l (g .bio)))
+      (seen v l (bioOf p u (suc c)))
 
-  bit-held : readNode src (suc d) v l (bioOf p u (suc c)) ≡ cond (eqb (u / 2 ^ c % 2) 0) (readNode src d v (l + 1) (bioOf p u c)) (seen l l (bioOf p u c))
+  bit-held : readNode src (suc d) v l (bioOf p u (suc c))
+      ≡ cond (eqb (u / 2 ^ c % 2) 0) (readNode src d v (l + 1) (bioOf p u c)) (seen l l (bioOf p u c))
   unfolding readNode
   bit-held = ap afterBit (get-held src p u c) ∙ if-lt l v _ _ under
 
@@ -51,7 +55,8 @@ module _ (src : List ℕ) (d v l p u c : ℕ) (under : l < v) where
 
 -- ---- k zeros of k + r held bits
 
-held-zeros : (src : List ℕ) (d v l p u r k : ℕ) → u / 2 ^ r % 2 ^ k ≡ 0 → l + k ≤ v → readNode src (k + d) v l (bioOf p u (k + r)) ≡ readNode src d v (l + k) (bioOf p u r)
+held-zeros : (src : List ℕ) (d v l p u r k : ℕ) → u / 2 ^ r % 2 ^ k ≡ 0 → l + k ≤ v → readNode src (k + d) v l (bioOf p u (k + r))
+    ≡ readNode src d v (l + k) (bioOf p u r)
 held-zeros src d v l p u r zero e h =
     let a : zero + d ≡ d = omega arith in
     let b : zero + r ≡ r = omega arith in
@@ -63,8 +68,10 @@ held-zeros src d v l p u r (suc k) e h =
     let c : l + suc k ≡ l + 1 + k = omega arith in
     let q : 1 + k ≡ suc k = omega arith in
     let top : u / 2 ^ (k + r) % 2 ≡ 0 =
-    ap (λ (z : ℕ). u / 2 ^ z % 2) (add-comm k r) ∙ ap (λ (z : ℕ). z % 2) (sym (shr-shr u r k)) ∙ sym (field (u / 2 ^ r) 1 k) ∙ ap (λ (z : ℕ). u / 2 ^ r % 2 ^ z / 2 ^ k) q ∙ ap (λ (z : ℕ). z / 2 ^ k) e ∙ zero-div (2 ^ k) in
-    let rest : u / 2 ^ r % 2 ^ k ≡ 0 = sym (mod-mod-pow (u / 2 ^ r) 1 k) ∙ ap (λ (z : ℕ). u / 2 ^ r % 2 ^ z % 2 ^ k) q ∙ ap (λ (z : ℕ). z % 2 ^ k) e ∙ zero-mod (2 ^ k) in
+    ap (λ (z : ℕ). u / 2 ^ z % 2) (add-comm k r) ∙ ap (λ (z : ℕ). z % 2) (sym (shr-shr u r k)) ∙ sym (field (u / 2 ^ r) 1 k)
+    ∙ ap (λ (z : ℕ). u / 2 ^ r % 2 ^ z / 2 ^ k) q ∙ ap (λ (z : ℕ). z / 2 ^ k) e ∙ zero-div (2 ^ k) in
+    let rest : u / 2 ^ r % 2 ^ k ≡ 0 = sym (mod-mod-pow (u / 2 ^ r) 1 k) ∙ ap (λ (z : ℕ). u / 2 ^ r % 2 ^ z % 2 ^ k) q
+    ∙ ap (λ (z : ℕ). z % 2 ^ k) e ∙ zero-mod (2 ^ k) in
     rw (a, b, c) (held-zero src (k + d) v l p u (k + r) (omega arith) top ∙ held-zeros src d v (l + 1) p u r k rest (omega arith))
 
 -- k zeros, where at least as many are held
@@ -82,7 +89,8 @@ fewer-zeros : (u c z k : ℕ) → k ≤ z → z ≤ c → u / 2 ^ (c - z) % 2 ^ 
 fewer-zeros u c z k h g e =
     let a : k + (z - k) ≡ z = omega arith in
     let b : c - z + (z - k) ≡ c - k = omega arith in
-    ap (λ (n : ℕ). u / 2 ^ n % 2 ^ k) (sym b) ∙ ap (λ (n : ℕ). n % 2 ^ k) (sym (shr-shr u (c - z) (z - k))) ∙ sym (field (u / 2 ^ (c - z)) k (z - k))
+    ap (λ (n : ℕ). u / 2 ^ n % 2 ^ k) (sym b) ∙ ap (λ (n : ℕ). n % 2 ^ k) (sym (shr-shr u (c - z) (z - k)))
+    ∙ sym (field (u / 2 ^ (c - z)) k (z - k))
     ∙ ap (λ (n : ℕ). u / 2 ^ (c - z) % 2 ^ n / 2 ^ (z - k)) a ∙ ap (λ (n : ℕ). n / 2 ^ (z - k)) e ∙ zero-div (2 ^ (z - k))
 
 -- ---- the ends of the search, z zeros leading
@@ -120,7 +128,10 @@ runs-on-is b d e = by (ltb (b .ct) d) (eqb (b .buf % 2 ^ (b .ct)) 0) refl refl e
 
 -- where it doesn't, and its leading zeros are too few, they end with a 1
 pub not-on : (b : Bio) (d z : ℕ) → ltb (b .ct) d && eqb (b .buf % 2 ^ (b .ct)) 0 ≡ false → LeadingZeros b z → z < d → z < b .ct
-not-on b d z e s h = on-lt z (b .ct) (λ l. l) (λ l. absurd (true≢false (sym (cc (lt-ltb (b .ct) d (omega (arith, s .atMost)), eq-eqb (b .buf % 2 ^ (b .ct)) 0 (all (omega (arith, s .atMost))))) ∙ e)))
+not-on b d z e s h =
+    on-lt z (b .ct) (λ l. l)
+    (λ l. absurd (true≢false
+    (sym (cc (lt-ltb (b .ct) d (omega (arith, s .atMost)), eq-eqb (b .buf % 2 ^ (b .ct)) 0 (all (omega (arith, s .atMost))))) ∙ e)))
   where
     all : z ≡ b .ct → b .buf % 2 ^ (b .ct) ≡ 0
     all q =
@@ -135,7 +146,8 @@ unfolding byteIn
 same-byte src b = refl
 
 -- with no bit held a byte comes in first
-byte-first : (src : List ℕ) (b : Bio) (d v l : ℕ) → 0 < d → l < v → readNode src d v l (bioOf (b .bp) (b .buf) 0) ≡ readNode src d v l (byteIn src b)
+byte-first : (src : List ℕ) (b : Bio) (d v l : ℕ) → 0 < d → l < v → readNode src d v l (bioOf (b .bp) (b .buf) 0)
+    ≡ readNode src d v l (byteIn src b)
 unfolding readNode getBit
 byte-first src b zero v l h g = absurd (omega arith)
 byte-first src b (suc d) v l h g =
@@ -143,7 +155,8 @@ byte-first src b (suc d) v l h g =
     let r = byteIn-ct src b in
     let z : m .ct ≡ 0 → ⊥ = omega arith in
     if-lt l v _ _ g
-    ∙ ap (λ (c : Bio). cond (eqb (heldBit c .value) 0) (readNode src d v (l + 1) (heldBit c .bio)) (seen l l (heldBit c .bio))) (same-byte src b ∙ sym (if-ne (m .ct) 0 (byteIn src m) m z))
+    ∙ ap (λ (c : Bio). cond (eqb (heldBit c .value) 0) (readNode src d v (l + 1) (heldBit c .bio)) (seen l l (heldBit c .bio)))
+    (same-byte src b ∙ sym (if-ne (m .ct) 0 (byteIn src m) m z))
     ∙ sym (if-lt l v _ _ g)
 
 pub seek-turn : (src : List ℕ) (b : Bio) (d v l : ℕ) → l + d ≤ v → b .ct < d → b .buf % 2 ^ (b .ct) ≡ 0
@@ -153,7 +166,8 @@ seek-turn src b d v l f h e =
     let one : b .buf / 2 ^ 0 ≡ b .buf = omega arith in
     let zeros : b .buf / 2 ^ (b .ct - b .ct) % 2 ^ (b .ct) ≡ 0 = rw (z, one) e in
     sym (byte-first src b (d - b .ct) v (l + b .ct) (omega arith) (omega arith))
-    ∙ sym (past-zeros src b d v l (b .ct) (omega arith) (omega arith) f zeros ∙ ap (λ (c : ℕ). readNode src (d - b .ct) v (l + b .ct) (bioOf (b .bp) (b .buf) c)) z)
+    ∙ sym (past-zeros src b d v l (b .ct) (omega arith) (omega arith) f zeros
+    ∙ ap (λ (c : ℕ). readNode src (d - b .ct) v (l + b .ct) (bioOf (b .bp) (b .buf) c)) z)
 
 -- ---- the zeros that lead
 
@@ -167,7 +181,9 @@ module _ (b : Bio) (few : b .ct ≤ 8) where
   -- m bits of it from the top 1 on
   module _ (m : ℕ) (small : h < 2 ^ m) (top : 2 ^ m ≤ 2 * h + 1) where
     at-most : m ≤ b .ct
-    at-most = on-lt (b .ct) m (λ l. absurd (on-eq m (suc (b .ct)) (λ e. omega (arith, below, top, ap (λ (k : ℕ). 2 ^ k) e)) (λ n. omega (arith, below, top, pow-lt {i = suc (b .ct)} {j = m} (omega arith))))) (λ l. l)
+    at-most = on-lt (b .ct) m
+        (λ l. absurd (on-eq m (suc (b .ct)) (λ e. omega (arith, below, top, ap (λ (k : ℕ). 2 ^ k) e))
+        (λ n. omega (arith, below, top, pow-lt {i = suc (b .ct)} {j = m} (omega arith))))) (λ l. l)
 
     leading : LeadingZeros b (b .ct - m)
     leading =
@@ -175,7 +191,8 @@ module _ (b : Bio) (few : b .ct ≤ 8) where
         let whole : b .ct - m + m ≡ b .ct = omega (arith, at-most) in
         record {
           atMost = omega arith;
-          zeros = ap (λ (k : ℕ). b .buf / 2 ^ k % 2 ^ (b .ct - m)) back ∙ sym (field (b .buf) (b .ct - m) m) ∙ ap (λ (k : ℕ). b .buf % 2 ^ k / 2 ^ m) whole ∙ div-eq-of-lt small;
+          zeros = ap (λ (k : ℕ). b .buf / 2 ^ k % 2 ^ (b .ct - m)) back ∙ sym (field (b .buf) (b .ct - m) m)
+              ∙ ap (λ (k : ℕ). b .buf % 2 ^ k / 2 ^ m) whole ∙ div-eq-of-lt small;
           one = λ g. ap (λ (k : ℕ). b .buf / 2 ^ k % 2) (ap (λ (k : ℕ). k - 1) back) ∙ top-one (m - 1) (omega arith);
         }
       where
@@ -183,8 +200,10 @@ module _ (b : Bio) (few : b .ct ≤ 8) where
         top-one j e =
             let twice : 2 ^ m ≡ 2 * 2 ^ j = ap (λ (k : ℕ). 2 ^ k) e ∙ pow-add 2 1 j in
             let whole : b .ct - m + m ≡ b .ct = omega (arith, at-most) in
-            let low : b .buf % 2 ^ m ≡ h = sym (mod-mod-pow (b .buf) (b .ct - m) m) ∙ ap (λ (k : ℕ). b .buf % 2 ^ k % 2 ^ m) whole ∙ mod-eq-of-lt small in
-            sym (field (b .buf) 1 j) ∙ ap (λ (k : ℕ). b .buf % 2 ^ k / 2 ^ j) (sym e) ∙ ap (λ (n : ℕ). n / 2 ^ j) low ∙ div-eq-of-lt-le (2 ^ j) (omega arith) (omega arith)
+            let low : b .buf % 2 ^ m ≡ h = sym (mod-mod-pow (b .buf) (b .ct - m) m) ∙ ap (λ (k : ℕ). b .buf % 2 ^ k % 2 ^ m) whole
+            ∙ mod-eq-of-lt small in
+            sym (field (b .buf) 1 j) ∙ ap (λ (k : ℕ). b .buf % 2 ^ k / 2 ^ j) (sym e) ∙ ap (λ (n : ℕ). n / 2 ^ j) low
+            ∙ div-eq-of-lt-le (2 ^ j) (omega arith) (omega arith)
 
   -- what the count of a 32-bit word says of the held bits
   pub leading-held : (32 - b .ct ≤ leadingZeros 32 h) × LeadingZeros b (leadingZeros 32 h - (32 - b .ct))

@@ -18,7 +18,8 @@ abbrev Inv-loop : tie.InvT-loop
 Inv-loop words₀ src base row levels x threshold above bio₀ low₀ i₀ words bio low i = (bio .ct ≤ 8)
     × (length words ≡ length words₀)
     × (i ≤ levels)
-    × (readPath src base threshold (reverse (nodesOver (take i row) x)) low words bio ≡ readPath src base threshold (reverse (nodesOver (take levels row) x)) above words₀ bio₀)
+    × (readPath src base threshold (reverse (nodesOver (take i row) x)) low words bio
+    ≡ readPath src base threshold (reverse (nodesOver (take levels row) x)) above words₀ bio₀)
 
 abbrev μ-loop : tie.MeasureT-loop
 μ-loop words₀ src base row levels x threshold above bio₀ low₀ i₀ words bio low i = i
@@ -54,12 +55,15 @@ loop-again c = let s = c .before .before .before .before .before .before .before
     let x = s .args .x in
     let n = getD row (l .i - 1) 0 + x / 2 ^ (l .i - 1) in
     let k = nodeAfter (r .last .0) (r .result) in
-    let e : k ≡ readAt src t (base + 3 * n) (l .low) (l .words) (l .bio) = r .ensures ∙ ap (λ (a : ℕ). readAt src t a (l .low) (l .words) (l .bio)) (c .before .before .before .before .before .first-word .ensures) in (
+    let e : k ≡ readAt src t (base + 3 * n) (l .low) (l .words) (l .bio) = r .ensures
+    ∙ ap (λ (a : ℕ). readAt src t a (l .low) (l .words) (l .bio))
+    (c .before .before .before .before .before .first-word .ensures) in (
       subst (λ (j : NodeAfter). j .bio .ct ≤ 8) (sym e) (readAt-ct src t (base + 3 * n) (l .low) (l .words) (l .bio) (l .inv .0)),
       r .kept .0 ∙ l .inv .1,
       omega arith,
       read-turn src base t n (reverse (nodesOver (take (l .i - 1) row) x)) (l .low) (l .words) (l .bio) k e
-          ∙ ap (λ (ns : List ℕ). readPath src base t ns (l .low) (l .words) (l .bio)) (sym (node-down row (l .i) x (omega arith) (omega (arith, s .pre .1 .long))))
+          ∙ ap (λ (ns : List ℕ). readPath src base t ns (l .low) (l .words) (l .bio))
+          (sym (node-down row (l .i) x (omega arith) (omega (arith, s .pre .1 .long))))
           ∙ l .inv .3,
     )
 

@@ -17,8 +17,10 @@ use Rattle.tgt_read.proofs.decode_path.Tie as tie
 first-word-requires : tie.Need-first-word-requires
 first-word-requires c κs =
     let s = c .before .before .before in
-    let n : length (s .args .words .now) < 0x1_0000_0000_0000_0000 = search needs in
-    (omega (arith, s .pre .1 .atMostSeven, s .pre .1 .some), omega (arith, s .pre .1 .inside (s .args .depth - 1) (omega (arith, s .pre .1 .some))))
+    let n : length (s .args .words .now) < 0x1_0000_0000_0000_0000 = search needs in (
+      omega (arith, s .pre .1 .atMostSeven, s .pre .1 .some),
+      omega (arith, s .pre .1 .inside (s .args .depth - 1) (omega (arith, s .pre .1 .some))),
+    )
 
 decode-node-requires : tie.Need-decode-node-requires
 decode-node-requires c κs =
@@ -38,7 +40,8 @@ decode-below-requires c κs =
     let x = s .args .x in
     let n = getD row (d - 1) 0 + x / 2 ^ (d - 1) in
     let k = nodeAfter (r .last .0) (r .result) in
-    let e : k ≡ readAt src t (base + 3 * n) 0 ws (s .args .b) = r .ensures ∙ ap (λ (a : ℕ). readAt src t a 0 ws (s .args .b)) (c .before .before .before .before .before .first-word .ensures) in (
+    let e : k ≡ readAt src t (base + 3 * n) 0 ws (s .args .b) = r .ensures
+    ∙ ap (λ (a : ℕ). readAt src t a 0 ws (s .args .b)) (c .before .before .before .before .before .first-word .ensures) in (
       subst (λ (j : NodeAfter). j .bio .ct ≤ 8) (sym e) (readAt-ct src t (base + 3 * n) 0 ws (s .args .b) (s .pre .0)),
       record {
         atMostSeven = omega (arith, s .pre .1 .atMostSeven);
@@ -60,7 +63,9 @@ returns c =
     let x = s .args .x in
     let n = getD row (d - 1) 0 + x / 2 ^ (d - 1) in
     let k = nodeAfter (r .last .0) (r .result) in
-    let e : k ≡ readAt src t (base + 3 * n) 0 ws (s .args .b) = r .ensures ∙ ap (λ (a : ℕ). readAt src t a 0 ws (s .args .b)) (c .before .before .before .before .before .before .before .before .first-word .ensures) in
+    let e : k ≡ readAt src t (base + 3 * n) 0 ws (s .args .b) = r .ensures
+    ∙ ap (λ (a : ℕ). readAt src t a 0 ws (s .args .b))
+    (c .before .before .before .before .before .before .before .before .first-word .ensures) in
     c .before .before .decode-below .ensures
     ∙ read-turn src base t n (reverse (nodesOver (take (d - 1) row) x)) 0 ws (s .args .b) k e
     ∙ ap (λ (ns : List ℕ). readPath src base t ns 0 ws (s .args .b)) (sym (node-down row d x (s .pre .1 .some) (s .pre .1 .long)))

@@ -16,7 +16,8 @@ sub-result : tie.Need-sub-result
 sub-result c = let b = c .before .args .b in omega (arith, one-shifted (b .ct) (c .before .pre), pow-pos (b .ct))
 
 returns : tie.Need-returns
-returns c = let b = c .before .before .args .b in ap (λ (n : ℕ). bitAnd (b .buf) (n - 1)) (one-shifted (b .ct) (c .before .before .pre)) ∙ and-mask (b .buf) (b .ct)
+returns c = let b = c .before .before .args .b in
+    ap (λ (n : ℕ). bitAnd (b .buf) (n - 1)) (one-shifted (b .ct) (c .before .before .pre)) ∙ and-mask (b .buf) (b .ct)
 
 pub held-spec : {M : Type 1} → statement M
 held-spec = tie.close (tie.spec (λ c. search needs) sub-result returns)

@@ -19,11 +19,17 @@ mul-result c = let s = c .before .before .before in
     omega (arith, c .first-word .ensures, s .pre .inside 0 (s .pre .some))
 
 shared-slice-read-result : tie.Need-shared-slice-read-result
-shared-slice-read-result c = omega (arith, c .before .first-word .ensures, c .before .before .before .before .pre .inside 0 (c .before .before .before .before .pre .some))
+shared-slice-read-result c =
+    omega (
+      arith,
+      c .before .first-word .ensures,
+      c .before .before .before .before .pre .inside 0 (c .before .before .before .before .pre .some),
+    )
 
 returns : tie.Need-returns
 returns c = let s = c .before .before .before .before in
-    let e : c .before .first-word .result ≡ s .args .base + 3 * (getD (s .args .row .now) 0 0 + s .args .x) = omega (arith, c .before .first-word .ensures) in
+    let e : c .before .first-word .result
+    ≡ s .args .base + 3 * (getD (s .args .row .now) 0 0 + s .args .x) = omega (arith, c .before .first-word .ensures) in
     ap (λ (a : ℕ). getD (s .args .words .now) a 0) e
 
 pub leaf-value-spec : {M : Type 1} → statement M

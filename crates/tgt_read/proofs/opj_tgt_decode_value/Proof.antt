@@ -9,7 +9,9 @@ use Rattle.tgt_read.proofs.opj_tgt_decode_value.Statement.{statement}
 use Rattle.tgt_read.proofs.opj_tgt_decode_value.Tie as tie
 
 leaf-value-requires : tie.Need-leaf-value-requires
-leaf-value-requires c κs = let s = c .before .before .before .before .before .before .before in subst (λ (n : ℕ). PathIn n (s .args .base) (s .args .row .now) (s .args .depth) (s .args .x)) (sym (c .before .before .before .read-planes .kept .0)) (s .pre .1)
+leaf-value-requires c κs = let s = c .before .before .before .before .before .before .before in
+    subst (λ (n : ℕ). PathIn n (s .args .base) (s .args .row .now) (s .args .depth) (s .args .x))
+    (sym (c .before .before .before .read-planes .kept .0)) (s .pre .1)
 
 returns : tie.Need-returns
 returns c = let s = c .before .before .before .before .before .before .before .before in

@@ -18,7 +18,8 @@ abbrev Inv-loop : tie.InvT-loop
 Inv-loop words₀ src base row depth x bio₀ threshold₀ words bio threshold = (bio .ct ≤ 8)
     × (length words ≡ length words₀)
     × (threshold ≤ notYetPlanes + 2)
-    × (readZeroPlanesFrom src (leafOf base row depth x) (notYetPlanes + 2 - threshold) threshold words bio ≡ readZeroPlanesFrom src (leafOf base row depth x) (notYetPlanes + 2) 0 words₀ bio₀)
+    × (readZeroPlanesFrom src (leafOf base row depth x) (notYetPlanes + 2 - threshold) threshold words bio
+    ≡ readZeroPlanesFrom src (leafOf base row depth x) (notYetPlanes + 2) 0 words₀ bio₀)
 
 abbrev μ-loop : tie.MeasureT-loop
 μ-loop words₀ src base row depth x bio₀ threshold₀ words bio threshold = notYetPlanes + 2 - threshold
@@ -27,10 +28,15 @@ loop-holds : tie.Need-loop-holds Inv-loop μ-loop
 loop-holds c = (c .before .before .pre .0, refl, omega arith, refl)
 
 opj-tgt-decode-requires : tie.Need-opj-tgt-decode-requires Inv-loop μ-loop
-opj-tgt-decode-requires c κs = let s = c .before .before .before .before .before in let l = c .before .before .loop in (l .inv .0, subst (λ (n : ℕ). PathIn n (s .args .base) (s .args .row .now) (s .args .depth) (s .args .x)) (sym (l .inv .1)) (s .pre .1))
+opj-tgt-decode-requires c κs = let s = c .before .before .before .before .before in let l = c .before .before .loop in (
+  l .inv .0,
+  subst (λ (n : ℕ). PathIn n (s .args .base) (s .args .row .now) (s .args .depth) (s .args .x)) (sym (l .inv .1))
+      (s .pre .1),
+)
 
 same-length : tie.Need-same-length Inv-loop μ-loop
-same-length c = c .before .before .before .before .opj-tgt-decode .kept .0 ∙ c .before .before .before .before .before .before .before .loop .inv .1
+same-length c = c .before .before .before .before .opj-tgt-decode .kept .0
+    ∙ c .before .before .before .before .before .before .before .loop .inv .1
 
 returns : tie.Need-returns Inv-loop μ-loop
 returns c = let s = c .before .before .before .before .before .before .before .before .before .before in
@@ -40,7 +46,9 @@ returns c = let s = c .before .before .before .before .before .before .before .b
     let row = s .args .row .now in
     let p = readPath src (s .args .base) (l .threshold) (reverse (pathOver row (s .args .depth) (s .args .x))) 0 (l .words) (l .bio) in
     let says = leaf-says (l .threshold) (leafWord (s .args .base) row (s .args .x)) (r .last .0) (r .result) p (r .ensures) in
-    sym (raise-stop src (leafOf (s .args .base) row (s .args .depth) (s .args .x)) (l .threshold) (l .words) (l .bio) (pathRead (r .last .0) (r .result .bio)) (says .0) (omega (arith, c .before .before .before .before .before .before .loop-test .taken)) (says .1 ∙ c .if1 .taken))
+    sym (raise-stop src (leafOf (s .args .base) row (s .args .depth) (s .args .x)) (l .threshold) (l .words) (l .bio)
+    (pathRead (r .last .0) (r .result .bio)) (says .0)
+    (omega (arith, c .before .before .before .before .before .before .loop-test .taken)) (says .1 ∙ c .if1 .taken))
     ∙ l .inv .3
 
 loop-again : tie.Need-loop-again Inv-loop μ-loop
@@ -52,10 +60,13 @@ loop-again c = let s = c .before .before .before .before .before .before .before
     let path = reverse (pathOver row (s .args .depth) (s .args .x)) in
     let p = readPath src (s .args .base) (l .threshold) path 0 (l .words) (l .bio) in
     let says = leaf-says (l .threshold) (leafWord (s .args .base) row (s .args .x)) (r .last .0) (r .result) p (r .ensures) in (
-      subst (λ (q : PathRead). q .bio .ct ≤ 8) (sym (says .0)) (readPath-ct src (s .args .base) (l .threshold) path 0 (l .words) (l .bio) (l .inv .0)),
+      subst (λ (q : PathRead). q .bio .ct ≤ 8) (sym (says .0))
+          (readPath-ct src (s .args .base) (l .threshold) path 0 (l .words) (l .bio) (l .inv .0)),
       r .kept .0 ∙ l .inv .1,
       omega arith,
-      raise-on src (leafOf (s .args .base) row (s .args .depth) (s .args .x)) (l .threshold) (l .words) (l .bio) (pathRead (r .last .0) (r .result .bio)) (says .0) (omega (arith, c .before .before .before .before .before .before .loop-test .taken)) (says .1 ∙ c .if1 .left) ∙ l .inv .3,
+      raise-on src (leafOf (s .args .base) row (s .args .depth) (s .args .x)) (l .threshold) (l .words) (l .bio)
+          (pathRead (r .last .0) (r .result .bio)) (says .0)
+          (omega (arith, c .before .before .before .before .before .before .loop-test .taken)) (says .1 ∙ c .if1 .left) ∙ l .inv .3,
     )
 
 same-length-2 : tie.Need-same-length-2 Inv-loop μ-loop
@@ -64,7 +75,8 @@ same-length-2 c = c .before .loop .inv .1
 returns-2 : tie.Need-returns-2 Inv-loop μ-loop
 returns-2 c = let s = c .before .before .before .before in
     let l = c .before .loop in
-    sym (raise-end (s .args .src .now) (leafOf (s .args .base) (s .args .row .now) (s .args .depth) (s .args .x)) (l .threshold) (l .words) (l .bio) (c .loop-test .left)) ∙ l .inv .3
+    sym (raise-end (s .args .src .now) (leafOf (s .args .base) (s .args .row .now) (s .args .depth) (s .args .x)) (l .threshold)
+    (l .words) (l .bio) (c .loop-test .left)) ∙ l .inv .3
 
 pub raise-spec : {M : Type 1} → statement M
 raise-spec =

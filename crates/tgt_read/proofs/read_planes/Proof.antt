@@ -23,7 +23,11 @@ returns c =
     let base = s .args .base in
     let x = s .args .x in
     c .before .before .decode-path .ensures
-    ∙ subst (λ (d : ℕ). readPath src base (notYetPlanes + 1) (reverse (pathOver row d x)) 0 ws (s .args .b) ≡ readZeroPlanesFrom src (leafOf base row d x) (notYetPlanes + 2) 0 ws (s .args .b)) (sym (c .before .before .before .before .if1 .taken)) (sym (raised-at-once src base row x ws (s .args .b) (omega (arith, s .pre .1 .long, s .pre .1 .some)) (omega (arith, s .pre .1 .inside 0 (s .pre .1 .some)))))
+    ∙ subst (λ (d : ℕ). readPath src base (notYetPlanes + 1) (reverse (pathOver row d x)) 0 ws (s .args .b)
+    ≡ readZeroPlanesFrom src (leafOf base row d x) (notYetPlanes + 2) 0 ws (s .args .b))
+    (sym (c .before .before .before .before .if1 .taken))
+    (sym (raised-at-once src base row x ws (s .args .b) (omega (arith, s .pre .1 .long, s .pre .1 .some))
+    (omega (arith, s .pre .1 .inside 0 (s .pre .1 .some)))))
 
 pub read-planes-spec : {M : Type 1} → statement M
 read-planes-spec =

@@ -9,7 +9,8 @@ use Rattle.tgt_read.proofs.seek.Tie as tie
 
 returns : tie.Need-returns
 returns c = let s = c .before .before .before in
-    c .seek-one .ensures ∙ ap (λ (n : ℕ). readNode (s .args .src .now) n (s .args .value) (s .args .low) (s .args .b)) (sym (c .before .if1 .taken))
+    c .seek-one .ensures
+    ∙ ap (λ (n : ℕ). readNode (s .args .src .now) n (s .args .value) (s .args .low) (s .args .b)) (sym (c .before .if1 .taken))
 
 pub seek-spec : {M : Type 1} → statement M
 seek-spec = tie.close (tie.spec (λ c κs. search needs) returns (λ c κs. search needs) (λ c. search needs))

@@ -13,7 +13,8 @@ use Rattle.tgt_read.proofs.seek_chunks.Statement.{statement}
 use Rattle.tgt_read.proofs.seek_chunks.Tie as tie
 
 abbrev Inv-loop : tie.InvT-loop
-Inv-loop src value low left bio₀ from₀ more₀ bio from more = (bio .ct ≤ 8) × (from + more ≤ value) × (readNode src more value from bio ≡ readNode src left value low bio₀)
+Inv-loop src value low left bio₀ from₀ more₀ bio from more = (bio .ct ≤ 8) × (from + more ≤ value)
+    × (readNode src more value from bio ≡ readNode src left value low bio₀)
 
 abbrev μ-loop : tie.MeasureT-loop
 μ-loop src value low left bio₀ from₀ more₀ bio from more = 9 * more - bio .ct
@@ -36,7 +37,8 @@ sub-more c = let l = c .before .before .before .before .loop in
 
 loop-less : tie.Need-loop-less Inv-loop μ-loop
 loop-less c = let l = c .before .before .before .before .before .loop in
-    let on = runs-on-is (l .bio) (l .more) (sym (c .before .before .before .before .runs-on .ensures) ∙ c .before .before .before .if1 .taken) in
+    let on = runs-on-is (l .bio) (l .more)
+    (sym (c .before .before .before .before .runs-on .ensures) ∙ c .before .before .before .if1 .taken) in
     let r = byteIn-ct (c .before .before .before .before .before .before .before .args .src .now) (l .bio) in
     omega (arith, on .0, l .inv .0, r .0, ap (λ (b : Bio). b .ct) (c .opj-bio-bytein .ensures))
 
@@ -44,12 +46,14 @@ loop-again : tie.Need-loop-again Inv-loop μ-loop
 loop-again c = let s = c .before .before .before .before .before .before .before in
     let src = s .args .src .now in
     let l = c .before .before .before .before .before .loop in
-    let on = runs-on-is (l .bio) (l .more) (sym (c .before .before .before .before .runs-on .ensures) ∙ c .before .before .before .if1 .taken) in
+    let on = runs-on-is (l .bio) (l .more)
+    (sym (c .before .before .before .before .runs-on .ensures) ∙ c .before .before .before .if1 .taken) in
     let r = byteIn-ct src (l .bio) in
     let e = c .opj-bio-bytein .ensures in (
       subst (λ (b : Bio). b .ct ≤ 8) (sym e) (r .1),
       omega (arith, on .0, l .inv .1),
-      ap (readNode src (l .more - l .bio .ct) (s .args .value) (l .from + l .bio .ct)) e ∙ seek-turn src (l .bio) (l .more) (s .args .value) (l .from) (l .inv .1) (on .0) (on .1) ∙ l .inv .2,
+      ap (readNode src (l .more - l .bio .ct) (s .args .value) (l .from + l .bio .ct)) e
+          ∙ seek-turn src (l .bio) (l .more) (s .args .value) (l .from) (l .inv .1) (on .0) (on .1) ∙ l .inv .2,
     )
 
 leading-zeros-requires : tie.Need-leading-zeros-requires Inv-loop μ-loop
@@ -65,7 +69,8 @@ returns : tie.Need-returns Inv-loop μ-loop
 returns c = let s = c .before .before .before .before .before .before .before in
     let l = c .before .before .before .before .before .loop in
     ap (seen (s .args .value) (l .from + l .more)) (c .after-bits .ensures)
-    ∙ sym (seek-end (s .args .src .now) (l .bio) (l .more) (s .args .value) (l .from) (c .before .before .leading-zeros .result) (l .inv .1) (c .before .before .leading-zeros .ensures) (c .before .if2 .taken))
+    ∙ sym (seek-end (s .args .src .now) (l .bio) (l .more) (s .args .value) (l .from) (c .before .before .leading-zeros .result)
+    (l .inv .1) (c .before .before .leading-zeros .ensures) (c .before .if2 .taken))
     ∙ l .inv .2
 
 add-reached : tie.Need-add-reached Inv-loop μ-loop
@@ -77,15 +82,22 @@ add-after-bits c = omega (arith, c .before .leading-zeros .ensures .atMost, c .b
 after-bits-requires-2 : tie.Need-after-bits-requires-2 Inv-loop μ-loop
 after-bits-requires-2 c κs = let l = c .before .before .before .before .loop in
     let z = c .before .leading-zeros in
-    omega (arith, not-on (l .bio) (l .more) (z .result) (sym (c .before .before .before .runs-on .ensures) ∙ c .before .before .if1 .left) (z .ensures) (c .if2 .left))
+    omega (
+      arith,
+      not-on (l .bio) (l .more) (z .result)
+          (sym (c .before .before .before .runs-on .ensures) ∙ c .before .before .if1 .left) (z .ensures) (c .if2 .left),
+    )
 
 returns-2 : tie.Need-returns-2 Inv-loop μ-loop
 returns-2 c = let s = c .before .before .before .before .before .before .before in
     let l = c .before .before .before .before .before .loop in
     let z = c .before .before .leading-zeros in
-    let g = not-on (l .bio) (l .more) (z .result) (sym (c .before .before .before .before .runs-on .ensures) ∙ c .before .before .before .if1 .left) (z .ensures) (c .before .if2 .left) in
+    let g = not-on (l .bio) (l .more) (z .result)
+    (sym (c .before .before .before .before .runs-on .ensures) ∙ c .before .before .before .if1 .left) (z .ensures)
+    (c .before .if2 .left) in
     ap (seen (l .from + z .result) (l .from + z .result)) (c .after-bits2 .ensures)
-    ∙ sym (seek-one (s .args .src .now) (l .bio) (l .more) (s .args .value) (l .from) (z .result) (l .inv .1) (z .ensures) (c .before .if2 .left) g)
+    ∙ sym (seek-one (s .args .src .now) (l .bio) (l .more) (s .args .value) (l .from) (z .result) (l .inv .1) (z .ensures)
+    (c .before .if2 .left) g)
     ∙ l .inv .2
 
 pub seek-chunks-spec : {M : Type 1} → statement M

@@ -9,12 +9,14 @@ use Rattle.tgt_read.proofs.seek_one.Tie as tie
 returns : tie.Need-returns
 returns c = let s = c .before .before .before .before .before in
     let r = c .before .before .before .bit-in in
-    one-raises (s .args .src .now) (s .args .value) (s .args .low) (s .args .b) (decoded (r .result)) (s .pre .1) (r .ensures) (c .if1 .taken)
+    one-raises (s .args .src .now) (s .args .value) (s .args .low) (s .args .b) (decoded (r .result)) (s .pre .1) (r .ensures)
+    (c .if1 .taken)
 
 returns-2 : tie.Need-returns-2
 returns-2 c = let s = c .before .before .before .before .before in
     let r = c .before .before .before .bit-in in
-    one-reaches (s .args .src .now) (s .args .value) (s .args .low) (s .args .b) (decoded (r .result)) (s .pre .1) (r .ensures) (c .if1 .left)
+    one-reaches (s .args .src .now) (s .args .value) (s .args .low) (s .args .b) (decoded (r .result)) (s .pre .1) (r .ensures)
+    (c .if1 .left)
 
 pub seek-one-spec : {M : Type 1} → statement M
 seek-one-spec = tie.close (tie.spec (λ c κs. search needs) (λ c. search needs) returns returns-2)

@@ -21,7 +21,8 @@ returns-2 : tie.Need-returns-2
 returns-2 c =
     let s = c .before .before .before .before .before .before .before .before .before .before .before .before in
     c .before .before .before .before .encode-above .ensures
-    ∙ ap (λ (f : ℕ). codeFrom (s .args .threshold) (s .args .at) f (s .args .words .now) (output (s .args .out .now) (s .args .b))) (c .before .before .before .before .before .before .before .before .opj-uint-max .ensures)
+    ∙ ap (λ (f : ℕ). codeFrom (s .args .threshold) (s .args .at) f (s .args .words .now) (output (s .args .out .now) (s .args .b)))
+    (c .before .before .before .before .before .before .before .before .opj-uint-max .ensures)
 
 pub encode-node-spec : {M : Type 1} → statement M
 encode-node-spec =

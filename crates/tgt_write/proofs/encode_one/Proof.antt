@@ -29,8 +29,10 @@ returns c =
     let at = s .args .at in
     let t = s .args .threshold in
     let bit = c .before .before .before .before .reached .result in
-    ap (λ (p : Output). record { words = set (set ws (at + 1) (t - bit)) (at + 2) bit; output = p; low = t - bit }) (c .before .before .bit-out .ensures)
-    ∙ sym (code-one t at ws (output (s .args .out .now) (s .args .b)) (s .pre .2) (s .pre .3) bit (c .before .before .before .before .reached .ensures))
+    ap (λ (p : Output). record { words = set (set ws (at + 1) (t - bit)) (at + 2) bit; output = p; low = t - bit })
+    (c .before .before .bit-out .ensures)
+    ∙ sym (code-one t at ws (output (s .args .out .now) (s .args .b)) (s .pre .2) (s .pre .3) bit
+    (c .before .before .before .before .reached .ensures))
 
 pub encode-one-spec : {M : Type 1} → statement M
 encode-one-spec =

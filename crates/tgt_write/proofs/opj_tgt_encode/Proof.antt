@@ -1,4 +1,5 @@
--- `tgt_write::opj_tgt_encode` meets its contract. The invariant: the nodes that are left, coded in the present words into the present output, give the whole.
+-- `tgt_write::opj_tgt_encode` meets its contract. The invariant: the nodes that are left, coded in the present words into the
+-- present output, give the whole.
 -- Assumes nothing.
 use mathlib.Core.Path.{_≡_, refl, sym, ap, _∙_, subst}
 use mathlib.Core.List.{List, reverse}
@@ -20,7 +21,8 @@ Inv-loop words₀ out₀ base row depth x threshold bio₀ low₀ i₀ words out
     × (length words ≡ length words₀)
     × (length out ≡ length out₀)
     × (i ≤ depth)
-    × (putCoded (output out bio) (codePath base threshold (reverse (nodesOver (take i row) x)) low words) ≡ putCoded (output out₀ bio₀) (codePath base threshold (reverse (nodesOver (take depth row) x)) 0 words₀))
+    × (putCoded (output out bio) (codePath base threshold (reverse (nodesOver (take i row) x)) low words)
+    ≡ putCoded (output out₀ bio₀) (codePath base threshold (reverse (nodesOver (take depth row) x)) 0 words₀))
 
 abbrev μ-loop : tie.MeasureT-loop
 μ-loop words₀ out₀ base row depth x threshold bio₀ low₀ i₀ words out bio low i = i
@@ -56,13 +58,19 @@ loop-again c = let s = c .before .before .before .before .before .before .before
     let n = getD row (l .i - 1) 0 + x / 2 ^ (l .i - 1) in
     let o = output (l .out) (l .bio) in
     let k = nodeCoded (r .last .0) (r .last .1 .0) (r .result) in
-    let e : k ≡ codeNode t (base + 3 * n) (l .low) (l .words) o = r .ensures ∙ ap (λ (a : ℕ). codeNode t a (l .low) (l .words) o) (c .before .before .before .before .before .before .before .before .first-word .ensures) in (
-      subst FreeBitsClear (sym (ap (λ (j : NodeCoded). j .output .bio) e)) (codeFrom-clear t (base + 3 * n) (max (l .low) (low (l .words) (base + 3 * n))) (l .words) o (l .inv .0)),
+    let e : k ≡ codeNode t (base + 3 * n) (l .low) (l .words) o = r .ensures
+    ∙ ap (λ (a : ℕ). codeNode t a (l .low) (l .words) o)
+    (c .before .before .before .before .before .before .before .before .first-word .ensures) in (
+      subst FreeBitsClear (sym (ap (λ (j : NodeCoded). j .output .bio) e))
+          (codeFrom-clear t (base + 3 * n) (max (l .low) (low (l .words) (base + 3 * n))) (l .words) o (l .inv .0)),
       r .kept .0 ∙ l .inv .1,
       r .kept .1 .0 ∙ l .inv .2,
       omega arith,
       code-turn base t n (reverse (nodesOver (take (l .i - 1) row) x)) (l .low) (l .words) o k e
-          ∙ ap (λ (ns : List ℕ). putCoded o (codePath base t ns (l .low) (l .words))) (sym (node-down row (l .i) x (c .before .before .before .before .before .before .before .before .before .before .loop-test .taken) (omega (arith, l .inv .3, s .pre .1 .long))))
+          ∙ ap (λ (ns : List ℕ). putCoded o (codePath base t ns (l .low) (l .words)))
+          (sym (node-down row (l .i) x
+          (c .before .before .before .before .before .before .before .before .before .before .loop-test .taken)
+          (omega (arith, l .inv .3, s .pre .1 .long))))
           ∙ l .inv .4,
     )
 

@@ -12,7 +12,8 @@ use Rattle.tgt_write.proofs.tell.Tie as tie
 returns : tie.Need-returns
 unfolding told putBits
 returns c = let s = c .before .before .before .before .before .before .before .before in
-    (λ i. record { words = set (s .args .words .now) (s .args .at) 1; output = c .before .before .bit-out .ensures i }) ∙ simp (eq-eqb _ _ (c .before .before .before .before .if1 .taken))
+    (λ i. record { words = set (s .args .words .now) (s .args .at) 1; output = c .before .before .bit-out .ensures i })
+    ∙ simp (eq-eqb _ _ (c .before .before .before .before .if1 .taken))
 
 returns-2 : tie.Need-returns-2
 unfolding told putBits

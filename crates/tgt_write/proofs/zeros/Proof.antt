@@ -12,7 +12,8 @@ use Rattle.tgt_write.proofs.zeros.Statement.{statement}
 use Rattle.tgt_write.proofs.zeros.Tie as tie
 
 abbrev Inv-loop : tie.InvT-loop
-Inv-loop out₀ n bio₀ left₀ out bio left = (FreeBitsClear bio) × (length out ≡ length out₀) × (putBits (output out bio) (replicate left 0) ≡ putBits (output out₀ bio₀) (replicate n 0))
+Inv-loop out₀ n bio₀ left₀ out bio left = (FreeBitsClear bio) × (length out ≡ length out₀)
+    × (putBits (output out bio) (replicate left 0) ≡ putBits (output out₀ bio₀) (replicate n 0))
 
 abbrev μ-loop : tie.MeasureT-loop
 μ-loop out₀ n bio₀ left₀ out bio left = 9 * left - bio .ct
@@ -36,7 +37,8 @@ loop-again c = let l = c .before .before .before .before .before .before .before
     let o = output (l .out) (l .bio) in (
       subst FreeBitsClear (sym (ap (λ (x : Output). x .bio) (r .ensures))) (byteOut-clear o),
       r .kept .0 ∙ l .inv .1,
-      ap (λ (x : Output). putBits x (replicate (l .left - l .bio .ct) 0)) (r .ensures) ∙ zeros-turn (l .out) (l .bio) (l .left) (c .before .before .before .before .before .if1 .taken) ∙ l .inv .2,
+      ap (λ (x : Output). putBits x (replicate (l .left - l .bio .ct) 0)) (r .ensures)
+          ∙ zeros-turn (l .out) (l .bio) (l .left) (c .before .before .before .before .before .if1 .taken) ∙ l .inv .2,
     )
 
 after-bits-requires : tie.Need-after-bits-requires Inv-loop μ-loop
@@ -46,7 +48,8 @@ same-length : tie.Need-same-length Inv-loop μ-loop
 same-length c = c .before .before .before .loop .inv .1
 
 returns : tie.Need-returns Inv-loop μ-loop
-returns c = let l = c .before .before .before .loop in ap (output (l .out)) (c .after-bits .ensures) ∙ zeros-end (l .out) (l .bio) (l .left) (c .before .if1 .left) ∙ l .inv .2
+returns c = let l = c .before .before .before .loop in ap (output (l .out)) (c .after-bits .ensures)
+    ∙ zeros-end (l .out) (l .bio) (l .left) (c .before .if1 .left) ∙ l .inv .2
 
 pub zeros-spec : {M : Type 1} → statement M
 zeros-spec =

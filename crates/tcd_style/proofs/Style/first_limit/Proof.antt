@@ -11,11 +11,19 @@ returns c = simp (sym (c .before .terminates-all .ensures) ∙ c .if1 .taken)
 
 returns-2 : tie.Need-returns-2
 unfolding firstLimit
-returns-2 c = simp (sym (c .before .before .before .terminates-all .ensures) ∙ c .before .before .if1 .left, sym (c .before .bypasses .ensures) ∙ c .if2 .taken)
+returns-2 c = simp (
+  sym (c .before .before .before .terminates-all .ensures)
+      ∙ c .before .before .if1 .left,
+  sym (c .before .bypasses .ensures) ∙ c .if2 .taken,
+)
 
 returns-3 : tie.Need-returns-3
 unfolding firstLimit
-returns-3 c = simp (sym (c .before .before .before .terminates-all .ensures) ∙ c .before .before .if1 .left, sym (c .before .bypasses .ensures) ∙ c .if2 .left)
+returns-3 c = simp (
+  sym (c .before .before .before .terminates-all .ensures)
+      ∙ c .before .before .if1 .left,
+  sym (c .before .bypasses .ensures) ∙ c .if2 .left,
+)
 
 pub first-limit-spec : {M : Type 1} → statement M
 first-limit-spec =

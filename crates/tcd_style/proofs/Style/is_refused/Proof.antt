@@ -9,7 +9,8 @@ use Rattle.tcd_style.proofs.Style.is_refused.Tie as tie
 
 returns : tie.Need-returns
 unfolding badStyle
-returns c = let x = c .before .args .self .bits in on-lt 63 x (λ h. le-leb 64 x h ∙ sym (lt-ltb 63 x h)) (λ h. lt-leb 64 x (omega arith) ∙ sym (le-ltb 63 x h))
+returns c = let x = c .before .args .self .bits in
+    on-lt 63 x (λ h. le-leb 64 x h ∙ sym (lt-ltb 63 x h)) (λ h. lt-leb 64 x (omega arith) ∙ sym (le-ltb 63 x h))
 
 pub is-refused-spec : {M : Type 1} → statement M
 is-refused-spec = tie.close (tie.spec returns)
