@@ -1,16 +1,15 @@
 -- The blocks of a band row by row: the block in row y, column x of a band whose words begin at `at` is `blockOf at b (y * across + x)`, and
 -- its path is the one that the row's first nodes give.
 use mathlib.Core.Path.{_≡_, refl, sym, ap, ap₂, _∙_, subst}
-use mathlib.Core.List.{List, [], _∷_, _++_}
-use Prim.Native.Nat.{ℕ, zero, suc, _+_, _-_, _*_, _≤_, _<_}
+use mathlib.Core.List.{List, [], _++_}
+use Prim.Native.Nat.{ℕ, _+_, _-_, _*_, _≤_, _<_}
 use native.Mathlib.Nat.{mul-le-mul, le-refl, le-trans, le-of-eq, mul-comm}
 use native.Mathlib.Omega.{arith}
-use lib.Arith.{digits-lt}
 use lib.ListN.{length, getD, take, drop}
 use Rattle.t800.specs.declared.Band.{Band}
 use Rattle.t800.specs.declared.Level.{Level}
 use Rattle.t800.specs.TagTree.{levels, nodes, pathToRoot}
-use Rattle.t800.specs.State.{Block, blockOf, blocksIn, bandNodes, bandLength, blocksFrom, endOf}
+use Rattle.t800.specs.State.{blocksIn, bandNodes, bandLength, blocksFrom, endOf}
 use Rattle.t800.proofs.Laws.Layout.{band-length, end-after}
 use Rattle.tcd_layout.specs.Geometry.{noBand, padded}
 use Rattle.tcd_layout.proofs.Laws.Bands.{end-turn, blocks-split}
@@ -26,22 +25,6 @@ band-inside bs n i at size h k e =
     le-trans (end-after (at + bandLength (getD bs i noBand)) (drop (i + 1) (take n bs))) (le-of-eq (end-turn bs n i at h k ∙ e))
 
 module _ (at : ℕ) (b : Band) where
-  -- block j of n from block i on
-  pub block-at : (n i j : ℕ) (d : Block) → j < n → getD (blocksFrom at b n i) j d ≡ blockOf at b (i + j)
-  unfolding blocksFrom
-  block-at zero i j d h = absurd (omega arith)
-  block-at (suc n) i zero d h = ap (blockOf at b) (let e : i ≡ i + 0 = omega arith in e)
-  block-at (suc n) i (suc j) d h = block-at n (i + 1) j d (omega arith)
-      ∙ ap (blockOf at b) (let e : i + 1 + j ≡ i + suc j = omega arith in e)
-
-  -- in row y, column x
-  pub block-in-row : (y x : ℕ) (d : Block) → y < b .down → x < b .across
-      → getD (blocksFrom at b (blocksIn b) 0) (y * b .across + x) d ≡ blockOf at b (y * b .across + x)
-  unfolding blocksIn
-  block-in-row y x d h k =
-      block-at (b .across * b .down) 0 (y * b .across + x) d (omega (arith, digits-lt h k, mul-comm (b .down) (b .across)))
-      ∙ ap (blockOf at b) (let e : 0 + (y * b .across + x) ≡ y * b .across + x = omega arith in e)
-
   -- row y, and the rows below it
   pub rows-turn : (y : ℕ) → y < b .down
       → blocksFrom at b (blocksIn b - y * b .across) (y * b .across)
@@ -69,17 +52,6 @@ module _ (at : ℕ) (b : Band) where
       let l : b .down * b .across ≤ y * b .across = mul-le-mul h (le-refl (b .across)) in
       let n : b .across * b .down - y * b .across ≡ 0 = omega (arith, l, mul-comm (b .across) (b .down)) in
       ap (λ (k : ℕ). blocksFrom at b k (y * b .across)) n
-
-  -- the block in row y, column x, and those after it in the row
-  pub columns-turn : (y x : ℕ) → x < b .across
-      → blocksFrom at b (b .across - x) (y * b .across + x)
-      ≡ blockOf at b (y * b .across + x) ∷ blocksFrom at b (b .across - (x + 1)) (y * b .across + (x + 1))
-  unfolding blocksFrom
-  columns-turn y x h =
-      let n : b .across - x ≡ suc (b .across - (x + 1)) = omega arith in
-      let q : y * b .across + x + 1 ≡ y * b .across + (x + 1) = omega arith in
-      ap (λ (k : ℕ). blocksFrom at b k (y * b .across + x)) n
-      ∙ ap (λ (k : ℕ). blockOf at b (y * b .across + x) ∷ blocksFrom at b (b .across - (x + 1)) k) q
 
 -- the path of the block in row y, column x
 pub path-in-row : (w h : ℕ) (ls : List Level) (depth : ℕ) → TreeLevels w h ls depth → (y x : ℕ) → y < h → x < w

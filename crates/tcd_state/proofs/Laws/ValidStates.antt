@@ -10,14 +10,13 @@ use lib.Dec.{ltb, leb, eqb}
 use borrow.Author.Tests.{not-true, eqb-true, ne-eqb, leb-true, ltb-false}
 use Rattle.t800.specs.declared.Band.{Band}
 use Rattle.t800.specs.Base.{every}
-use Rattle.t800.specs.TagTree.{value, low, known}
 use Rattle.t800.specs.Segments.{termAll, bypass, firstLimit, nextLimit, isLimit}
 use Rattle.t800.specs.State.{writer, notYetIncluded, notYetPlanes, role, bandCount, style, layer, bands, bandNodes, blocksIn}
 use Rattle.t800.specs.State.{bandLength, stateLength, passesSoFar, lengthBits, segmentLimit, segmentPasses}
 use Rattle.t800.specs.Ranges.{badShape, badStyle, bandTooDeep, nodeInRange, blockInRange, bandInRange, bandsInRange}
 use Rattle.t800.specs.Ranges.{unusedBandsZero, validState}
 use Rattle.t800.proofs.Laws.Tests.{on-eq}
-use Rattle.t800.proofs.Laws.Layout.{Tree, inclusion, zeroPlanes, notYet, treeFrom, NodeFrom, BlockFrom, end-after}
+use Rattle.t800.proofs.Laws.Layout.{BlockFrom, end-after}
 use Rattle.tcd_layout.specs.Geometry.{AllUpTo64}
 use Rattle.tcd_shape.specs.Parts.{shapeInRange}
 use Rattle.tcd_first_words.proofs.Laws.FirstWords.{and-left, and-right, shape-known}
@@ -91,53 +90,26 @@ every-true zero f e k h = absurd (omega arith)
 every-true (suc n) f e k h =
     on-eq k n (λ q. ap f q ∙ and-left (f n) (every n f) e) (λ q. every-true n f (and-right (f n) (every n f) e) k (omega arith))
 
--- a band's two trees and its blocks
-band-known : (ws : List ℕ) (at : ℕ) (b : Band) → bandInRange ws at b ≡ true
-    → ((t : Tree) → every (bandNodes b) (λ i. nodeInRange ws (notYet t) (treeFrom t at b + 3 * i)) ≡ true)
-    × (every (blocksIn b) (λ i. blockInRange ws (at + 6 * bandNodes b + 4 * i)) ≡ true)
+-- a band's blocks
+band-blocks-known : (ws : List ℕ) (at : ℕ) (b : Band) → bandInRange ws at b ≡ true
+    → every (blocksIn b) (λ i. blockInRange ws (at + 6 * bandNodes b + 4 * i)) ≡ true
 unfolding bandInRange
-band-known ws at b e =
+band-blocks-known ws at b e =
     let i : Bool = every (bandNodes b) (λ i. nodeInRange ws notYetIncluded (at + 3 * i)) in
     let z : Bool = every (bandNodes b) (λ i. nodeInRange ws notYetPlanes (at + 3 * bandNodes b + 3 * i)) in
-    let e₂ = both (i && z) (every (blocksIn b) (λ i. blockInRange ws (at + 6 * bandNodes b + 4 * i))) e in
-    let e₁ = both i z (e₂ .0) in
-    (trees (e₁ .0) (e₁ .1), e₂ .1)
-  where
-    trees : every (bandNodes b) (λ i. nodeInRange ws notYetIncluded (at + 3 * i)) ≡ true
-        → every (bandNodes b) (λ i. nodeInRange ws notYetPlanes (at + 3 * bandNodes b + 3 * i)) ≡ true
-        → (t : Tree) → every (bandNodes b) (λ i. nodeInRange ws (notYet t) (treeFrom t at b + 3 * i)) ≡ true
-    trees x y inclusion = x
-    trees x y zeroPlanes = y
-
-pub node-known : (ws : List ℕ) (t : Tree) (at : ℕ) (bs : List Band) (a : ℕ) → bandsInRange ws at bs ≡ true → NodeFrom t at bs a
-    → nodeInRange ws (notYet t) a ≡ true
-unfolding bandsInRange
-node-known ws t at [] a e n = absurd n
-node-known ws t at (b ∷ bs) a e (inl c) =
-    let k = band-known ws at b (and-left (bandInRange ws at b) (bandsInRange ws (at + bandLength b) bs) e) in
-    ap (nodeInRange ws (notYet t)) (c .2)
-    ∙ every-true (bandNodes b) (λ i. nodeInRange ws (notYet t) (treeFrom t at b + 3 * i)) (k .0 t) (c .0) (c .1)
-node-known ws t at (b ∷ bs) a e (inr n) =
-    node-known ws t (at + bandLength b) bs a (and-right (bandInRange ws at b) (bandsInRange ws (at + bandLength b) bs) e) n
+    and-right (i && z) (every (blocksIn b) (λ i. blockInRange ws (at + 6 * bandNodes b + 4 * i))) e
 
 pub block-known : (ws : List ℕ) (at : ℕ) (bs : List Band) (p : ℕ) → bandsInRange ws at bs ≡ true → BlockFrom at bs p
     → blockInRange ws p ≡ true
 unfolding bandsInRange
 block-known ws at [] p e n = absurd n
 block-known ws at (b ∷ bs) p e (inl c) =
-    let k = band-known ws at b (and-left (bandInRange ws at b) (bandsInRange ws (at + bandLength b) bs) e) in
-    ap (blockInRange ws) (c .2) ∙ every-true (blocksIn b) (λ i. blockInRange ws (at + 6 * bandNodes b + 4 * i)) (k .1) (c .0) (c .1)
+    let k = band-blocks-known ws at b (and-left (bandInRange ws at b) (bandsInRange ws (at + bandLength b) bs) e) in
+    ap (blockInRange ws) (c .2) ∙ every-true (blocksIn b) (λ i. blockInRange ws (at + 6 * bandNodes b + 4 * i)) k (c .0) (c .1)
 block-known ws at (b ∷ bs) p e (inr n) =
     block-known ws (at + bandLength b) bs p (and-right (bandInRange ws at b) (bandsInRange ws (at + bandLength b) bs) e) n
 
 -- ---- bounds on their words
-
-pub node-bounds : (ws : List ℕ) (m a : ℕ) → nodeInRange ws m a ≡ true → (value ws a ≤ m) × (low ws a ≤ m) × (known ws a ≤ 1)
-unfolding nodeInRange
-node-bounds ws m a e =
-    let e₂ = both (leb (value ws a) m && leb (low ws a) m) (leb (known ws a) 1) e in
-    let e₁ = both (leb (value ws a) m) (leb (low ws a) m) (e₂ .0) in
-    (leb-true (value ws a) m (e₁ .0), leb-true (low ws a) m (e₁ .1), leb-true (known ws a) 1 (e₂ .1))
 
 pub limit-up-to-109 : (s m : ℕ) → isLimit s m ≡ true → m ≤ 109
 unfolding isLimit firstLimit nextLimit
