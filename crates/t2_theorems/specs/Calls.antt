@@ -82,8 +82,8 @@ unfoldable pub allTerminated : ℕ → List BlockEntry → List WriterMade → B
 allTerminated style book [] = true
 allTerminated style book (measured m ∷ cs) = allTerminated style book cs
 allTerminated style book (written w ∷ cs) =
-    let yes = terminatedAsStyle style book (w .call .contribution .counts) (w .call .contribution .marks) && allTerminated style
-    (addCounts book (w .call .contribution .counts)) cs in
+    let yes = terminatedAsStyle style book (w .call .contribution .counts) (w .call .contribution .marks)
+    && allTerminated style (addCounts book (w .call .contribution .counts)) cs in
     let no = allTerminated style book cs in
     cond (wasAccepted w) yes no
 

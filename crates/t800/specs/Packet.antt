@@ -24,8 +24,9 @@ use Rattle.t800.specs.MarkerSegments.{withMarkers, MarkerRead, readSop, 
 -- pass counts not as many as the blocks, pass lengths or marks not as many as the counts add up to
 unfoldable pub wrongLists : Contribution → ℕ → Bool
 wrongLists p blocks =
-    not (eqb (length (p .counts)) blocks) || not (eqb (length (p .lengths)) (sum (p .counts))) || not
-    (eqb (length (p .marks)) (sum (p .counts)))
+    not (eqb (length (p .counts)) blocks)
+    || not (eqb (length (p .lengths)) (sum (p .counts)))
+    || not (eqb (length (p .marks)) (sum (p .counts)))
 
 -- 5, 6, 3, 7, 8, 9
 unfoldable pub measureRefusal : List ℕ → List ℕ → Contribution → ℕ

@@ -70,8 +70,8 @@ unfoldable pub allTerminatedAsStyle : ℕ → List ℕ → List BlockEntry → L
 allTerminatedAsStyle style ws book [] = true
 allTerminatedAsStyle style ws book (measuring c ∷ cs) = allTerminatedAsStyle style ws book cs
 allTerminatedAsStyle style ws book (writing c ∷ cs) =
-    let yes = terminatedAsStyle style book (c .contribution .counts) (c .contribution .marks) && allTerminatedAsStyle style
-    (writeOf ws c .state) (addCounts book (c .contribution .counts)) cs in
+    let yes = terminatedAsStyle style book (c .contribution .counts) (c .contribution .marks)
+    && allTerminatedAsStyle style (writeOf ws c .state) (addCounts book (c .contribution .counts)) cs in
     let no = allTerminatedAsStyle style (writeOf ws c .state) book cs in
     cond (accepted ws c) yes no
 
