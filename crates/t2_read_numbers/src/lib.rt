@@ -55,7 +55,7 @@ pub fn read_numbers(
             eph: 0,
         };
     }
-    t2::read(state, scratch, src, markers, reports, numbers)
+    t2_read_packet::read(state, scratch, src, markers, reports, numbers)
 }
 
 // How many records a read stores: as many as it found, all where it wiped them, and none where it changed nothing.
