@@ -2,7 +2,7 @@
 ghost use mathlib.Core.Path.{_≡_};
 ghost use Rattle.t800.specs.State.{writer, reader};
 ghost use Rattle.t800.specs.Start.{start};
-ghost use Rattle.t2_refusals.specs.Refusals.{contribution};
+ghost use Rattle.t800.specs.WriteHeader.{contribution};
 ghost use Rattle.t2_records.specs.Segments.{wordsOf};
 ghost use Rattle.capi_parts.specs.Calls.{band, threeBands, stateLengthOf, measureCall, writeCall, readCall};
 use t2_records::Segment;

@@ -17,9 +17,8 @@ use Rattle.t800.specs.State.{stateLength}
 use Rattle.t800.specs.Ranges.{badShape}
 use Rattle.t800.specs.Start.{StartResult, start}
 use Rattle.t800.specs.WriteHeader.{Contribution}
-use Rattle.t800.specs.Packet.{measure, write, ReadResult, refusedAnswer}
+use Rattle.t800.specs.Packet.{measure, write, ReadResult, refusedAnswer, readResult}
 use Rattle.t800.proofs.Laws.Tests.{if-true, if-false}
-use Rattle.t2_read_settle.specs.Results.{readResult}
 use Rattle.t2_records.specs.declared.Segment.{Segment}
 use Rattle.t2_records.specs.Segments.{wordsOf, filled}
 use Rattle.t2_read_numbers.specs.Reading.{readNumbers, toFill}

@@ -5,8 +5,7 @@ use mathlib.Core.List.{List}
 use lib.ListN.{length}
 use lib.Dec.{eqb}
 use Rattle.t800.specs.declared.Markers.{Markers}
-use Rattle.t800.specs.Packet.{ReadResult, refusedAnswer}
-use Rattle.t2_read_settle.specs.Results.{readResult}
+use Rattle.t800.specs.Packet.{ReadResult, refusedAnswer, readResult}
 use Rattle.t2_read_numbers.specs.Reading.{readNumbers}
 use Rattle.capi_parts.specs.Calls.{readAnswer}
 

@@ -2,7 +2,7 @@
 ghost use mathlib.Core.Path.{_≡_};
 ghost use mathlib.Core.List.{[], _∷_};
 ghost use lib.ListN.{length};
-ghost use Rattle.t2_read_settle.specs.Results.{readResult};
+ghost use Rattle.t800.specs.Packet.{readResult};
 ghost use Rattle.capi_parts.specs.Calls.{band, threeBands, stateLengthOf};
 ghost use Rattle.capi_parts.specs.Numbers.{numbersCall};
 use t800::Band;

@@ -1,7 +1,7 @@
 // One layer written and read back with the engine's calls.
 ghost use mathlib.Core.Path.{_≡_};
 ghost use Rattle.t800.specs.Packet.{refusedAnswer};
-ghost use Rattle.t2_refusals.specs.Refusals.{contribution};
+ghost use Rattle.t800.specs.WriteHeader.{contribution};
 ghost use Rattle.t2_layer.specs.Layer.{firstLayer, lent, layerResult, writeAndRead, GivesEntry};
 use t800::Band;
 use t800::Markers;

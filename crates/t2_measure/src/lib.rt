@@ -1,7 +1,7 @@
 // Measuring a packet (opj_t2_encode_packet of t2.rs): check, copy the state, count.
 ghost use mathlib.Core.Path.{_≡_};
 ghost use Rattle.t800.specs.Packet.{measure};
-ghost use Rattle.t2_refusals.specs.Refusals.{contribution};
+ghost use Rattle.t800.specs.WriteHeader.{contribution};
 use t800::Markers;
 use t800::MeasureAnswer;
 

@@ -8,8 +8,7 @@ use Rattle.t800.specs.declared.Markers.{Markers}
 use Rattle.t800.specs.declared.ReadAnswer.{ReadAnswer}
 use Rattle.t800.specs.State.{notYetIncluded, reader, layer}
 use Rattle.t800.specs.Ranges.{validState}
-use Rattle.t800.specs.Packet.{ReadResult, refusedAnswer, read}
-use Rattle.t2_read_settle.specs.Results.{readResult}
+use Rattle.t800.specs.Packet.{ReadResult, refusedAnswer, read, readResult}
 use Rattle.t800.specs.Reports.{recordWidth}
 
 -- 3 for the work list, where neither 5 nor 6 comes before it

@@ -2,7 +2,7 @@
 ghost use mathlib.Core.Path.{_≡_};
 ghost use Prim.Native.Nat.{_*_};
 ghost use lib.Dec.{eqb};
-ghost use Rattle.t2_read_settle.specs.Results.{readResult};
+ghost use Rattle.t800.specs.Packet.{readResult};
 ghost use Rattle.t2_read_numbers.specs.Reading.{wrongListNumber, readNumbers, toFill};
 use t800::Markers;
 use t800::ReadAnswer;

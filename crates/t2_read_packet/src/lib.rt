@@ -1,7 +1,6 @@
 // Reading one packet (t2.rs): turned away, or by its first bit, after SOP, absent or present.
 ghost use mathlib.Core.Path.{_≡_};
-ghost use Rattle.t800.specs.Packet.{read};
-ghost use Rattle.t2_read_settle.specs.Results.{readResult};
+ghost use Rattle.t800.specs.Packet.{read, readResult};
 use t800::Markers;
 use t800::ReadAnswer;
 use tcd_style::Marker;

@@ -9,7 +9,7 @@ ghost use Rattle.t800.specs.ReadHeader.{readHeader};
 ghost use Rattle.t2_read_segments.specs.Reading.{BitsIn};
 ghost use Rattle.t2_read_marks.specs.Marks.{markerRead};
 ghost use Rattle.t2_read_present.specs.Answers.{presentOrBroken};
-ghost use Rattle.t2_read_settle.specs.Results.{readResult};
+ghost use Rattle.t800.specs.Packet.{readResult};
 use t2_read_marks::MarkerFound;
 use t800::Bio;
 use t800::Markers;

@@ -18,14 +18,13 @@ use Rattle.t800.specs.Ranges.{validState}
 use Rattle.t800.specs.Reports.{SegmentRecord, recordWords, reportWidth, recordWidth}
 use Rattle.t800.specs.MarkerSegments.{readSop}
 use Rattle.t800.specs.ReadHeader.{HeaderRead, readHeader}
-use Rattle.t800.specs.Packet.{ReadResult, refusedAnswer, readRefusal, readAbsent, readPresent, read}
+use Rattle.t800.specs.Packet.{ReadResult, refusedAnswer, readRefusal, readAbsent, readPresent, read, readResult}
 use Rattle.t800.proofs.Laws.Tests.{if-true, if-false, either, not-refused}
 use Rattle.t800.proofs.Laws.Lists.{record-words-length}
 use Rattle.t800.specs.RoundTrip.{ReadCall, readOf}
 use Rattle.t2_theorems.specs.Calls.{WasRead}
 use Rattle.t2_theorems.specs.Numbers.{NoneHolds, readChecks, NumbersOfCalls}
 use Rattle.t2_theorems.proofs.Numbers.{numbers-of-calls}
-use Rattle.t2_read_settle.specs.Results.{readResult}
 use Rattle.t2_records.specs.declared.Segment.{Segment}
 use Rattle.t2_records.specs.Segments.{wordsOf, segmentAt, filled}
 use Rattle.t2_read_numbers.specs.Reading.{wrongListNumber, wrongList, readNumbers, toFill}

@@ -11,11 +11,10 @@ use Rattle.t800.specs.declared.ReadAnswer.{ReadAnswer}
 use Rattle.t800.specs.State.{writer, reader}
 use Rattle.t800.specs.Ranges.{validState}
 use Rattle.t800.specs.Reports.{SegmentRecord, recordWidth}
-use Rattle.t800.specs.Packet.{ReadResult, refusedAnswer}
+use Rattle.t800.specs.Packet.{ReadResult, refusedAnswer, readResult}
 use Rattle.t800.specs.Book.{newBook}
 use Rattle.t800.specs.RoundTrip.{ReadCall, readOf, withMore, Owed, ReadsPacket, GivesEntry}
 use Rattle.t2_theorems.specs.Calls.{Started, WriterMade, Follows, owedOf, allTerminated}
-use Rattle.t2_read_settle.specs.Results.{readResult}
 use Rattle.t2_records.specs.declared.Segment.{Segment}
 use Rattle.t2_records.specs.Segments.{wordsOf}
 use Rattle.t2_read_numbers.specs.Reading.{wrongListNumber}

@@ -7,8 +7,7 @@ use lib.ListN.{length}
 use lib.Dec.{eqb}
 use Rattle.t800.specs.declared.Markers.{Markers}
 use Rattle.t800.specs.declared.ReadAnswer.{ReadAnswer}
-use Rattle.t800.specs.Packet.{ReadResult, read}
-use Rattle.t2_read_settle.specs.Results.{readResult}
+use Rattle.t800.specs.Packet.{ReadResult, read, readResult}
 use Rattle.t2_records.specs.declared.Segment.{Segment}
 use Rattle.t2_records.specs.Segments.{wordsOf}
 use Rattle.t2_read_numbers.specs.Reading.{wrongList}

@@ -10,9 +10,6 @@ use Rattle.t800.specs.Ranges.{validState}
 use Rattle.t800.specs.WriteHeader.{Contribution, segmentTooLong, fieldTooWide}
 use Rattle.t800.specs.Packet.{wrongLists}
 
-abbrev pub contribution : List ℕ → List ℕ → List ℕ → Contribution
-contribution cs ls ms = record { counts = cs; lengths = ls; marks = ms }
-
 -- 3, 7, 8, 9
 unfoldable pub contributionRefusal : List ℕ → Contribution → ℕ
 contributionRefusal ws p =

@@ -6,7 +6,8 @@ ghost use lib.ListN.{length};
 ghost use Rattle.t800.specs.State.{writer};
 ghost use Rattle.t800.specs.Ranges.{validState};
 ghost use Rattle.t800.specs.Packet.{wrongLists};
-ghost use Rattle.t2_refusals.specs.Refusals.{contribution, contributionRefusal, measureRefusalFor};
+ghost use Rattle.t800.specs.WriteHeader.{contribution};
+ghost use Rattle.t2_refusals.specs.Refusals.{contributionRefusal, measureRefusalFor};
 
 // ---- the lists (3)
 

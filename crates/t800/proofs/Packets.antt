@@ -7,7 +7,7 @@ use mathlib.Core.List.{List, [], _∷_, _++_}
 use lib.ListN.{length, replicate}
 use Rattle.t800.specs.declared.Band.{Band}
 use Rattle.t800.specs.declared.Markers.{Markers}
-use Rattle.t800.specs.WriteHeader.{Contribution}
+use Rattle.t800.specs.WriteHeader.{contribution}
 use Rattle.t800.specs.Base.{sum}
 use Rattle.t800.specs.Segments.{termAll, bypass}
 use Rattle.t800.proofs.Table.{Step, starts, loads-writer, loads-reader, holds-writer, holds-reader, writes, heads, reads}
@@ -34,9 +34,6 @@ precinct w s ps steps = record { given = band w 1 5 ∷ []; planes = ps; style =
 -- one block with zero planes 0, style 0; its state has 23 words, and that of two blocks in a row 39
 abbrev one : List Step → Row
 one steps = precinct 1 0 (5 ∷ []) steps
-
-abbrev contribution : List ℕ → List ℕ → List ℕ → Contribution
-contribution cs ls ms = record { counts = cs; lengths = ls; marks = ms }
 
 -- a call with the scratch of n words, the body of the lengths' sum, and so many bytes of output
 abbrev put : ℕ → List ℕ → List ℕ → List ℕ → ℕ → ℕ → List ℕ → Step

@@ -106,6 +106,10 @@ pub record ReadResult : Type 0 where
   pub reports : List ℕ
   pub records : List ℕ
 
+abbrev pub readResult : List ℕ → List ℕ → List ℕ → List ℕ → ReadAnswer → ReadResult
+readResult state scratch reports records answer =
+    record { answer = answer; state = state; scratch = scratch; reports = reports; records = records }
+
 abbrev pub refusedAnswer : ℕ → ReadAnswer
 refusedAnswer why = record { refusal = why; present = 0; taken = 0; segments = 0; sop = 0; eph = 0 }
 

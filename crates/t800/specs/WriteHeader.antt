@@ -17,6 +17,9 @@ pub record Contribution : Type 0 where
   pub lengths : List ℕ
   pub marks : List ℕ
 
+abbrev pub contribution : List ℕ → List ℕ → List ℕ → Contribution
+contribution counts lengths marks = record { counts = counts; lengths = lengths; marks = marks }
+
 -- a block without passes so far
 unfoldable pub isNew : List ℕ → Block → Bool
 isNew ws k = eqb (passesSoFar ws (k .at)) 0

@@ -46,3 +46,41 @@ pub struct ReadAnswer {
     pub sop: u32,
     pub eph: u32,
 }
+
+// The refusals of SCOPE S4.
+pub struct Refusal {
+    pub number: u32,
+}
+
+impl Refusal {
+    pub const SHAPE: u32 = 1;
+
+    pub const STYLE: u32 = 2;
+
+    pub const LIST: u32 = 3;
+
+    pub const PLANES: u32 = 4;
+
+    pub const STATE: u32 = 5;
+
+    pub const LAYERS: u32 = 6;
+
+    pub const PASSES: u32 = 7;
+
+    pub const LENGTH: u32 = 8;
+
+    pub const WIDTH: u32 = 9;
+
+    pub const BODY: u32 = 10;
+
+    pub const SPACE: u32 = 11;
+
+    pub const HEADER_END: u32 = 12;
+
+    pub const RECORDS: u32 = 13;
+}
+
+// The words of a block's report, and of a segment's record.
+pub const REPORT_WIDTH: usize = 4;
+
+pub const RECORD_WIDTH: usize = 4;

@@ -1,6 +1,6 @@
 -- `capi::tonkelvi_measure` meets its contract.
 use borrow.Author.Needs.{needs}
-use Rattle.t2_refusals.specs.Refusals.{contribution}
+use Rattle.t800.specs.WriteHeader.{contribution}
 use Rattle.capi_parts.proofs.Laws.{measure-unlisted, measure-listed}
 use Rattle.capi.proofs.tonkelvi_measure.Statement.{statement}
 use Rattle.capi.proofs.tonkelvi_measure.Tie as tie

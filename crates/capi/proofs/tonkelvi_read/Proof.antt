@@ -49,7 +49,7 @@ use Rattle.t800.specs.declared.Markers.{Markers}
 use Rattle.t800.specs.declared.ReadAnswer.{ReadAnswer}
 use Rattle.t800.proofs.ReadAnswer as Q
 use Rattle.t800.proofs.ReadAnswer.Laws as Q′
-use Rattle.t2_read_settle.specs.Results.{readResult}
+use Rattle.t800.specs.Packet.{readResult}
 use Rattle.t2_records.specs.declared.Segment.{Segment}
 use Rattle.t2_records.specs.Segments.{wordsOf, filled}
 use Rattle.t2_read_numbers.specs.Reading.{toFill}

@@ -1,6 +1,6 @@
 -- `capi::tonkelvi_write` meets its contract.
 use borrow.Author.Needs.{needs}
-use Rattle.t2_refusals.specs.Refusals.{contribution}
+use Rattle.t800.specs.WriteHeader.{contribution}
 use Rattle.capi_parts.proofs.Laws.{write-unlisted, write-listed}
 use Rattle.capi.proofs.tonkelvi_write.Statement.{statement}
 use Rattle.capi.proofs.tonkelvi_write.Tie as tie

@@ -1,6 +1,6 @@
 -- `t2_layer::write_and_read` meets its contract.
 use mathlib.Core.Path.{_∙_}
-use Rattle.t2_refusals.specs.Refusals.{contribution}
+use Rattle.t800.specs.WriteHeader.{contribution}
 use Rattle.t2_layer.specs.Layer.{firstLayer, lent}
 use Rattle.t2_layer.proofs.Layer.{layer-read-back, writer-refused, reader-refused, packet-refused, ends-at-writer}
 use Rattle.t2_layer.proofs.Layer.{ends-at-reader, ends-at-packet, ends-read}

@@ -4,7 +4,7 @@ use mathlib.Core.List.{List, [], _∷_}
 use Prim.Native.Nat.{ℕ}
 use native.Mathlib.Omega.{arith}
 use borrow.Author.Needs.{needs}
-use Rattle.t2_refusals.specs.Refusals.{contribution}
+use Rattle.t800.specs.WriteHeader.{contribution}
 use Rattle.t2_write_packet.specs.Front.{putFront}
 use Rattle.t2_measure.proofs.Laws.Accepted.{accepted, as-long, copy-accepted}
 use Rattle.t2_measure.proofs.Laws.Measured.{measure-refused, measure-done}

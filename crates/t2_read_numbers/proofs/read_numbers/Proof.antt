@@ -2,8 +2,7 @@
 use mathlib.Core.Path.{sym, ap, _∙_}
 use Prim.Native.Nat.{ℕ}
 use borrow.Author.Tests.{not-true, not-false}
-use Rattle.t800.specs.Packet.{refusedAnswer}
-use Rattle.t2_read_settle.specs.Results.{readResult}
+use Rattle.t800.specs.Packet.{refusedAnswer, readResult}
 use Rattle.t2_read_numbers.proofs.Numbers.{numbers-refused, numbers-read}
 use borrow.Author.Needs.{needs}
 use Rattle.t2_read_numbers.proofs.read_numbers.Statement.{statement}

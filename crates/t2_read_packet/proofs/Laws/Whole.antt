@@ -10,9 +10,8 @@ use Rattle.t800.specs.declared.ReadAnswer.{ReadAnswer}
 use Rattle.t800.specs.Bits.{Decoded, bioAt, getBit}
 use Rattle.t800.specs.MarkerSegments.{MarkerRead, readMarker, readSop}
 use Rattle.t800.specs.ReadHeader.{readHeader}
-use Rattle.t800.specs.Packet.{ReadResult, refusedAnswer, readRefusal, readAbsent, read}
+use Rattle.t800.specs.Packet.{ReadResult, refusedAnswer, readRefusal, readAbsent, read, readResult}
 use Rattle.t2_read_present.specs.Answers.{presentOrBroken}
-use Rattle.t2_read_settle.specs.Results.{readResult}
 use Rattle.t800.specs.Reports.{recordWidth}
 
 module _ (ws scratch : List ℕ) (m : Markers) (src reports records : List ℕ) where

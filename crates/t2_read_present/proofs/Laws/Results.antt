@@ -13,14 +13,13 @@ use Rattle.t800.specs.Reports.{BlockReport, reportWords, reportWidth, recordWid
 use Rattle.t800.specs.State.{layer, bands, blocks}
 use Rattle.t800.specs.MarkerSegments.{MarkerRead}
 use Rattle.t800.specs.ReadHeader.{HeaderRead, readHeader}
-use Rattle.t800.specs.Packet.{refusedAnswer, readPresent}
+use Rattle.t800.specs.Packet.{refusedAnswer, readPresent, readResult}
 use Rattle.t800.proofs.Laws.Tests.{if-eq, if-ne}
 use Rattle.lists.proofs.Laws.Filled.{length-reports}
 use Rattle.t2_read_segments.specs.Reading.{Reading, heldBy}
 use Rattle.t2_read_header.specs.Header.{ReadsHeader}
 use Rattle.t2_read_marks.specs.Marks.{doneAnswer}
 use Rattle.t2_read_present.specs.Answers.{presentOrBroken}
-use Rattle.t2_read_settle.specs.Results.{readResult}
 
 over-all : (lent : List ℕ) (rs : List BlockReport) → length lent ≡ 4 * length rs → overwrite lent (reportWords rs) ≡ reportWords rs
 unfolding overwrite

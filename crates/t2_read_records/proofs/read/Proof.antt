@@ -50,7 +50,7 @@ use Rattle.t800.proofs.Markers as K
 use Rattle.t800.proofs.Markers.Laws as K′
 use Rattle.t800.proofs.ReadAnswer as Q
 use Rattle.t800.proofs.ReadAnswer.Laws as Q′
-use Rattle.t2_read_settle.specs.Results.{readResult}
+use Rattle.t800.specs.Packet.{readResult}
 use Rattle.t2_records.specs.Segments.{filled}
 use Rattle.t2_read_numbers.specs.Reading.{readNumbers, toFill}
 use Rattle.t2_read_records.specs.Reading.{structsRead, readStructs}

@@ -9,9 +9,8 @@ use Rattle.t800.specs.declared.ReadAnswer.{ReadAnswer}
 use Rattle.t800.specs.Base.{wiped}
 use Rattle.t800.specs.State.{layer}
 use Rattle.t800.specs.MarkerSegments.{MarkerRead}
-use Rattle.t800.specs.Packet.{readAbsent}
+use Rattle.t800.specs.Packet.{readAbsent, readResult}
 use Rattle.t2_read_marks.specs.Marks.{doneAnswer}
-use Rattle.t2_read_settle.specs.Results.{readResult}
 
 pub absent-is : (ws : List ℕ) (m : Markers) (src reports records : List ℕ) (s : MarkerRead) (b : Bio) (scratch rows : List ℕ)
     (answer : ReadAnswer)

@@ -5,7 +5,7 @@ use Prim.Native.Nat.{ℕ, _+_, _≤_}
 use native.Mathlib.Omega.{arith}
 use lib.ListN.{length}
 use borrow.Author.Needs.{needs}
-use Rattle.t2_refusals.specs.Refusals.{contribution}
+use Rattle.t800.specs.WriteHeader.{contribution}
 use Rattle.t2_write_packet.specs.Front.{putFront}
 use Rattle.t2_measure.proofs.Laws.Accepted.{accepted, as-long, copy-accepted}
 use Rattle.t2_write.proofs.Laws.Written.{room-left, write-refused, write-body-refused, write-no-space, write-done}

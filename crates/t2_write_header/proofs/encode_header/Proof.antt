@@ -15,7 +15,7 @@ use Rattle.bio_bytes.specs.Writing.{Output, output, emptyAt, lastPlace, putBit,
 use Rattle.bio_write.proofs.Laws.FreeBits.{emptyAt-clear, putBit-clear}
 use Rattle.t2_codes.specs.PassTable.{sameBits, isCodeword, isPassTable}
 use Rattle.t2_write_block.specs.Runs.{AllFit}
-use Rattle.t2_refusals.specs.Refusals.{contribution}
+use Rattle.t800.specs.WriteHeader.{contribution}
 use Rattle.t2_refusals.proofs.Laws.NotRefused.{not-refused-for}
 use Rattle.t2_refusals.proofs.Laws.RefusalParts.{first-words, bands-are, sides-are, length-is}
 use Rattle.t2_write_header.proofs.Laws.Fits.{all-fit}
