@@ -6,6 +6,16 @@ use mathlib.Core.List.{List, [], _∷_, _++_}
 use lib.ListN.{length, drop, replicate}
 use lib.Dec.{ltb}
 
+-- a list of 32-bit words, of bytes, of bits
+abbrev pub Words : Type 0
+Words = List ℕ
+
+abbrev pub Bytes : Type 0
+Bytes = List ℕ
+
+abbrev pub Bits : Type 0
+Bits = List ℕ
+
 -- the test holds at each number below n
 unfoldable pub every : ℕ → (ℕ → Bool) → Bool
 every zero f = true

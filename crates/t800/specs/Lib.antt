@@ -1,4 +1,5 @@
 pub mod Base
+pub mod Refusals
 pub mod Bits
 pub mod TagTree
 pub mod PassCount
@@ -11,5 +12,7 @@ pub mod WriteHeader
 pub mod ReadHeader
 pub mod MarkerSegments
 pub mod Packet
+pub mod Interface
 pub mod Book
+pub mod Numbers
 pub mod RoundTrip

@@ -6,6 +6,7 @@ use mathlib.Core.List.{List, [], _∷_, _++_, reverse}
 use lib.ListN.{length, set}
 use lib.Dec.{ltb, leb, eqb}
 use Rattle.t800.specs.declared.Bio.{Bio}
+use Rattle.t800.specs.Refusals.{widthRefusal, headerEndRefusal, recordsRefusal}
 use Rattle.t800.specs.Bits.{bioAt, getBit, readBits, endsInFF}
 use Rattle.t800.specs.TagTree.{PathRead, value, readPath}
 use Rattle.t800.specs.PassCount.{readPasses}
@@ -63,7 +64,7 @@ readSegment src room i k n r =
     let a : SegmentRecord = record { block = i; opens = cond (opensSegment ws k) 1 0; passes = n; bytes = len .value } in
     let after = set (set ws (k .at + 2) (currentLimit ws k)) (k .at + 3) (currentPasses ws k + n) in
     let done = withRecord a (movedTo after (len .bio) r) in
-    cond (ltb 32 w) (refused 9) (cond (leb room (length (r .records))) (refused 13) done)
+    cond (ltb 32 w) (refused widthRefusal) (cond (leb room (length (r .records))) (refused recordsRefusal) done)
 
 -- the segments of `left` more passes; f bounds them
 unfoldable pub readSegments : List ℕ → ℕ → ℕ → Block → ℕ → ℕ → HeaderRead → HeaderRead
@@ -145,4 +146,4 @@ unfoldable pub readHeader : List ℕ → ℕ → List ℕ → Bio → HeaderRead
 readHeader src room ws b =
     let r = readBlocks src room (layer ws) 0 (blocks (bands ws))
     (record { refusal = 0; words = ws; bio = b; reports = []; records = [] }) in
-    cond (eqb (r .refusal) 0 && endsInFF src (r .bio)) (refused 12) r
+    cond (eqb (r .refusal) 0 && endsInFF src (r .bio)) (refused headerEndRefusal) r

@@ -6,6 +6,8 @@ use mathlib.Core.List.{List, [], _∷_, _++_}
 use lib.ListN.{length, take}
 use lib.Dec.{ltb, eqb}
 use Rattle.t800.specs.declared.Band.{Band}
+use Rattle.t800.specs.Base.{Words}
+use Rattle.t800.specs.Refusals.{Check, check, firstOf, shapeRefusal, styleRefusal, listRefusal, planesRefusal}
 use Rattle.t800.specs.TagTree.{setValue}
 use Rattle.t800.specs.State.{Block, notYetIncluded, notYetPlanes, writer, blocksIn, bandNodes, blocks, stateLength}
 use Rattle.t800.specs.Ranges.{badShape, badStyle, bandTooDeep, blockTooDeep}
@@ -48,21 +50,25 @@ pub record StartResult : Type 0 where
   pub answer : ℕ
   pub state : List ℕ
 
--- Role, band count, bands, style byte, block planes (none for a reader), lent state. Bands beyond the count are ignored. Fewer than the
--- count cannot be given in the code, where they are an array of three.
-unfoldable pub startRefusal : ℕ → ℕ → List Band → ℕ → List ℕ → List ℕ → ℕ
-unfolding writer
-startRefusal r n given s planes lent =
-    let bs = take n given in
+-- 1, 2, 3, 4. Bands beyond the count are ignored. Fewer than the count cannot be given in the code, where they are an array of three. A
+-- reader is given no block planes.
+abbrev pub startChecks : (role count : ℕ) (given : List Band) (style : ℕ) (planes lent : Words) → List Check
+startChecks role count given style planes lent =
+    let bs = take count given in
     let ks = blocks bs in
-    cond (badShape n bs || ltb (length given) n) 1
-    (cond (badStyle s) 2
-    (cond (not (eqb (length lent) (stateLength bs)) || not (eqb (length planes) (cond (eqb r writer) (length ks) 0))) 3
-    (cond (bandTooDeep bs || blockTooDeep ks planes) 4 0)))
+    check shapeRefusal (badShape count bs || ltb (length given) count)
+    ∷ check styleRefusal (badStyle style)
+    ∷ check listRefusal (not (eqb (length lent) (stateLength bs)) || not (eqb (length planes) (cond (eqb role writer) (length ks) 0)))
+    ∷ check planesRefusal (bandTooDeep bs || blockTooDeep ks planes)
+    ∷ []
 
-unfoldable pub start : ℕ → ℕ → List Band → ℕ → List ℕ → List ℕ → StartResult
-start r n given s planes lent =
-    let why = startRefusal r n given s planes lent in
-    let bs = take n given in
-    let filled = setZeroPlanes (blocks bs) planes (freshState r s bs) in
+unfoldable pub startRefusal : (role count : ℕ) (given : List Band) (style : ℕ) (planes lent : Words) → ℕ
+unfolding writer
+startRefusal role count given style planes lent = firstOf (startChecks role count given style planes lent)
+
+unfoldable pub start : (role count : ℕ) (given : List Band) (style : ℕ) (planes lent : Words) → StartResult
+start role count given style planes lent =
+    let why = startRefusal role count given style planes lent in
+    let bs = take count given in
+    let filled = setZeroPlanes (blocks bs) planes (freshState role style bs) in
     record { answer = why; state = cond (eqb why 0) filled lent }
