@@ -19,11 +19,13 @@ pub mod ValidStates
 pub mod Header
 pub mod FewerRecords
 pub mod Packet
+pub mod Lists
 pub mod Calls
 pub mod Start
 pub mod WriterInRange
 pub mod Invariant
 pub mod RoundTrip
+pub mod Interfaces
 pub mod Corollaries
 pub mod Example
 pub mod PassCodes

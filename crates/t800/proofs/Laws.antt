@@ -2,6 +2,7 @@ pub mod Computed
 pub mod Pack
 pub mod Levels
 pub mod Tests
+pub mod Checks
 pub mod Lists
 pub mod HeaderBits
 pub mod Paths

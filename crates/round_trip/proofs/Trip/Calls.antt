@@ -18,12 +18,13 @@ use Rattle.t800.specs.Ranges.{validState}
 use Rattle.t800.specs.WriteHeader.{Contribution, codeHeader, segmentTooLong, fieldTooWide}
 use Rattle.t800.specs.ReadHeader.{readHeader}
 use Rattle.t800.specs.MarkerSegments.{readSop}
-use Rattle.t800.specs.Packet.{wrongLists, measureRefusal, front, packet, writeRefusal, WriteResult, write, readRefusal, readAbsent}
-use Rattle.t800.specs.Packet.{readPresent, ReadResult, read}
+use Rattle.t800.specs.Packet.{wrongLists, measureChecks, measureRefusal, front, packet, packetChecks, writeRefusal, WriteResult, write}
+use Rattle.t800.specs.Packet.{readRefusal, readAbsent, readPresent, ReadResult, read}
 use Rattle.t800.specs.Book.{BlockEntry, addCounts, terminatedAsStyle}
-use Rattle.t800.specs.RoundTrip.{WriteCall, WriterCall, measuring, writing, writeOf, accepted, owedFor, owed, allTerminatedAsStyle}
-use Rattle.t800.specs.RoundTrip.{ReadCall, readOf}
+use Rattle.t800.specs.Interface.{WriteCall, writeOf, ReadCall, readOf}
+use Rattle.round_trip.proofs.Trip.Lists.{WriterCall, measuring, writing, accepted, owedFor, owed, allTerminatedAsStyle}
 use Rattle.t800.specs.Reports.{recordWidth}
+use Rattle.t800.proofs.Laws.Checks.{first-append}
 use Rattle.t800.proofs.Laws.Tests.{not-refused, either, if-true, if-false}
 use Rattle.t800.proofs.Laws.Lists.{lists-right}
 use Rattle.round_trip.proofs.Trip.WriterState.{Acceptable}
@@ -91,9 +92,10 @@ module _ (ws scratch : List ℕ) (p : Contribution) (body : List ℕ) (m : Marke
       of-false P (eqb why 0) _ _ e (either P (eqb why 11) _ _ (refl, refl) (refl, refl))
 
   write-zero : why ≡ 0 → (measureRefusal ws scratch p ≡ 0) × (length body ≡ sum (p .lengths))
-  unfolding writeRefusal
+  unfolding measureRefusal writeRefusal
   write-zero e =
-      let c₁ = both-zero (eqb (measureRefusal ws scratch p) 0) (measureRefusal ws scratch p) _ refl e in
+      let c₁ = both-zero (eqb (measureRefusal ws scratch p) 0) (measureRefusal ws scratch p) _ refl
+      (sym (first-append (packetChecks ws p body m number output) (measureChecks ws scratch p) (omega arith)) ∙ e) in
       let c₂ = not-refused (not (eqb (length body) (sum (p .lengths)))) 10 _ (omega arith) (c₁ .1) in
       (c₁ .0, eqb-true (length body) (sum (p .lengths)) (not-false (eqb (length body) (sum (p .lengths))) (c₂ .0)))
 

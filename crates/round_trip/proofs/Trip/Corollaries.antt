@@ -18,9 +18,10 @@ use Rattle.t800.specs.Reports.{BlockReport, SegmentRecord, reportWords, recordW
 use Rattle.t800.specs.State.{blocks, writer, reader}
 use Rattle.t800.specs.Start.{startRefusal, start}
 use Rattle.t800.specs.Book.{BlockEntry, Entry, reportOf, entryFrom, entry, newBook, addCounts, terminatedAsStyle}
-use Rattle.t800.specs.RoundTrip.{WriteCall, WriterCall, measuring, writing, writeOf, accepted, stateAfter, Owed, owedFor, owed}
-use Rattle.t800.specs.RoundTrip.{allTerminatedAsStyle, ReadCall, ReaderCall, refusedRead, packetRead, readOf, ReadsPacket}
-use Rattle.t800.specs.RoundTrip.{GivesEntry}
+use Rattle.t800.specs.Interface.{WriteCall, writeOf, ReadCall, readOf}
+use Rattle.t800.specs.RoundTrip.{Owed, ReadsPacket, GivesEntry}
+use Rattle.round_trip.proofs.Trip.Lists.{WriterCall, measuring, writing, accepted, stateAfter, owedFor, owed, allTerminatedAsStyle}
+use Rattle.round_trip.proofs.Trip.Lists.{ReaderCall, refusedRead, packetRead}
 use Rattle.t800.proofs.Laws.Tests.{either, if-eq, if-ne, if-true, if-false, on-eq}
 use Rattle.t800.proofs.Laws.Lists.{record-words-length, none-too-deep}
 use Rattle.round_trip.proofs.Trip.Booked.{entries-length}

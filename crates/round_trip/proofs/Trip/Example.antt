@@ -11,10 +11,11 @@ use Rattle.t800.specs.declared.Markers.{Markers}
 use Rattle.t800.specs.State.{writer, reader}
 use Rattle.t800.specs.Start.{start}
 use Rattle.t800.specs.Book.{BlockEntry, newBook, terminatedAt, terminatedAsStyle}
-use Rattle.t800.specs.RoundTrip.{RoundTrip, WriteCall, WriterCall, measuring, writing, writeOf, owedFor, owed, allTerminatedAsStyle}
-use Rattle.t800.specs.RoundTrip.{ReaderCall, ReadsAsOwed}
+use Rattle.t800.specs.Interface.{WriteCall, writeOf}
+use Rattle.round_trip.proofs.Trip.Lists.{WriterCall, measuring, writing, owedFor, owed, allTerminatedAsStyle, ReaderCall}
+use Rattle.round_trip.proofs.Trip.Lists.{ReadsAsOwed}
 use Rattle.t800.proofs.Table.{rowHolds}
-use Rattle.round_trip.proofs.Trip.RoundTrip.{round-trip}
+use Rattle.round_trip.proofs.Trip.RoundTrip.{all-packets-read}
 
 -- two blocks in one band of 9 planes, none in one of 5; style 1, so that segments end after 10, 12, 13, 15, 16 and so on passes
 abbrev given : List Band
@@ -89,5 +90,4 @@ seven-owed = refl
 
 -- so the round trip applies
 applies : (rs : List ReaderCall) → ReadsAsOwed (start reader 2 given 1 [] lent .state) (owed 1 state book calls) rs
-unfolding RoundTrip
-applies rs = round-trip 2 given 1 planes lent lent (starts .0) (starts .1) calls terminates rs
+applies rs = all-packets-read 2 given 1 planes lent lent (starts .0) (starts .1) calls terminates rs

@@ -25,7 +25,9 @@ use Rattle.t800.specs.MarkerSegments.{MarkerRead, readSop}
 use Rattle.t800.specs.ReadHeader.{readHeader}
 use Rattle.t800.specs.Packet.{front, ReadResult, readRefusal, readAbsent, readPresent, read}
 use Rattle.t800.specs.Book.{BlockEntry, entryFrom, entry, newBook, addCounts, terminatedAsStyle}
-use Rattle.t800.specs.RoundTrip.{WriteCall, writeOf, accepted, Owed, owedFor, ReadCall, readOf, ReadsPacket, GivesEntry, withMore}
+use Rattle.t800.specs.Interface.{WriteCall, writeOf, ReadCall, readOf}
+use Rattle.t800.specs.RoundTrip.{Owed, ReadsPacket, GivesEntry, withMore}
+use Rattle.round_trip.proofs.Trip.Lists.{accepted, owedFor}
 use Rattle.t800.specs.Reports.{reportWidth, recordWidth}
 use Rattle.t800.proofs.Laws.Lists.{no-planes}
 use Rattle.t800.proofs.Laws.Layout.{Layout, layoutOf, blocks-placed, end-after}

@@ -1,6 +1,5 @@
--- The round trip over whole lists of calls: after an accepted start each packet owed is read as the book has it, and the reader's
--- state stays
--- valid.
+-- The round trip over whole lists of the definitions' calls: after an accepted start each packet owed is read as the book has it, and the
+-- reader's state stays valid.
 use mathlib.Core.Path.{_≡_, refl, sym, subst}
 use mathlib.Core.Logic.{_⊎_, inl, inr}
 use mathlib.Core.List.{List, [], _∷_}
@@ -11,8 +10,9 @@ use Rattle.t800.specs.declared.Band.{Band}
 use Rattle.t800.specs.State.{writer, reader}
 use Rattle.t800.specs.Start.{start}
 use Rattle.t800.specs.Book.{BlockEntry, newBook, addCounts}
-use Rattle.t800.specs.RoundTrip.{WriterCall, writeOf, Owed, owed, allTerminatedAsStyle, ReaderCall, refusedRead, packetRead, readOf}
-use Rattle.t800.specs.RoundTrip.{ReadsAsOwed, RoundTrip}
+use Rattle.t800.specs.Interface.{writeOf, readOf}
+use Rattle.t800.specs.RoundTrip.{Owed}
+use Rattle.round_trip.proofs.Trip.Lists.{WriterCall, owed, allTerminatedAsStyle, ReaderCall, refusedRead, packetRead, ReadsAsOwed}
 use Rattle.round_trip.proofs.Trip.Calls.{FirstOwed, first-owed, refused-read-keeps}
 use Rattle.round_trip.proofs.Trip.Invariant.{Invariant, reader-in-range, after-start, packet-gives, more-gives, after-packet}
 
@@ -41,10 +41,15 @@ all-read bs s t ws rs es (packetRead c ∷ reads) writes y h =
               (after-packet bs s t ws rs es (f .call) y (f .accepts) (f .terminated) c ask) (f .rest-terminated),
         ))
 
--- DEMAND 3
-pub round-trip : RoundTrip
-unfolding RoundTrip
-round-trip n given style planes lent lent′ ew er ws h rs =
+pub all-packets-read : (n : ℕ) (given : List Band) (style : ℕ) (planes lent lent′ : List ℕ)
+    → start writer n given style planes lent .answer ≡ 0
+    → start reader n given style [] lent′ .answer ≡ 0
+    → (ws : List WriterCall)
+    → T (allTerminatedAsStyle style (start writer n given style planes lent .state) (newBook (take n given) planes) ws)
+    → (rs : List ReaderCall)
+    → ReadsAsOwed (start reader n given style [] lent′ .state)
+    (owed style (start writer n given style planes lent .state) (newBook (take n given) planes) ws) rs
+all-packets-read n given style planes lent lent′ ew er ws h rs =
     all-read (take n given) style 0 (start writer n given style planes lent .state) (start reader n given style [] lent′ .state)
     (newBook (take n given) planes) rs ws
     (after-start n given style planes lent lent′ ew er) h

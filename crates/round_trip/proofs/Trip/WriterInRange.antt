@@ -12,9 +12,11 @@ use lib.ListN.{length, set, take}
 use Rattle.t800.specs.declared.Band.{Band}
 use Rattle.t800.specs.TagTree.{Coded}
 use Rattle.t800.specs.State.{Block, notYetIncluded, blocks, bands, layer, stateLength, endOf, writer}
+use Rattle.t800.specs.Ranges.{validState}
 use Rattle.t800.specs.Start.{start}
 use Rattle.t800.specs.WriteHeader.{Contribution, setNewBlocks, codeHeader}
-use Rattle.t800.specs.RoundTrip.{WriterInRange, WriteCall, WriterCall, measuring, writing, writeOf, accepted, stateAfter}
+use Rattle.t800.specs.Interface.{WriteCall, writeOf}
+use Rattle.round_trip.proofs.Trip.Lists.{WriterCall, measuring, writing, accepted, stateAfter}
 use Rattle.t800.proofs.Laws.Layout.{inclusion, Layout, layoutOf, blocks-placed, end-after}
 use Rattle.t800.proofs.Laws.FirstWords.{FirstWords, next-layer}
 use Rattle.round_trip.proofs.Trip.Changes.{nodes-only, first-stays, blocks-coded}
@@ -120,9 +122,11 @@ length-is : (bs : List Band) → stateLength bs ≡ endOf 13 bs
 unfolding stateLength
 length-is bs = refl
 
-pub writer-in-range : WriterInRange
-unfolding WriterInRange
-writer-in-range n given style planes lent e ws =
+pub calls-in-range : (n : ℕ) (given : List Band) (style : ℕ) (planes lent : List ℕ)
+    → start writer n given style planes lent .answer ≡ 0
+    → (ws : List WriterCall)
+    → validState writer (stateAfter (start writer n given style planes lent .state) ws) (length lent) ≡ true
+calls-in-range n given style planes lent e ws =
     let bs : List Band = take n given in
     let y = after-calls bs style 0 (start writer n given style planes lent .state) ws (writer-after-start n given style planes lent e) in
     let l : length lent ≡ endOf 13 bs = start-accepted writer n given style planes lent e .lent-length ∙ length-is bs in

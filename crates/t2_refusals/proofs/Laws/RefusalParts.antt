@@ -63,5 +63,5 @@ contribution-parts ws p a b r ea eb er = rw (ea, eb, er)
 pub measure-parts : (ws : List ℕ) (n : ℕ) (p : Contribution) (v t : Bool) (r : ℕ) → v ≡ validState writer ws n → t
     ≡ eqb (layer ws) notYetIncluded → r ≡ contributionRefusal ws p
     → cond (not v) 5 (cond t 6 r) ≡ measureRefusalFor ws n p
-unfolding measureRefusalFor
+unfolding measureRefusalFor contributionRefusal
 measure-parts ws n p v t r ev et er = rw (ev, et, er)

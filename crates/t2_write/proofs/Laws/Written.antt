@@ -10,12 +10,11 @@ use lib.Seq.{sets, sets-eq}
 use lib.Dec.{eqb, ltb, leb}
 use borrow.Author.Tests.{eq-eqb, ne-eqb, lt-ltb, le-ltb, leb-true, leb-false, not-true, not-false}
 use Rattle.t800.specs.declared.Markers.{Markers}
-use Rattle.t800.specs.Base.{any, sum, overwrite, wiped}
-use Rattle.t800.specs.State.{writer, notYetIncluded, blocks, bands, layer}
-use Rattle.t800.specs.Ranges.{validState}
-use Rattle.t800.specs.WriteHeader.{Contribution, codeHeader, segmentTooLong, fieldTooWide}
-use Rattle.t800.specs.Packet.{wrongLists, measureRefusal, front, packet, writeRefusal, WriteResult, write}
-use Rattle.t800.proofs.Laws.Tests.{if-true, if-false, if-ne, either}
+use Rattle.t800.specs.Base.{sum, overwrite, wiped}
+use Rattle.t800.specs.WriteHeader.{Contribution, codeHeader}
+use Rattle.t800.specs.Packet.{measureChecks, measureRefusal, front, packet, packetChecks, writeRefusal, WriteResult, write}
+use Rattle.t800.proofs.Laws.Tests.{if-true, if-false, if-ne}
+use Rattle.t800.proofs.Laws.Checks.{not-first, first-later, first-earlier}
 use Rattle.t2_refusals.specs.Refusals.{measureRefusalFor}
 use Rattle.t2_refusals.proofs.Laws.ScratchLength.{refusal-by-scratch-length}
 use Rattle.t2_write_header.specs.Header.{HeaderCoded}
@@ -28,14 +27,7 @@ room-left t m n c k = leb-true m n (sym c ∙ not-false t k)
 -- what is no refusal of writing alone
 measure-not-11 : (ws scratch : List ℕ) (p : Contribution) → measureRefusal ws scratch p ≢ 11
 unfolding measureRefusal
-measure-not-11 ws scratch p =
-    either (λ (k : ℕ). k ≢ 11) (not (validState writer ws (length scratch))) 5 _ (omega arith)
-    (either (λ (k : ℕ). k ≢ 11) (eqb (layer ws) notYetIncluded) 6 _ (omega arith)
-    (either (λ (k : ℕ). k ≢ 11) (wrongLists p (length (blocks (bands ws)))) 3 _ (omega arith)
-    (either (λ (k : ℕ). k ≢ 11) (any (λ c. ltb 164 c) (p .counts)) 7 _ (omega arith)
-    (either (λ (k : ℕ). k ≢ 11) (segmentTooLong (p .counts) (p .lengths) (p .marks)) 8 _ (omega arith)
-    (either (λ (k : ℕ). k ≢ 11) (fieldTooWide ws (blocks (bands ws)) (p .counts) (p .lengths) (p .marks)) 9 0 (omega arith)
-    (omega arith))))))
+measure-not-11 ws scratch p = not-first 11 (measureChecks ws scratch p) (omega arith)
 
 module _ (ws scratch : List ℕ) (p : Contribution) (body : List ℕ) (m : Markers) (number : ℕ) (output : List ℕ) where
   abbrev answered : ℕ → ℕ → List ℕ → List ℕ → List ℕ → WriteResult
@@ -62,11 +54,10 @@ module _ (ws scratch : List ℕ) (p : Contribution) (body : List ℕ) (m : Marke
     why-is = is ∙ sym (refusal-by-scratch-length ws scratch p)
 
     pub write-refused : why ≢ 0 → answered why 0 ws scratch output ≡ write ws scratch p body m number output
-    unfolding writeRefusal
+    unfolding measureRefusal writeRefusal
     write-refused h =
         unchanged why h (λ e. measure-not-11 ws scratch p (sym why-is ∙ e))
-        (why-is ∙ sym (if-true (not (eqb (measureRefusal ws scratch p) 0)) _ _
-        (ap not (ne-eqb (measureRefusal ws scratch p) 0 (λ e. h (why-is ∙ e))))))
+        (why-is ∙ sym (first-earlier (packetChecks ws p body m number output) (measureChecks ws scratch p) (λ e. h (why-is ∙ e))))
 
     module _ (z : why ≡ 0) where
       abbrev space : ℕ
@@ -74,9 +65,8 @@ module _ (ws scratch : List ℕ) (p : Contribution) (body : List ℕ) (m : Marke
 
       -- none of measuring's
       then-body : writeRefusal ws scratch p body m number output ≡ cond (not (eqb (length body) (sum (p .lengths)))) 10 space
-      unfolding writeRefusal
-      then-body = if-false (not (eqb (measureRefusal ws scratch p) 0)) _ _
-          (ap not (eq-eqb (measureRefusal ws scratch p) 0 (sym why-is ∙ z)))
+      unfolding measureRefusal writeRefusal
+      then-body = first-later (packetChecks ws p body m number output) (measureChecks ws scratch p) (omega arith) (sym why-is ∙ z)
 
       pub write-body-refused : (n : ℕ) → n ≡ sum (p .lengths) → length body ≢ n → answered 10 0 ws scratch output
           ≡ write ws scratch p body m number output

@@ -1,68 +1,49 @@
--- Demand 1 of the calls, from their contracts.
+-- Demand 1 of every interface: the number of a call is that of the first check that holds, and a refused call leaves the state.
 use mathlib.Core.Path.{_≡_, refl, sym, ap, _∙_, subst}
 use mathlib.Core.Logic.{_≢_}
 use mathlib.Core.Bool.{Bool, true, false, cond, not, _&&_, _||_}
 use mathlib.Core.List.{List, [], _∷_, _++_, reverse}
-use Prim.Native.Nat.{ℕ, zero, suc, _+_, _-_, _*_, _/_, _≤_}
+use Prim.Native.Nat.{ℕ, zero, suc, _+_, _-_, _*_, _≤_}
 use native.Mathlib.Omega.{arith}
 use lib.ListN.{length}
 use lib.Dec.{ltb, leb, eqb}
 use borrow.Author.Tests.{ne-eqb, eqb-true}
 use Rattle.t800.specs.declared.Bio.{Bio}
-use Rattle.t800.specs.Bits.{Decoded, bioAt, getBit, endsInFF}
-use Rattle.t800.specs.State.{Block, reader, notYetIncluded, layer, bands, blocks, lengthBits}
-use Rattle.t800.specs.Ranges.{validState}
+use Rattle.t800.specs.declared.Markers.{Markers}
+use Rattle.t800.specs.Refusals.{Check, firstOf}
+use Rattle.t800.specs.Bits.{Decoded, getBit, endsInFF}
+use Rattle.t800.specs.State.{Block, layer, bands, blocks, lengthBits}
 use Rattle.t800.specs.Segments.{width}
 use Rattle.t800.specs.TagTree.{PathRead, value, readPath}
-use Rattle.t800.specs.Reports.{absent, reportWidth, recordWidth}
-use Rattle.t800.specs.Start.{StartResult, startRefusal, start}
-use Rattle.t800.specs.MarkerSegments.{readSop}
+use Rattle.t800.specs.Reports.{absent}
+use Rattle.t800.specs.Start.{StartResult, startRefusal}
+use Rattle.t800.specs.Start.{start}
 use Rattle.t800.specs.ReadHeader.{HeaderRead, refused, movedTo, withReport, readSegment, readSegments, readIncluded, readNewBlock}
 use Rattle.t800.specs.ReadHeader.{readOldBlock, readBlock, readBlocks, readHeader, passesTaken}
 use Rattle.t800.specs.WriteHeader.{isNew}
-use Rattle.t800.specs.Packet.{MeasureResult, measureRefusal, measure, WriteResult, writeRefusal, write, ReadResult, readRefusal}
-use Rattle.t800.specs.Packet.{readAbsent, readPresent, read}
-use Rattle.t800.specs.RoundTrip.{WriteCall, ReadCall}
+use Rattle.t800.specs.Packet.{MeasureResult, measureRefusal, measure, WriteResult, writeRefusal, write, ReadResult, readListChecks}
+use Rattle.t800.specs.Packet.{readRefusal, headerChecks, firstBit, headerOf, readAbsent, readPresent, read}
+use Rattle.t800.specs.Interface.{StartCall, startOf, WriteCall, measureOf, writeOf, ReadCall, readOf, Calls, Interface}
+use Rattle.t800.specs.Numbers.{NoneHolds, NumberIs, startChecksOf, measureChecksOf, writeChecksOf, readChecksOf, Numbers}
 use Rattle.t800.proofs.Laws.Tests.{if-true, if-false, if-eq, if-ne, either, on-eq}
-use Rattle.t2_theorems.specs.Calls.{Started, Measured, Written, WasRead}
-use Rattle.t2_theorems.specs.Numbers.{Check, check, startChecks, measureChecks, bodyChecks, writeChecks, readChecks}
-use Rattle.t2_theorems.specs.Numbers.{NoneHolds, NumberIs, NumbersOfCalls}
+use Rattle.t800.proofs.Laws.Checks.{NotAmong, not-first, on-bool, first-append}
 
 -- ---- the first check that holds
-
-unfoldable firstOf : List Check → ℕ
-firstOf [] = 0
-firstOf (c ∷ cs) = cond (c .holds) (c .number) (firstOf cs)
-
-abbrev NotAmong : ℕ → List Check → Type 0
-NotAmong n [] = n ≢ 0
-NotAmong n (c ∷ cs) = (n ≢ c .number) × NotAmong n cs
 
 -- no number comes twice, none is 0, all are at most 13
 abbrev Distinct : List Check → Type 0
 Distinct [] = Unit {0}
 Distinct (c ∷ cs) = NotAmong (c .number) cs × (c .number ≤ 13) × Distinct cs
 
-not-first : (n : ℕ) (cs : List Check) → NotAmong n cs → firstOf cs ≢ n
-unfolding firstOf
-not-first n [] a = λ e. a (sym e)
-not-first n (c ∷ cs) a = either (λ (z : ℕ). z ≢ n) (c .holds) _ _ (λ e. a .0 (sym e)) (not-first n cs (a .1))
-
 not-zero : (n : ℕ) (cs : List Check) → NotAmong n cs → n ≢ 0
 not-zero n [] a = a
 not-zero n (c ∷ cs) a = not-zero n cs (a .1)
 
 first-up-to : (cs : List Check) → Distinct cs → firstOf cs ≤ 13
-unfolding firstOf
 first-up-to [] d = omega arith
 first-up-to (c ∷ cs) d = either (λ (z : ℕ). z ≤ 13) (c .holds) _ _ (d .1) (first-up-to cs (d .2))
 
-on-bool {ℓ} : {X : Type ℓ} (b : Bool) → (b ≡ true → X) → (b ≡ false → X) → X
-on-bool true f g = f refl
-on-bool false f g = g refl
-
 none-then : (cs : List Check) → Distinct cs → firstOf cs ≡ 0 → NoneHolds cs
-unfolding firstOf
 none-then [] d e = tt
 none-then (c ∷ cs) d e =
     on-bool (c .holds)
@@ -70,7 +51,6 @@ none-then (c ∷ cs) d e =
     (λ f. (f, none-then cs (d .2) (sym (if-false (c .holds) (c .number) (firstOf cs) f) ∙ e)))
 
 then-zero : (cs : List Check) → NoneHolds cs → firstOf cs ≡ 0
-unfolding firstOf
 then-zero [] n = refl
 then-zero (c ∷ cs) n = if-false (c .holds) (c .number) (firstOf cs) (n .0) ∙ then-zero cs (n .1)
 
@@ -80,7 +60,6 @@ among-later n (e ∷ es) later c a = among-later n es later c (a .1)
 
 given-then : (earlier later : List Check) (c : Check) → Distinct (earlier ++ c ∷ later) → firstOf (earlier ++ c ∷ later) ≡ c .number
     → NoneHolds earlier × (c .holds ≡ true)
-unfolding firstOf
 given-then [] later c d e =
     on-bool (c .holds) (λ t. (tt, t))
     (λ f. absurd (not-first (c .number) later (d .0) (sym (if-false (c .holds) (c .number) (firstOf later) f) ∙ e)))
@@ -91,7 +70,6 @@ given-then (b ∷ es) later c d e =
     (λ f. let r = given-then es later c (d .2) (sym (if-false (b .holds) (b .number) (firstOf rest) f) ∙ e) in ((f, r .0), r .1))
 
 then-given : (earlier later : List Check) (c : Check) → NoneHolds earlier → c .holds ≡ true → firstOf (earlier ++ c ∷ later) ≡ c .number
-unfolding firstOf
 then-given [] later c n t = if-true (c .holds) (c .number) (firstOf later) t
 then-given (b ∷ es) later c n t = if-false (b .holds) (b .number) (firstOf (es ++ c ∷ later)) (n .0) ∙ then-given es later c (n .1) t
 
@@ -106,26 +84,19 @@ number-is cs n d e =
       );
     }
 
--- ---- start
+-- ---- the numbers of the definitions
 
-start-number : (r : ℕ) (s : Started r) → s .result .answer ≡ firstOf (startChecks r s)
-unfolding firstOf start startRefusal
-start-number r s = ap (λ (z : StartResult). z .answer) (s .met)
+start-number : (role : ℕ) (lent : List ℕ) (c : StartCall) → startOf role lent c .answer ≡ firstOf (startChecksOf role lent c)
+unfolding start startRefusal
+start-number role lent c = refl
 
-start-stays : (r : ℕ) (s : Started r) → s .result .answer ≢ 0 → s .result .state ≡ s .lent
+start-stays : (role : ℕ) (lent : List ℕ) (c : StartCall) → startOf role lent c .answer ≢ 0 → startOf role lent c .state ≡ lent
 unfolding start
-start-stays r s h =
-    let e = s .met in
-    let why : ℕ = startRefusal r (s .count) (s .bands) (s .style) (s .planes) (s .lent) in
-    ap (λ (z : StartResult). z .state) e ∙ if-ne why 0 _ (s .lent) (λ z. h (ap (λ (x : StartResult). x .answer) e ∙ z))
+start-stays role lent c h = if-ne (startRefusal role (c .count) (c .bands) (c .style) (c .planes) lent) 0 _ lent h
 
--- ---- measure and write
-
-measure-number : (m : Measured) → m .result .answer .refusal ≡ firstOf (measureChecks (m .state) (m .call))
-unfolding firstOf measure measureRefusal
-measure-number m =
-    let why : ℕ = measureRefusal (m .state) (m .call .scratch) (m .call .contribution) in
-    ap (λ (z : MeasureResult). z .answer .refusal) (m .met) ∙ number why _ _ refl refl
+measure-number : (ws : List ℕ) (c : WriteCall) → measureOf ws c .answer .refusal ≡ firstOf (measureChecksOf ws c)
+unfolding measure measureRefusal
+measure-number ws c = number (measureRefusal ws (c .scratch) (c .contribution)) _ _ refl refl
   where
     number : (why : ℕ) (done other : MeasureResult) → done .answer .refusal ≡ 0 → other .answer .refusal ≡ why
         → cond (eqb why 0) done other .answer .refusal ≡ why
@@ -133,28 +104,13 @@ measure-number m =
         (λ e. ap (λ (z : MeasureResult). z .answer .refusal) (if-eq why 0 done other e) ∙ d ∙ sym e)
         (λ e. ap (λ (z : MeasureResult). z .answer .refusal) (if-ne why 0 done other e) ∙ o)
 
--- the checks cs, and after them ds
-first-append : (cs ds : List Check) → Distinct cs → firstOf (cs ++ ds) ≡ cond (not (eqb (firstOf cs) 0)) (firstOf cs) (firstOf ds)
-unfolding firstOf
-first-append [] ds d = refl
-first-append (c ∷ cs) ds d =
-    on-bool (c .holds)
-    (λ t. rw t
-    (sym (if-true (not (eqb (c .number) 0)) (c .number) (firstOf ds)
-    (ap not (ne-eqb (c .number) 0 (not-zero (c .number) cs (d .0)))))))
-    (λ f. rw f (first-append cs ds (d .2)))
-
-measure-distinct : (ws : List ℕ) (c : WriteCall) → Distinct (measureChecks ws c)
-measure-distinct ws c = omega arith
-
-module _ (w : Written) where
+module _ (ws : List ℕ) (c : WriteCall) where
   abbrev writeWhy : ℕ
-  writeWhy = writeRefusal (w .state) (w .call .scratch) (w .call .contribution) (w .call .body) (w .call .markers) (w .call .number)
-      (w .call .output)
+  writeWhy = writeRefusal ws (c .scratch) (c .contribution) (c .body) (c .markers) (c .number) (c .output)
 
-  write-why : w .result .answer .refusal ≡ writeWhy
+  write-why : writeOf ws c .answer .refusal ≡ writeWhy
   unfolding write
-  write-why = ap (λ (z : WriteResult). z .answer .refusal) (w .met) ∙ number writeWhy _ _ _ refl refl refl
+  write-why = number writeWhy _ _ _ refl refl refl
     where
       number : (why : ℕ) (done noSpace unchanged : WriteResult) → done .answer .refusal ≡ 0 → noSpace .answer .refusal ≡ why
           → unchanged .answer .refusal ≡ why
@@ -164,19 +120,17 @@ module _ (w : Written) where
           (λ e. ap (λ (z : WriteResult). z .answer .refusal) (if-ne why 0 done _ e)
           ∙ either (λ (z : WriteResult). z .answer .refusal ≡ why) (eqb why 11) noSpace unchanged n u)
 
-  write-number : w .result .answer .refusal ≡ firstOf (writeChecks (w .state) (w .call))
-  unfolding firstOf measureRefusal writeRefusal
+  write-number : writeOf ws c .answer .refusal ≡ firstOf (writeChecksOf ws c)
+  unfolding writeRefusal
   write-number = write-why
-      ∙ sym (first-append (measureChecks (w .state) (w .call)) (bodyChecks (w .state) (w .call))
-      (measure-distinct (w .state) (w .call)))
 
-  write-stays : w .result .answer .refusal ≢ 0 → w .result .state ≡ w .state
+  write-stays : writeOf ws c .answer .refusal ≢ 0 → writeOf ws c .state ≡ ws
   unfolding write
   write-stays h =
-      ap (λ (z : WriteResult). z .state) (w .met ∙ if-ne writeWhy 0 _ _ (λ e. h (write-why ∙ e)))
-      ∙ either (λ (z : WriteResult). z .state ≡ w .state) (eqb writeWhy 11) _ _ refl refl
+      ap (λ (z : WriteResult). z .state) (if-ne writeWhy 0 _ _ (λ e. h (write-why ∙ e)))
+      ∙ either (λ (z : WriteResult). z .state ≡ ws) (eqb writeWhy 11) _ _ refl refl
 
--- ---- read
+-- ---- reading
 
 -- a header gives none of the other numbers
 record HeaderNumber (r : HeaderRead) : Type 0 where
@@ -254,8 +208,7 @@ module _ (src : List ℕ) (room : ℕ) where
 
 -- its number is that of the check that holds
 of-header : (h : ℕ) (present : Bool) → (eqb h 0 || eqb h 9 || eqb h 13 || eqb h 12) ≡ true
-    → firstOf (check 9 (present && eqb h 9) ∷ check 13 (present && eqb h 13) ∷ check 12 (present && eqb h 12) ∷ []) ≡ cond present h 0
-unfolding firstOf
+    → firstOf (headerChecks present h) ≡ cond present h 0
 of-header h false e = refl
 of-header h true e =
     on-eq h 9 (λ q. if-eq h 9 9 _ q ∙ sym q)
@@ -270,27 +223,19 @@ of-header h true e =
         last true e = refl
         last false e = e
 
-module _ (r : WasRead) where
-  abbrev call : ReadCall
-  call = r .call
-
+module _ (ws : List ℕ) (c : ReadCall) where
   abbrev early : ℕ
-  early = readRefusal (r .state) (call .scratch) (call .reports)
+  early = readRefusal ws (c .scratch) (c .reports)
 
-  abbrev firstBit : ℕ
-  firstBit = getBit (call .input) (bioAt (readSop (call .markers) (call .input) .skip)) .value
+  abbrev first : ℕ
+  first = firstBit (c .markers) (c .input) .value
 
   abbrev header : HeaderRead
-  header = readHeader (call .input) (length (call .records) / recordWidth) (r .state)
-      (getBit (call .input) (bioAt (readSop (call .markers) (call .input) .skip)) .bio)
+  header = headerOf ws (c .markers) (c .input) (c .records)
 
-  abbrev readWhy : ℕ
-  readWhy = cond (not (eqb early 0)) early (cond (not (eqb firstBit 0)) (header .refusal) 0)
-
-  read-why : r .result .answer .refusal ≡ readWhy
+  read-why : readOf ws c .answer .refusal ≡ cond (not (eqb early 0)) early (cond (not (eqb first 0)) (header .refusal) 0)
   unfolding read readAbsent readPresent
-  read-why = ap (λ (z : ReadResult). z .answer .refusal) (r .met)
-      ∙ number (not (eqb early 0)) (eqb firstBit 0) (eqb (header .refusal) 0) refl _ _ _ _ refl refl refl refl
+  read-why = number (not (eqb early 0)) (eqb first 0) (eqb (header .refusal) 0) refl _ _ _ _ refl refl refl refl
     where
       number : (refused absent done : Bool) → eqb (header .refusal) 0 ≡ done → (a b c d : ReadResult) → a .answer .refusal ≡ early
           → b .answer .refusal ≡ 0 → c .answer .refusal ≡ 0 → d .answer .refusal ≡ header .refusal
@@ -300,50 +245,63 @@ module _ (r : WasRead) where
       number false false true e a b c d p q s t = s ∙ sym (eqb-true (header .refusal) 0 e)
       number false false false e a b c d p q s t = t
 
-  read-number : r .result .answer .refusal ≡ firstOf (readChecks (r .state) call)
-  unfolding firstOf readRefusal
+  read-number : readOf ws c .answer .refusal ≡ firstOf (readChecksOf ws c)
+  unfolding readRefusal
   read-number =
-      let early-checks : List Check =
-      check 5 (not (validState reader (r .state) (length (call .scratch)))) ∷ check 6 (eqb (layer (r .state)) notYetIncluded) ∷
-      check 3 (not (eqb (length (call .reports)) (reportWidth * length (blocks (bands (r .state)))))) ∷ [] in
-      let present : Bool = not (eqb firstBit 0) in
-      let late : List Check =
-      check 9 (present && eqb (header .refusal) 9) ∷ check 13 (present && eqb (header .refusal) 13) ∷ check 12
-      (present && eqb (header .refusal) 12) ∷ [] in
-      let d : Distinct early-checks = omega arith in
+      let present : Bool = not (eqb first 0) in
       read-why
       ∙ ap (λ (z : ℕ). cond (not (eqb early 0)) early z)
-      (sym (of-header (header .refusal) present
-      (header-number (call .input) (length (call .records) / recordWidth) (r .state) _ .one-of)))
-      ∙ sym (first-append early-checks late d)
+      (sym (of-header (header .refusal) present (header-number (c .input) _ ws _ .one-of)))
+      ∙ sym (first-append (headerChecks present (header .refusal)) (readListChecks ws (c .scratch) (c .reports)) (omega arith))
 
-  read-stays : r .result .answer .refusal ≢ 0 → r .result .state ≡ r .state
+  read-stays : readOf ws c .answer .refusal ≢ 0 → readOf ws c .state ≡ ws
   unfolding read readAbsent readPresent
-  read-stays h = ap (λ (z : ReadResult). z .state) (r .met)
-      ∙ kept (not (eqb early 0)) (eqb firstBit 0) (eqb (header .refusal) 0) _ _ _ _
-      (λ e. h (ap (λ (z : ReadResult). z .answer .refusal) (r .met) ∙ e)) refl refl refl refl
+  read-stays h = kept (not (eqb early 0)) (eqb first 0) (eqb (header .refusal) 0) _ _ _ _ h refl refl refl refl
     where
       kept : (refused absent done : Bool) (a b c d : ReadResult)
-          → cond refused a (cond absent b (cond done c d)) .answer .refusal ≢ 0 → a .state ≡ r .state → b .answer .refusal ≡ 0
-          → c .answer .refusal ≡ 0 → d .state ≡ r .state
-          → cond refused a (cond absent b (cond done c d)) .state ≡ r .state
+          → cond refused a (cond absent b (cond done c d)) .answer .refusal ≢ 0 → a .state ≡ ws → b .answer .refusal ≡ 0
+          → c .answer .refusal ≡ 0 → d .state ≡ ws
+          → cond refused a (cond absent b (cond done c d)) .state ≡ ws
       kept true absent done a b c d n p q s t = p
       kept false true done a b c d n p q s t = absurd (n q)
       kept false false true a b c d n p q s t = absurd (n s)
       kept false false false a b c d n p q s t = t
 
--- ---- together
+-- ---- of one kind of call in an interface
 
-pub numbers-of-calls : NumbersOfCalls
-unfolding NumbersOfCalls
-numbers-of-calls = (
-  (λ r s. (number-is (startChecks r s) (s .result .answer) (omega arith) (start-number r s), start-stays r s)),
-  (λ m. number-is (measureChecks (m .state) (m .call)) (m .result .answer .refusal) (measure-distinct (m .state) (m .call))
-      (measure-number m)),
-  (λ w. (
-    number-is (writeChecks (w .state) (w .call)) (w .result .answer .refusal)
-        (omega arith, omega arith, (omega arith, omega arith, omega arith)) (write-number w),
-    write-stays w,
+module _ {Args Result : Type 0} {gives : List ℕ → Args → Result} {untouched : List ℕ → Args → ℕ → Result}
+    (K : Calls Args Result gives untouched) (number : Result → ℕ) where
+  number-of : (checks : List ℕ → Args → List Check) → ((ws : List ℕ) (a : Args) → Distinct (checks ws a))
+      → ((ws : List ℕ) (a : Args) → number (gives ws a) ≡ firstOf (checks ws a))
+      → (m : K .Made) → K .asked m ≡ true → NumberIs (checks (K .found m) (K .args m)) (number (K .left m))
+  number-of checks d e m a =
+      number-is (checks (K .found m) (K .args m)) _ (d (K .found m) (K .args m)) (ap number (K .meets m a) ∙ e (K .found m) (K .args m))
+
+  stays-of : (state : Result → List ℕ) → ((ws : List ℕ) (a : Args) → number (gives ws a) ≢ 0 → state (gives ws a) ≡ ws)
+      → ((ws : List ℕ) (a : Args) (why : ℕ) → state (untouched ws a why) ≡ ws)
+      → (m : K .Made) → number (K .left m) ≢ 0 → state (K .left m) ≡ K .found m
+  stays-of state s u m h =
+      on-bool (K .asked m)
+      (λ a. let k = K .meets m a in ap state k ∙ s (K .found m) (K .args m) (λ e. h (ap number k ∙ e)))
+      (λ a. ap state (K .refuses m a) ∙ u (K .found m) (K .args m) (K .otherwise m))
+
+-- ---- DEMAND 1
+
+pub numbers : (I : Interface) → Numbers I
+unfolding Numbers
+numbers I = (
+  (λ role m. (
+    number-of (I .starts role) (λ (z : StartResult). z .answer) (startChecksOf role) (λ ws c. omega arith) (start-number role) m,
+    stays-of (I .starts role) (λ (z : StartResult). z .answer) (λ (z : StartResult). z .state) (start-stays role) (λ ws c why. refl) m,
   )),
-  (λ r. (number-is (readChecks (r .state) (r .call)) (r .result .answer .refusal) (omega arith) (read-number r), read-stays r)),
+  number-of (I .measures) (λ (z : MeasureResult). z .answer .refusal) measureChecksOf (λ ws c. omega arith) measure-number,
+  (λ m. (
+    number-of (I .writes) (λ (z : WriteResult). z .answer .refusal) writeChecksOf
+        (λ ws c. (omega arith, omega arith, (omega arith, omega arith, omega arith))) write-number m,
+    stays-of (I .writes) (λ (z : WriteResult). z .answer .refusal) (λ (z : WriteResult). z .state) write-stays (λ ws c why. refl) m,
+  )),
+  (λ m. (
+    number-of (I .reads) (λ (z : ReadResult). z .answer .refusal) readChecksOf (λ ws c. omega arith) read-number m,
+    stays-of (I .reads) (λ (z : ReadResult). z .answer .refusal) (λ (z : ReadResult). z .state) read-stays (λ ws c why. refl) m,
+  )),
 )

@@ -1,0 +1,61 @@
+-- Lists of the definitions' own calls: what a list of calls of any interface comes down to.
+use mathlib.Core.Path.{_≡_}
+use Prim.Native.Nat.{ℕ, _<_}
+use mathlib.Core.Bool.{Bool, true, cond, _&&_}
+use mathlib.Core.List.{List, [], _∷_}
+use lib.ListN.{length}
+use lib.Dec.{eqb}
+use Rattle.t800.specs.State.{reader}
+use Rattle.t800.specs.Ranges.{validState}
+use Rattle.t800.specs.Packet.{WriteResult, ReadResult}
+use Rattle.t800.specs.Book.{BlockEntry, addCounts, terminatedAsStyle}
+use Rattle.t800.specs.Interface.{WriteCall, writeOf, ReadCall, readOf}
+use Rattle.t800.specs.RoundTrip as made
+use Rattle.t800.specs.RoundTrip.{Owed, ReadsPacket, GivesEntry, withMore}
+
+-- ---- the writer's
+
+pub data WriterCall : Type 0 where
+  measuring writing : WriteCall → WriterCall
+
+abbrev pub accepted : List ℕ → WriteCall → Bool
+accepted ws c = eqb (writeOf ws c .answer .refusal) 0
+
+unfoldable pub stateAfter : List ℕ → List WriterCall → List ℕ
+stateAfter ws [] = ws
+stateAfter ws (measuring c ∷ cs) = stateAfter ws cs
+stateAfter ws (writing c ∷ cs) = stateAfter (writeOf ws c .state) cs
+
+unfoldable pub owedFor : ℕ → List ℕ → List BlockEntry → WriteCall → Owed
+owedFor style ws book c = made.owedFor style book c (writeOf ws c)
+
+unfoldable pub owed : ℕ → List ℕ → List BlockEntry → List WriterCall → List Owed
+owed style ws book [] = []
+owed style ws book (measuring c ∷ cs) = owed style ws book cs
+owed style ws book (writing c ∷ cs) =
+    let yes = owedFor style ws book c ∷ owed style (writeOf ws c .state) (addCounts book (c .contribution .counts)) cs in
+    let no = owed style (writeOf ws c .state) book cs in
+    cond (accepted ws c) yes no
+
+unfoldable pub allTerminatedAsStyle : ℕ → List ℕ → List BlockEntry → List WriterCall → Bool
+allTerminatedAsStyle style ws book [] = true
+allTerminatedAsStyle style ws book (measuring c ∷ cs) = allTerminatedAsStyle style ws book cs
+allTerminatedAsStyle style ws book (writing c ∷ cs) =
+    let yes = terminatedAsStyle style book (c .contribution .counts) (c .contribution .marks)
+    && allTerminatedAsStyle style (writeOf ws c .state) (addCounts book (c .contribution .counts)) cs in
+    let no = allTerminatedAsStyle style (writeOf ws c .state) book cs in
+    cond (accepted ws c) yes no
+
+-- ---- the reader's
+
+pub data ReaderCall : Type 0 where
+  refusedRead packetRead : ReadCall → ReaderCall
+
+unfoldable pub ReadsAsOwed : List ℕ → List Owed → List ReaderCall → Type 0
+ReadsAsOwed ws os [] = validState reader ws (length ws) ≡ true
+ReadsAsOwed ws os (refusedRead c ∷ cs) = 0 < readOf ws c .answer .refusal → ReadsAsOwed (readOf ws c .state) os cs
+ReadsAsOwed ws [] (packetRead c ∷ cs) = Unit {0}
+ReadsAsOwed ws (o ∷ os) (packetRead c ∷ cs) =
+    ReadsPacket ws o c
+    → (GivesEntry o c (readOf ws c)) × ((more : List ℕ) → GivesEntry o c (readOf ws (withMore c more)))
+    × ReadsAsOwed (readOf ws c .state) os cs
