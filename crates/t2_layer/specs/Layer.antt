@@ -8,13 +8,14 @@ use lib.Dec.{T, eqb}
 use Rattle.t800.specs.declared.Band.{Band}
 use Rattle.t800.specs.declared.Markers.{Markers}
 use Rattle.t800.specs.declared.ReadAnswer.{ReadAnswer}
-use Rattle.t800.specs.Base.{overwrite}
 use Rattle.t800.specs.State.{writer, reader}
 use Rattle.t800.specs.Start.{StartResult, start}
-use Rattle.t800.specs.Reports.{reportWords, recordWords, reportWidth, recordWidth}
+use Rattle.t800.specs.Reports.{reportWidth, recordWidth}
 use Rattle.t800.specs.WriteHeader.{Contribution}
-use Rattle.t800.specs.Packet.{front, WriteResult, write, ReadResult, refusedAnswer, read}
-use Rattle.t800.specs.Book.{Entry, newBook, entry, terminatedAsStyle}
+use Rattle.t800.specs.Packet.{WriteResult, write, ReadResult, readResult, refusedAnswer, read}
+use Rattle.t800.specs.Book.{BlockEntry, newBook, terminatedAsStyle}
+use Rattle.t800.specs.Interface.{WriteCall, ReadCall}
+use Rattle.t800.specs.RoundTrip.{Owed, owedFor, GivesEntry}
 
 -- what a precinct is started with, and what its first layer brings
 pub record FirstLayer : Type 0 where
@@ -30,10 +31,6 @@ pub record FirstLayer : Type 0 where
 abbrev pub firstLayer : ℕ → List Band → ℕ → List ℕ → Contribution → List ℕ → Markers → ℕ → FirstLayer
 firstLayer n bs s ps p body m number =
     record { count = n; bands = bs; style = s; planes = ps; contribution = p; body = body; markers = m; number = number }
-
--- the book's entry for it
-abbrev pub entryOf : FirstLayer → Entry
-entryOf l = entry (l .style) (newBook (take (l .count) (l .bands)) (l .planes)) (l .contribution .counts) (l .contribution .lengths)
 
 -- the lists lent for it
 pub record Lent : Type 0 where
@@ -87,28 +84,43 @@ writeAndRead l b =
     let p = write (s .state) (b .scratch) (l .contribution) (l .body) (l .markers) (l .number) (b .output) in
     layerBy b s t p (read (t .state) (p .scratch) (l .markers) (p .output) (b .reports) (b .records))
 
+-- ---- the round trip of one layer
+
+abbrev pub writeCallOf : FirstLayer → Lent → WriteCall
+writeCallOf l b = record {
+  scratch = b .scratch;
+  contribution = l .contribution;
+  body = l .body;
+  markers = l .markers;
+  number = l .number;
+  output = b .output;
+}
+
+abbrev pub bookOf : FirstLayer → List BlockEntry
+bookOf l = newBook (take (l .count) (l .bands)) (l .planes)
+
+-- the packet that is owed, and its read
+abbrev pub owedOf : FirstLayer → Lent → Owed
+owedOf l b = owedFor (l .style) (bookOf l) (writeCallOf l b) (writeOfLayer l b)
+
+abbrev pub readCallOf : FirstLayer → Lent → ReadCall
+readCallOf l b =
+    let p = writeOfLayer l b in
+    record { scratch = p .scratch; markers = l .markers; input = p .output; reports = b .reports; records = b .records }
+
 -- nothing refuses the starts and the packet, and the premises of the round trip hold
 pub record Premises (l : FirstLayer) (b : Lent) : Type 0 where
   pub writer-starts : start writer (l .count) (l .bands) (l .style) (l .planes) (b .writer) .answer ≡ 0
   pub reader-starts : start reader (l .count) (l .bands) (l .style) [] (b .reader) .answer ≡ 0
   pub accepted : writeOfLayer l b .answer .refusal ≡ 0
-  pub terminated : T (terminatedAsStyle (l .style) (newBook (take (l .count) (l .bands)) (l .planes)) (l .contribution .counts)
-      (l .contribution .marks))
-  pub scratch-length : length (b .scratch) ≡ length (b .reader)
-  pub reports-length : length (b .reports) ≡ reportWidth * length (entryOf l .reports)
-  pub records-enough : recordWidth * length (entryOf l .records) ≤ length (b .records)
+  pub terminated : T (terminatedAsStyle (l .style) (bookOf l) (l .contribution .counts) (l .contribution .marks))
+  pub reports-length : length (b .reports) ≡ reportWidth * length (owedOf l b .entry .reports)
+  pub records-enough : recordWidth * length (owedOf l b .entry .records) ≤ length (b .records)
 
--- then the answer, the reports and the records are the entry
-pub record ReadBack (l : FirstLayer) (b : Lent) (answer : ReadAnswer) (reports records : List ℕ) : Type 0 where
-  pub accepts : answer .refusal ≡ 0
-  pub present : answer .present ≡ 1
-  -- the packet's bytes less its body's
-  pub taken : answer .taken ≡ length (front (startOf l b) (l .contribution) (l .markers) (l .number))
-  pub segments : answer .segments ≡ length (entryOf l .records)
-  pub sop-mark : answer .sop ≡ 0
-  pub eph-mark : answer .eph ≡ 0
-  pub reports-are : reports ≡ reportWords (entryOf l .reports)
-  pub records-are : records ≡ overwrite (b .records) (recordWords (entryOf l .records))
-
-abbrev pub GivesEntry : FirstLayer → Lent → ReadAnswer → List ℕ → List ℕ → Type 0
-GivesEntry l b answer reports records = Premises l b → ReadBack l b answer reports records
+-- then what is left is the entry
+unfoldable pub LayerReadBack : Type 0
+LayerReadBack =
+    (l : FirstLayer) (b : Lent)
+    → Premises l b
+    → let z = writeAndRead l b in
+    GivesEntry (owedOf l b) (readCallOf l b) (readResult (z .reader) (z .scratch) (z .reports) (z .records) (z .answer))

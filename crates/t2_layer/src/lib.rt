@@ -2,7 +2,7 @@
 ghost use mathlib.Core.Path.{_≡_};
 ghost use Rattle.t800.specs.Packet.{refusedAnswer};
 ghost use Rattle.t800.specs.WriteHeader.{contribution};
-ghost use Rattle.t2_layer.specs.Layer.{firstLayer, lent, layerResult, writeAndRead, GivesEntry};
+ghost use Rattle.t2_layer.specs.Layer.{firstLayer, lent, layerResult, writeAndRead};
 use t800::Band;
 use t800::Markers;
 use t800::ReadAnswer;
@@ -20,7 +20,7 @@ fn refused(refusal: u32) -> ReadAnswer
     }
 }
 
-// A precinct's first layer, written with the calls above and read back.
+// A precinct's first layer, written and read back; proofs/Layer.antt has what that gives.
 pub fn write_and_read(
     count: u32,
     bands: [Band; 3],
@@ -40,16 +40,12 @@ pub fn write_and_read(
     records: &mut [u32],
 ) -> ReadAnswer
     ensures { λ r.
-        ⌜ (layerResult r (now (writer .exit)) (now (reader .exit)) (now (scratch .exit)) (now (output .exit)) (now (reports .exit))
+        ⌜ layerResult r (now (writer .exit)) (now (reader .exit)) (now (scratch .exit)) (now (output .exit)) (now (reports .exit))
         (now (records .exit))
         ≡ writeAndRead (firstLayer count bands style (now (planes .entry))
         (contribution (now (counts .entry)) (now (lengths .entry)) (now (marks .entry))) (now (body .entry)) markers number)
         (lent (now (writer .entry)) (now (reader .entry)) (now (scratch .entry)) (now (output .entry)) (now (reports .entry))
-        (now (records .entry))))
-        × GivesEntry (firstLayer count bands style (now (planes .entry))
-        (contribution (now (counts .entry)) (now (lengths .entry)) (now (marks .entry))) (now (body .entry)) markers number)
-        (lent (now (writer .entry)) (now (reader .entry)) (now (scratch .entry)) (now (output .entry)) (now (reports .entry))
-        (now (records .entry))) r (now (reports .exit)) (now (records .exit)) ⌝ }
+        (now (records .entry))) ⌝ }
 {
     let first = t2::start_writer(count, bands, style, planes, writer);
     if first != 0 {

@@ -50,6 +50,7 @@ pub record Accepted (ws : List ℕ) (c : WriteCall) : Type 0 where
   pub layer-left : layer ws ≢ notYetIncluded
   pub acceptable : Acceptable ws (blocks (bands ws)) (c .contribution)
   pub state : writeOf ws c .state ≡ codeHeader (c .contribution) ws .words
+  pub scratch : writeOf ws c .scratch ≡ codeHeader (c .contribution) ws .words
   pub front-is : take (writeOf ws c .answer .bytes - sum (c .contribution .lengths)) (writeOf ws c .output)
       ≡ front ws (c .contribution) (c .markers) (c .number)
 
@@ -121,6 +122,7 @@ module _ (ws : List ℕ) (c : WriteCall) where
             layer-left = a .0;
             acceptable = a .1;
             state = ap (λ (w : WriteResult). w .state) d;
+            scratch = ap (λ (w : WriteResult). w .scratch) d;
             front-is = ap (λ (w : WriteResult). take (w .answer .bytes - sum (c .contribution .lengths)) (w .output)) d
                 ∙ front-taken ws (c .scratch) (c .contribution) (c .body) (c .markers) (c .number) (c .output) (z .1);
           }

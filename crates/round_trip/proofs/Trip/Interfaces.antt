@@ -177,7 +177,7 @@ module _ (I : Interface) where
   module _ (w : I .starts writer .Made) (r : I .starts reader .Made) (ew : Accepted I writer w) (er : Accepted I reader r)
       (counts : I .starts reader .args r .count ≡ I .starts writer .args w .count)
       (bands : take (I .starts reader .args r .count) (I .starts reader .args r .bands)
-          ≡ take (I .starts writer .args w .count) (I .starts writer .args w .bands))
+      ≡ take (I .starts writer .args w .count) (I .starts writer .args w .bands))
       (styles : I .starts reader .args r .style ≡ I .starts writer .args w .style) where
     abbrev n : ℕ
     n = I .starts writer .args w .count

@@ -2,8 +2,7 @@
 use mathlib.Core.Path.{_∙_}
 use Rattle.t800.specs.WriteHeader.{contribution}
 use Rattle.t2_layer.specs.Layer.{firstLayer, lent}
-use Rattle.t2_layer.proofs.Layer.{layer-read-back, writer-refused, reader-refused, packet-refused, ends-at-writer}
-use Rattle.t2_layer.proofs.Layer.{ends-at-reader, ends-at-packet, ends-read}
+use Rattle.t2_layer.proofs.Layer.{ends-at-writer, ends-at-reader, ends-at-packet, ends-read}
 use borrow.Author.Needs.{needs}
 use Rattle.t2_layer.proofs.write_and_read.Statement.{statement}
 use Rattle.t2_layer.proofs.write_and_read.Tie as tie
@@ -11,57 +10,40 @@ use Rattle.t2_layer.proofs.write_and_read.Tie as tie
 returns : tie.Need-returns
 returns c =
     let a = c .before .before .before .before .before .before .before .before .before .before .before .before .before .before
-    .before .before .before .args in (
-      ends-at-writer (firstLayer (a .count) (a .bands) (a .style) (a .planes .now)
-          (contribution (a .counts .now) (a .lengths .now) (a .marks .now)) (a .body .now) (a .markers) (a .number))
-          (lent (a .writer .now) (a .reader .now) (a .scratch .now) (a .output .now) (a .reports .now) (a .records .now)) _
-          (c .before .before .before .before .start-writer .ensures) _ (c .refused .ensures) (c .before .if1 .taken),
-      writer-refused (firstLayer (a .count) (a .bands) (a .style) (a .planes .now)
-          (contribution (a .counts .now) (a .lengths .now) (a .marks .now)) (a .body .now) (a .markers) (a .number))
-          (lent (a .writer .now) (a .reader .now) (a .scratch .now) (a .output .now) (a .reports .now) (a .records .now)) _ _ _ _
-          (c .before .before .before .before .start-writer .ensures) (c .before .if1 .taken),
-    )
+    .before .before .before .args in
+    ends-at-writer (firstLayer (a .count) (a .bands) (a .style) (a .planes .now)
+    (contribution (a .counts .now) (a .lengths .now) (a .marks .now)) (a .body .now) (a .markers) (a .number))
+    (lent (a .writer .now) (a .reader .now) (a .scratch .now) (a .output .now) (a .reports .now) (a .records .now)) _
+    (c .before .before .before .before .start-writer .ensures) _ (c .refused .ensures) (c .before .if1 .taken)
 
 returns-2 : tie.Need-returns-2
 returns-2 c =
     let a = c .before .before .before .before .before .before .before .before .before .before .before .before .before .before
-    .before .before .before .before .before .before .before .before .before .args in (
-      ends-at-reader (firstLayer (a .count) (a .bands) (a .style) (a .planes .now)
-          (contribution (a .counts .now) (a .lengths .now) (a .marks .now)) (a .body .now) (a .markers) (a .number))
-          (lent (a .writer .now) (a .reader .now) (a .scratch .now) (a .output .now) (a .reports .now) (a .records .now)) _
-          (c .before .before .before .before .before .before .before .before .before .before .start-writer .ensures)
-          (c .before .before .before .before .before .before .before .if1 .left) _
-          (c .before .before .before .before .start-reader .ensures) _ (c .refused2 .ensures) (c .before .if2 .taken),
-      reader-refused (firstLayer (a .count) (a .bands) (a .style) (a .planes .now)
-          (contribution (a .counts .now) (a .lengths .now) (a .marks .now)) (a .body .now) (a .markers) (a .number))
-          (lent (a .writer .now) (a .reader .now) (a .scratch .now) (a .output .now) (a .reports .now) (a .records .now)) _ _ _ _
-          (c .before .before .before .before .start-reader .ensures) (c .before .if2 .taken),
-    )
+    .before .before .before .before .before .before .before .before .before .args in
+    ends-at-reader (firstLayer (a .count) (a .bands) (a .style) (a .planes .now)
+    (contribution (a .counts .now) (a .lengths .now) (a .marks .now)) (a .body .now) (a .markers) (a .number))
+    (lent (a .writer .now) (a .reader .now) (a .scratch .now) (a .output .now) (a .reports .now) (a .records .now)) _
+    (c .before .before .before .before .before .before .before .before .before .before .start-writer .ensures)
+    (c .before .before .before .before .before .before .before .if1 .left) _
+    (c .before .before .before .before .start-reader .ensures) _ (c .refused2 .ensures) (c .before .if2 .taken)
 
 returns-3 : tie.Need-returns-3
 returns-3 c =
     let a = c .before .before .before .before .before .before .before .before .before .before .before .before .before .before
     .before .before .before .before .before .before .before .before .before .before .before .before .before .before .before .before
-    .before .before .before .before .before .args in (
-      ends-at-packet (firstLayer (a .count) (a .bands) (a .style) (a .planes .now)
-          (contribution (a .counts .now) (a .lengths .now) (a .marks .now)) (a .body .now) (a .markers) (a .number))
-          (lent (a .writer .now) (a .reader .now) (a .scratch .now) (a .output .now) (a .reports .now) (a .records .now)) _
-          (c .before .before .before .before .before .before .before .before .before .before .before .before .before .before .before
-          .before .before .before .before .before .before .before .start-writer .ensures)
-          (c .before .before .before .before .before .before .before .before .before .before .before .before .before .before .before
-          .before .before .before .before .if1 .left) _
-          (c .before .before .before .before .before .before .before .before .before .before .before .before .before .before .before
-          .before .start-reader .ensures)
-          (c .before .before .before .before .before .before .before .before .before .before .before .before .before .if2 .left) _
-          (c .before .before .before .before .before .before .before .before .before .write .ensures) _ (c .refused3 .ensures)
-          (c .before .if3 .taken),
-      packet-refused (firstLayer (a .count) (a .bands) (a .style) (a .planes .now)
-          (contribution (a .counts .now) (a .lengths .now) (a .marks .now)) (a .body .now) (a .markers) (a .number))
-          (lent (a .writer .now) (a .reader .now) (a .scratch .now) (a .output .now) (a .reports .now) (a .records .now)) _ _ _ _ _
-          (c .before .before .before .before .before .before .before .before .before .before .before .before .before .before .before
-          .before .before .before .before .before .before .before .start-writer .ensures)
-          (c .before .before .before .before .before .before .before .before .before .write .ensures) (c .before .if3 .taken),
-    )
+    .before .before .before .before .before .args in
+    ends-at-packet (firstLayer (a .count) (a .bands) (a .style) (a .planes .now)
+    (contribution (a .counts .now) (a .lengths .now) (a .marks .now)) (a .body .now) (a .markers) (a .number))
+    (lent (a .writer .now) (a .reader .now) (a .scratch .now) (a .output .now) (a .reports .now) (a .records .now)) _
+    (c .before .before .before .before .before .before .before .before .before .before .before .before .before .before .before
+    .before .before .before .before .before .before .before .start-writer .ensures)
+    (c .before .before .before .before .before .before .before .before .before .before .before .before .before .before .before
+    .before .before .before .before .if1 .left) _
+    (c .before .before .before .before .before .before .before .before .before .before .before .before .before .before .before
+    .before .start-reader .ensures)
+    (c .before .before .before .before .before .before .before .before .before .before .before .before .before .if2 .left) _
+    (c .before .before .before .before .before .before .before .before .before .write .ensures) _ (c .refused3 .ensures)
+    (c .before .if3 .taken)
 
 same-length-8 : tie.Need-same-length-8
 same-length-8 c =
@@ -76,41 +58,24 @@ returns-4 c =
     let a = c .before .before .before .before .before .before .before .before .before .before .before .before .before .before
     .before .before .before .before .before .before .before .before .before .before .before .before .before .before .before .before
     .before .before .before .before .before .before .before .before .before .before .before .before .before .before .before .before
-    .before .before .args in (
-      ends-read (firstLayer (a .count) (a .bands) (a .style) (a .planes .now)
-          (contribution (a .counts .now) (a .lengths .now) (a .marks .now)) (a .body .now) (a .markers) (a .number))
-          (lent (a .writer .now) (a .reader .now) (a .scratch .now) (a .output .now) (a .reports .now) (a .records .now)) _
-          (c .before .before .before .before .before .before .before .before .before .before .before .before .before .before .before
-          .before .before .before .before .before .before .before .before .before .before .before .before .before .before .before .before
-          .before .before .before .before .start-writer .ensures)
-          (c .before .before .before .before .before .before .before .before .before .before .before .before .before .before .before
-          .before .before .before .before .before .before .before .before .before .before .before .before .before .before .before .before
-          .before .if1 .left) _
-          (c .before .before .before .before .before .before .before .before .before .before .before .before .before .before .before
-          .before .before .before .before .before .before .before .before .before .before .before .before .before .before .start-reader
-          .ensures) (c .before .before .before .before .before .before .before .before .before .before .before .before .before .before
-          .before .before .before .before .before .before .before .before .before .before .before .before .if2 .left) _
-          (c .before .before .before .before .before .before .before .before .before .before .before .before .before .before .before
-          .before .before .before .before .before .before .before .write .ensures) _
-          (c .before .before .before .before .before .before .before .before .read .ensures)
-          (c .before .before .before .before .before .before .before .before .before .before .before .before .before .before .if3 .left),
-      layer-read-back (firstLayer (a .count) (a .bands) (a .style) (a .planes .now)
-          (contribution (a .counts .now) (a .lengths .now) (a .marks .now)) (a .body .now) (a .markers) (a .number))
-          (lent (a .writer .now) (a .reader .now) (a .scratch .now) (a .output .now) (a .reports .now) (a .records .now)) _ _ _ _
-          (c .before .before .before .before .before .before .before .before .before .before .before .before .before .before .before
-          .before .before .before .before .before .before .before .before .before .before .before .before .before .before .before .before
-          .before .before .before .before .start-writer .ensures)
-          (c .before .before .before .before .before .before .before .before .before .before .before .before .before .before .before
-          .before .before .before .before .before .before .before .before .before .before .before .before .before .before .start-reader
-          .ensures) (c .before .before .before .before .before .before .before .before .before .before .before .before .before .before
-          .before .before .before .before .before .before .before .before .write .ensures)
-          (c .before .before .before .before .before .before .before .before .read .ensures)
-          (c .before .before .before .before .before .before .before .before .before .before .before .before .before .before .before
-          .before .before .before .before .before .before .before .write .kept .1 .0)
-          (c .before .before .before .before .before .before .before .before .before .before .before .before .before .before .before
-          .before .before .before .before .before .before .before .before .before .before .before .before .before .before .start-reader
-          .kept .1 .1 .1 .1 .0),
-    )
+    .before .before .args in
+    ends-read (firstLayer (a .count) (a .bands) (a .style) (a .planes .now)
+    (contribution (a .counts .now) (a .lengths .now) (a .marks .now)) (a .body .now) (a .markers) (a .number))
+    (lent (a .writer .now) (a .reader .now) (a .scratch .now) (a .output .now) (a .reports .now) (a .records .now)) _
+    (c .before .before .before .before .before .before .before .before .before .before .before .before .before .before .before
+    .before .before .before .before .before .before .before .before .before .before .before .before .before .before .before .before
+    .before .before .before .before .start-writer .ensures)
+    (c .before .before .before .before .before .before .before .before .before .before .before .before .before .before .before
+    .before .before .before .before .before .before .before .before .before .before .before .before .before .before .before .before
+    .before .if1 .left) _
+    (c .before .before .before .before .before .before .before .before .before .before .before .before .before .before .before
+    .before .before .before .before .before .before .before .before .before .before .before .before .before .before .start-reader
+    .ensures) (c .before .before .before .before .before .before .before .before .before .before .before .before .before .before
+    .before .before .before .before .before .before .before .before .before .before .before .before .if2 .left) _
+    (c .before .before .before .before .before .before .before .before .before .before .before .before .before .before .before
+    .before .before .before .before .before .before .before .write .ensures) _
+    (c .before .before .before .before .before .before .before .before .read .ensures)
+    (c .before .before .before .before .before .before .before .before .before .before .before .before .before .before .if3 .left)
 
 pub write-and-read-spec : {M : Type 1} → statement M
 write-and-read-spec =
