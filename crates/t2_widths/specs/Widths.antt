@@ -1,13 +1,15 @@
 -- Refusals 8 and 9 over the blocks that are left.
 use Prim.Native.Nat.{ℕ, zero, suc, _+_, _≤_}
 use mathlib.Core.Path.{_≡_}
-use mathlib.Core.Bool.{Bool, false, cond, _||_}
+use mathlib.Core.Bool.{Bool, false, _||_}
 use mathlib.Core.List.{List, [], _∷_}
 use lib.ListN.{length, getD, take, drop}
 use Rattle.t800.specs.Base.{sum}
 use Rattle.t800.specs.Segments.{segmentsOf}
 use Rattle.t800.specs.State.{Block}
-use Rattle.t800.specs.WriteHeader.{segmentTooLong, fieldTooWide}
+use Rattle.t800.specs.Refusals.{firstOf}
+use Rattle.t800.specs.WriteHeader.{contribution}
+use Rattle.t800.specs.Packet.{segmentChecks}
 use Rattle.t2_segments.specs.Segments.{bitsBefore, blockTooWide}
 
 -- ---- counts, lengths and marks that are left
@@ -26,4 +28,4 @@ wideFrom ws at (suc n) (c ∷ cs) ls ms =
 
 -- 8, 9
 unfoldable pub segmentsRefusal : List ℕ → List Block → List ℕ → List ℕ → List ℕ → ℕ
-segmentsRefusal ws ks cs ls ms = cond (segmentTooLong cs ls ms) 8 (cond (fieldTooWide ws ks cs ls ms) 9 0)
+segmentsRefusal ws ks cs ls ms = firstOf (segmentChecks ws ks (contribution cs ls ms))

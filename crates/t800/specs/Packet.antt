@@ -14,7 +14,7 @@ use Rattle.t800.specs.Base.{Words, Bytes, any, sum, overwrite, wiped}
 use Rattle.t800.specs.Refusals.{Check, check, firstOf, listRefusal, stateRefusal, layersRefusal, passesRefusal, lengthRefusal}
 use Rattle.t800.specs.Refusals.{widthRefusal, bodyRefusal, spaceRefusal, headerEndRefusal, recordsRefusal}
 use Rattle.t800.specs.Bits.{Decoded, bioAt, getBit, pack, bytesTaken}
-use Rattle.t800.specs.State.{notYetIncluded, writer, reader, blocks, bands, layer}
+use Rattle.t800.specs.State.{Block, notYetIncluded, writer, reader, blocks, bands, layer}
 use Rattle.t800.specs.Ranges.{validState}
 use Rattle.t800.specs.Reports.{reportWidth, recordWidth, reportWords, recordWords}
 use Rattle.t800.specs.WriteHeader.{Contribution, codeHeader, segmentTooLong, fieldTooWide}
@@ -36,15 +36,18 @@ wrongLists p blocks =
     || not (eqb (length (p .lengths)) (sum (p .counts)))
     || not (eqb (length (p .marks)) (sum (p .counts)))
 
+-- 8, 9
+abbrev pub segmentChecks : (state : Words) → List Block → Contribution → List Check
+segmentChecks state ks p =
+    check lengthRefusal (segmentTooLong (p .counts) (p .lengths) (p .marks))
+    ∷ check widthRefusal (fieldTooWide state ks (p .counts) (p .lengths) (p .marks))
+    ∷ []
+
 -- 3, 7, 8, 9
 abbrev pub contributionChecks : (state : Words) → Contribution → List Check
 contributionChecks state p =
     let ks = blocks (bands state) in
-    check listRefusal (wrongLists p (length ks))
-    ∷ check passesRefusal (any (λ c. ltb 164 c) (p .counts))
-    ∷ check lengthRefusal (segmentTooLong (p .counts) (p .lengths) (p .marks))
-    ∷ check widthRefusal (fieldTooWide state ks (p .counts) (p .lengths) (p .marks))
-    ∷ []
+    check listRefusal (wrongLists p (length ks)) ∷ check passesRefusal (any (λ c. ltb 164 c) (p .counts)) ∷ segmentChecks state ks p
 
 abbrev pub measureChecks : (state scratch : Words) → Contribution → List Check
 measureChecks state scratch p = stateChecks writer state (length scratch) ++ contributionChecks state p
