@@ -22,7 +22,7 @@ use Rattle.t800.proofs.Laws.Tests.{if-true, if-false}
 use Rattle.t2_records.specs.declared.Segment.{Segment}
 use Rattle.t2_records.specs.Segments.{wordsOf, filled}
 use Rattle.t2_read_numbers.specs.Reading.{readNumbers, toFill}
-use Rattle.t2_read_records.proofs.Structs.{none-stored, filled-is-read}
+use Rattle.capi_parts.proofs.Structs.{none-stored, filled-is-read}
 use Rattle.capi_parts.specs.Calls.{stateLengthOf, measured, measureCall, written, writeCall, readAnswer, ReadCall, readOf, readCall}
 use Rattle.capi_parts.specs.Numbers.{NumbersCall, numbersOf, numbersCall}
 

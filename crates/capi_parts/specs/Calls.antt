@@ -1,4 +1,4 @@
--- What the exported calls answer: t800's calls and t2_read_records's read, with the bands as nine numbers and the answer in a lent
+-- What the exported calls answer: t800's calls and the read into structs, with the bands as nine numbers and the answer in a lent
 -- list of words.
 use Prim.Native.Nat.{ℕ}
 use mathlib.Core.Bool.{cond}
@@ -14,7 +14,7 @@ use Rattle.t800.specs.WriteHeader.{Contribution}
 use Rattle.t800.specs.Packet.{MeasureResult, measure, WriteResult, write}
 use Rattle.t2_records.specs.declared.Segment.{Segment}
 use Rattle.t2_records.specs.Segments.{wordsOf}
-use Rattle.t2_read_records.specs.Reading.{StructsRead, readStructs}
+use Rattle.capi_parts.specs.Reading.{StructsRead, readStructs}
 
 -- across, down and planes of a band
 abbrev pub band : ℕ → ℕ → ℕ → Band

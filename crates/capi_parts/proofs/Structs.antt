@@ -28,7 +28,7 @@ use Rattle.t2_theorems.proofs.Numbers.{numbers-of-calls}
 use Rattle.t2_records.specs.declared.Segment.{Segment}
 use Rattle.t2_records.specs.Segments.{wordsOf, segmentAt, filled}
 use Rattle.t2_read_numbers.specs.Reading.{wrongListNumber, wrongList, readNumbers, toFill}
-use Rattle.t2_read_records.specs.Reading.{StructsRead, structsRead, readStructs}
+use Rattle.capi_parts.specs.Reading.{StructsRead, structsRead, readStructs}
 use Rattle.t2_records.proofs.Stored.{stored-none, words-length, filled-words}
 use Rattle.t2_read_numbers.proofs.Numbers.{numbers-refused, numbers-read}
 
