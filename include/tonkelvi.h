@@ -1,4 +1,4 @@
-/* Tonkelvi: JPEG 2000 packet headers for one precinct, layer by layer. Link with libcapi.a, which `rt staticlib capi` makes. */
+/* Tonkelvi: JPEG 2000 packet headers for one precinct, layer by layer. Link with libtonkelvi.a, which `rt staticlib tonkelvi` makes. */
 #ifndef TONKELVI_H
 #define TONKELVI_H
 

@@ -18,7 +18,7 @@
 //! ```
 //!
 //! The static library is linked by build.rs: from the folder that the environment variable `TONKELVI_LIB` names, or else it is built by
-//! `rt staticlib capi`.
+//! `rt staticlib tonkelvi`.
 
 mod reader;
 mod refusal;

@@ -10,7 +10,7 @@ fn header() {
         .args(["-std=c99", "-Wall", "-Wextra", "-pedantic", "-Werror", "-I"])
         .arg(here.join("../../include"))
         .arg(here.join("tests/header.c"))
-        .arg(Path::new(env!("TONKELVI_FOLDER")).join("libcapi.a"))
+        .arg(Path::new(env!("TONKELVI_FOLDER")).join("libtonkelvi.a"))
         .arg("-o")
         .arg(&program)
         .status();
