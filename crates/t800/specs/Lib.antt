@@ -13,3 +13,4 @@ pub mod MarkerSegments
 pub mod Packet
 pub mod Book
 pub mod RoundTrip
+pub mod Exports

@@ -1,43 +1,18 @@
 // The engine's calls for programs in C and Rust: slices as pointer and length, the refusal as result, the rest in a lent list of words.
 ghost use mathlib.Core.Path.{_≡_};
 ghost use Rattle.t800.specs.State.{writer, reader};
-ghost use Rattle.t800.specs.Start.{start};
 ghost use Rattle.t800.specs.WriteHeader.{contribution};
-ghost use Rattle.t2_records.specs.Segments.{wordsOf};
-ghost use Rattle.tonkelvi_parts.specs.Calls.{band, threeBands, stateLengthOf, measureCall, writeCall, readCall};
-use t2_records::Segment;
+ghost use Rattle.t800.specs.Exports.{stateLengthOf, startCall, measureCall, writeCall, wordsOf, readCall, describeCall};
 use t800::Markers;
+use t800::Segment;
 
 // ---- starts
 
-// The length that a start asks of its state, or 0 where it would give 1.
+// The length that a start asks of its state; 0 where it would give 1, or 3 for `bands`.
 #[no_mangle]
-pub extern "C" fn tonkelvi_state_length(
-    count: u32,
-    across0: u32,
-    down0: u32,
-    planes0: u32,
-    across1: u32,
-    down1: u32,
-    planes1: u32,
-    across2: u32,
-    down2: u32,
-    planes2: u32,
-) -> usize
-    ensures { λ r. ⌜ r ≡ stateLengthOf count
-        (threeBands (band across0 down0 planes0) (band across1 down1 planes1) (band across2 down2 planes2)) ⌝ }
+pub extern "C" fn tonkelvi_state_length(count: u32, bands: &[u32]) -> usize
+    ensures { λ r. ⌜ r ≡ stateLengthOf count (now (bands .entry)) ⌝ }
 {
-    let bands = tonkelvi_parts::three_bands(
-        across0,
-        down0,
-        planes0,
-        across1,
-        down1,
-        planes1,
-        across2,
-        down2,
-        planes2,
-    );
     tonkelvi_parts::state_length_of(count, bands)
 }
 
@@ -45,70 +20,38 @@ pub extern "C" fn tonkelvi_state_length(
 #[no_mangle]
 pub extern "C" fn tonkelvi_start_writer(
     count: u32,
-    across0: u32,
-    down0: u32,
-    planes0: u32,
-    across1: u32,
-    down1: u32,
-    planes1: u32,
-    across2: u32,
-    down2: u32,
-    planes2: u32,
+    bands: &[u32],
     style: u8,
     planes: &[u32],
     state: &mut [u32],
 ) -> u32
     ensures { λ r. ⌜ record { answer = r; state = now (state .exit) }
-        ≡ start writer count (threeBands (band across0 down0 planes0) (band across1 down1 planes1) (band across2 down2 planes2))
-        style (now (planes .entry)) (now (state .entry)) ⌝ }
+        ≡ startCall writer count (now (bands .entry)) style (now (planes .entry)) (now (state .entry)) ⌝ }
 {
-    let bands = tonkelvi_parts::three_bands(
-        across0,
-        down0,
-        planes0,
-        across1,
-        down1,
-        planes1,
-        across2,
-        down2,
-        planes2,
-    );
-    t2::start_writer(count, bands, style, planes, state)
+    if bands.len() != 9 {
+        return 3;
+    }
+    let given = tonkelvi_parts::bands_in(bands);
+    t2::start_writer(count, given, style, planes, state)
 }
 
 // Gives 0 or a refusal; the planes are to be an empty list.
 #[no_mangle]
 pub extern "C" fn tonkelvi_start_reader(
     count: u32,
-    across0: u32,
-    down0: u32,
-    planes0: u32,
-    across1: u32,
-    down1: u32,
-    planes1: u32,
-    across2: u32,
-    down2: u32,
-    planes2: u32,
+    bands: &[u32],
     style: u8,
     planes: &[u32],
     state: &mut [u32],
 ) -> u32
     ensures { λ r. ⌜ record { answer = r; state = now (state .exit) }
-        ≡ start reader count (threeBands (band across0 down0 planes0) (band across1 down1 planes1) (band across2 down2 planes2))
-        style (now (planes .entry)) (now (state .entry)) ⌝ }
+        ≡ startCall reader count (now (bands .entry)) style (now (planes .entry)) (now (state .entry)) ⌝ }
 {
-    let bands = tonkelvi_parts::three_bands(
-        across0,
-        down0,
-        planes0,
-        across1,
-        down1,
-        planes1,
-        across2,
-        down2,
-        planes2,
-    );
-    t2::start_reader(count, bands, style, planes, state)
+    if bands.len() != 9 {
+        return 3;
+    }
+    let given = tonkelvi_parts::bands_in(bands);
+    t2::start_reader(count, given, style, planes, state)
 }
 
 // ---- packets
@@ -192,7 +135,7 @@ pub extern "C" fn tonkelvi_read(
     sop: bool,
     eph: bool,
     reports: &mut [u32],
-    numbers: &mut [u32],
+    work: &mut [u32],
     records: &mut [Segment],
     answer: &mut [u64],
 ) -> u32
@@ -202,26 +145,36 @@ pub extern "C" fn tonkelvi_read(
           state = now (state .exit);
           scratch = now (scratch .exit);
           reports = now (reports .exit);
-          numbers = now (numbers .exit);
+          work = now (work .exit);
           records = wordsOf (now (records .exit));
           answer = now (answer .exit);
         }
         ≡ readCall (now (state .entry)) (now (scratch .entry)) (record { sop = sop; eph = eph }) (now (src .entry))
-        (now (reports .entry)) (now (numbers .entry)) (now (records .entry)) (now (answer .entry)) ⌝ }
+        (now (reports .entry)) (now (work .entry)) (now (records .entry)) (now (answer .entry)) ⌝ }
 {
     let room = records.len();
-    let a = tonkelvi_parts::read_words(
+    let a = tonkelvi_read_parts::read_words(
         state,
         scratch,
         src,
         sop,
         eph,
         reports,
-        numbers,
+        work,
         room,
         answer,
     );
     let m = t2_read_numbers::to_fill(a, room);
-    t2_records::fill(records, numbers, m);
+    t2_records::fill(records, work, m);
     a.refusal
+}
+
+// ---- what a state is
+
+// Answers role, next layer, blocks.
+#[no_mangle]
+pub extern "C" fn tonkelvi_describe(state: &[u32], answer: &mut [u64]) -> u32
+    ensures { λ r. ⌜ record { refusal = r; answer = now (answer .exit) } ≡ describeCall (now (state .entry)) (now (answer .entry)) ⌝ }
+{
+    tonkelvi_parts::describe(state, answer)
 }

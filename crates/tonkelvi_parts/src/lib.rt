@@ -1,53 +1,54 @@
-// What the exported calls are made of: bands from numbers, the lent list of answer words, the read on numbers with its answer.
+// What the exported calls are made of: bands from nine words, the lent list of answer words, what a state is.
 ghost use mathlib.Core.Path.{_≡_};
+ghost use mathlib.Core.Bool.{true};
 ghost use mathlib.Core.List.{[], _∷_};
+ghost use Prim.Native.Nat.{_<_};
 ghost use lib.ListN.{length};
-ghost use Rattle.t800.specs.Packet.{readResult};
-ghost use Rattle.tonkelvi_parts.specs.Calls.{band, threeBands, stateLengthOf};
-ghost use Rattle.tonkelvi_parts.specs.Numbers.{numbersCall};
+ghost use Rattle.t800.specs.State.{bands, blocks};
+ghost use Rattle.t800.specs.Exports.{bandIn, bandsIn, stateLengthOf, anyState, describeCall};
 use t800::Band;
-use t800::Markers;
-use t800::ReadAnswer;
 
-pub fn three_bands(
-    across0: u32,
-    down0: u32,
-    planes0: u32,
-    across1: u32,
-    down1: u32,
-    planes1: u32,
-    across2: u32,
-    down2: u32,
-    planes2: u32,
-) -> [Band; 3]
-    ensures { λ r. ⌜ r ≡ threeBands (band across0 down0 planes0) (band across1 down1 planes1) (band across2 down2 planes2) ⌝ }
+// ---- bands
+
+fn band_in(words: &[u32], i: usize) -> Band
+    requires { ⌜ (i < 3) × (length (now words) ≡ 9) ⌝ }
+    ensures { λ r. ⌜ r ≡ bandIn (now (words .entry)) i ⌝ }
 {
-    let first = Band {
-        across: across0,
-        down: down0,
-        planes: planes0,
-    };
-    let second = Band {
-        across: across1,
-        down: down1,
-        planes: planes1,
-    };
-    let third = Band {
-        across: across2,
-        down: down2,
-        planes: planes2,
-    };
+    let at = 3 * i;
+    let across = words[at];
+    let down = words[at + 1];
+    let planes = words[at + 2];
+    Band {
+        across,
+        down,
+        planes,
+    }
+}
+
+pub fn bands_in(words: &[u32]) -> [Band; 3]
+    requires { ⌜ length (now words) ≡ 9 ⌝ }
+    ensures { λ r. ⌜ r ≡ bandsIn (now (words .entry)) ⌝ }
+{
+    let first = band_in(words, 0);
+    let second = band_in(words, 1);
+    let third = band_in(words, 2);
     [first, second, third]
 }
 
-pub fn state_length_of(count: u32, bands: [Band; 3]) -> usize
-    ensures { λ r. ⌜ r ≡ stateLengthOf count bands ⌝ }
+pub fn state_length_of(count: u32, bands: &[u32]) -> usize
+    ensures { λ r. ⌜ r ≡ stateLengthOf count (now (bands .entry)) ⌝ }
 {
-    if tcd_shape::bad_shape(count, bands) {
+    if bands.len() != 9 {
         return 0;
     }
-    tcd_layout::state_length(bands, count as usize)
+    let given = bands_in(bands);
+    if tcd_shape::bad_shape(count, given) {
+        return 0;
+    }
+    tcd_layout::state_length(given, count as usize)
 }
+
+// ---- the lent list of answer words
 
 pub fn put_one(answer: &mut [u64], a: u64)
     requires { ⌜ length (now answer) ≡ 1 ⌝ }
@@ -64,7 +65,16 @@ pub fn put_two(answer: &mut [u64], a: u64, b: u64)
     answer[1] = b;
 }
 
-fn put_five(answer: &mut [u64], a: u64, b: u64, c: u64, d: u64, e: u64)
+fn put_three(answer: &mut [u64], a: u64, b: u64, c: u64)
+    requires { ⌜ length (now answer) ≡ 3 ⌝ }
+    ensures { λ _. ⌜ now (answer .exit) ≡ a ∷ b ∷ c ∷ [] ⌝ }
+{
+    answer[0] = a;
+    answer[1] = b;
+    answer[2] = c;
+}
+
+pub fn put_five(answer: &mut [u64], a: u64, b: u64, c: u64, d: u64, e: u64)
     requires { ⌜ length (now answer) ≡ 5 ⌝ }
     ensures { λ _. ⌜ now (answer .exit) ≡ a ∷ b ∷ c ∷ d ∷ e ∷ [] ⌝ }
 {
@@ -75,45 +85,39 @@ fn put_five(answer: &mut [u64], a: u64, b: u64, c: u64, d: u64, e: u64)
     answer[4] = e;
 }
 
-// The read into numbers, which must be four for each record that there is room for.
-pub fn read_words(
-    state: &mut [u32],
-    scratch: &mut [u32],
-    src: &[u8],
-    sop: bool,
-    eph: bool,
-    reports: &mut [u32],
-    numbers: &mut [u32],
-    room: usize,
-    answer: &mut [u64],
-) -> ReadAnswer
-    ensures { λ r.
-        ⌜ record {
-          result = readResult (now (state .exit)) (now (scratch .exit)) (now (reports .exit)) (now (numbers .exit)) r;
-          answer = now (answer .exit);
-        }
-        ≡ numbersCall (now (state .entry)) (now (scratch .entry)) (record { sop = sop; eph = eph }) (now (src .entry))
-        (now (reports .entry)) (now (numbers .entry)) room (now (answer .entry)) ⌝ }
+// ---- what a state is
+
+fn any_state(state: &[u32]) -> bool
+    ensures { λ r. ⌜ r ≡ anyState (now (state .entry)) ⌝ }
 {
-    if answer.len() != 5 {
-        return ReadAnswer {
-            refusal: 3,
-            present: 0,
-            taken: 0,
-            segments: 0,
-            sop: 0,
-            eph: 0,
-        };
+    if tcd_state::valid_state(tcd_style::WRITER, state, state.len()) {
+        return true;
     }
-    let markers = Markers { sop, eph };
-    let r = t2_read_numbers::read_numbers(state, scratch, src, markers, reports, numbers, room);
-    put_five(
-        answer,
-        r.present as u64,
-        r.taken,
-        r.segments,
-        r.sop as u64,
-        r.eph as u64,
-    );
-    r
+    tcd_state::valid_state(tcd_style::READER, state, state.len())
+}
+
+fn num_blocks(state: &[u32]) -> usize
+    requires { ⌜ anyState (now state) ≡ true ⌝ }
+    ensures { λ r. ⌜ r ≡ length (blocks (bands (now (state .entry)))) ⌝ }
+{
+    let bands = tcd_first_words::bands_of(state);
+    let n = tcd_first_words::word(state, 1) as usize;
+    tcd_layout::num_blocks(bands, n)
+}
+
+pub fn describe(state: &[u32], answer: &mut [u64]) -> u32
+    ensures { λ r. ⌜ record { refusal = r; answer = now (answer .exit) } ≡ describeCall (now (state .entry)) (now (answer .entry)) ⌝ }
+{
+    if answer.len() != 3 {
+        return 3;
+    }
+    if !any_state(state) {
+        put_three(answer, 0, 0, 0);
+        return 5;
+    }
+    let role = tcd_first_words::word(state, 0) as u64;
+    let layer = tcd_first_words::word(state, 3) as u64;
+    let blocks = num_blocks(state) as u64;
+    put_three(answer, role, layer, blocks);
+    0
 }

@@ -1,5 +1,5 @@
 -- `tonkelvi::tonkelvi_read` meets its contract: a walk of its MIR, by hand, of three calls in a row. State, scratch, reports and the
--- answer words are given up to `read_words` at their own lifetimes; the numbers are lent again to it by `&mut`, and by `&` to
+-- answer words are given up to `read_words` at their own lifetimes; the work list is lent again to it by `&mut`, and by `&` to
 -- `fill`; the records are given up to `fill`. No branch: `to_fill`, covered, gives 0 for a refusal that changes nothing.
 use mathlib.Core.Path.{_≡_, refl, sym, ap, subst}
 use Prim.Native.Nat.{ℕ, _<_, _^_}
@@ -50,11 +50,12 @@ use Rattle.t800.specs.declared.ReadAnswer.{ReadAnswer}
 use Rattle.t800.proofs.ReadAnswer as Q
 use Rattle.t800.proofs.ReadAnswer.Laws as Q′
 use Rattle.t800.specs.Packet.{readResult}
-use Rattle.t2_records.specs.declared.Segment.{Segment}
-use Rattle.t2_records.specs.Segments.{wordsOf, filled}
+use Rattle.t800.specs.declared.Segment.{Segment}
+use Rattle.t800.specs.Exports.{wordsOf, ReadExit, readCall}
+use Rattle.t2_records.specs.Segments.{filled}
 use Rattle.t2_read_numbers.specs.Reading.{toFill}
 use Rattle.t2_records.proofs.Lent.{LentAgain, Shared, lends-again, comes-back, shares-again, unshares}
-use Rattle.t2_records.proofs.Segment as T
+use Rattle.t800.proofs.Segment as T
 use Rattle.t2_read_numbers.proofs.to_fill as c
 use Rattle.t2_read_numbers.proofs.to_fill.Symbol as c-def
 use Rattle.t2_read_numbers.proofs.to_fill.Symbol.{name as #c}
@@ -63,13 +64,12 @@ use Rattle.t2_records.proofs.fill as p
 use Rattle.t2_records.proofs.fill.Symbol as p-def
 use Rattle.t2_records.proofs.fill.Symbol.{name as #p}
 use Rattle.t2_records.proofs.fill.Met as p-thm
-use Rattle.tonkelvi_parts.specs.Calls.{ReadCall, readCall}
-use Rattle.tonkelvi_parts.specs.Numbers.{numbersCall}
-use Rattle.tonkelvi_parts.proofs.Laws.{filled-is-call}
-use Rattle.tonkelvi_parts.proofs.read_words as g
-use Rattle.tonkelvi_parts.proofs.read_words.Symbol as g-def
-use Rattle.tonkelvi_parts.proofs.read_words.Symbol.{name as #g}
-use Rattle.tonkelvi_parts.proofs.read_words.Met as g-thm
+use Rattle.tonkelvi_read_parts.specs.Numbers.{numbersCall}
+use Rattle.tonkelvi_read_parts.proofs.Structs.{filled-is-call}
+use Rattle.tonkelvi_read_parts.proofs.read_words as g
+use Rattle.tonkelvi_read_parts.proofs.read_words.Symbol as g-def
+use Rattle.tonkelvi_read_parts.proofs.read_words.Symbol.{name as #g}
+use Rattle.tonkelvi_read_parts.proofs.read_words.Met as g-thm
 use Rattle.tonkelvi.proofs.tonkelvi_read.Key.{name as #me}
 use Rattle.tonkelvi.proofs.tonkelvi_read as f
 use Rattle.tonkelvi.proofs.tonkelvi_read.Statement as stated
@@ -116,7 +116,7 @@ module _ {M : Type 1} (𝓤 : URA M) (H : Heap 𝓤) (A : Atoms 𝓤) (mem : Mem
   abbrev Fill : Contract 𝓤
   Fill = tripleOf 𝓤 H A p.signature (p.spec 𝓤 H A mem run)
 
--- state, scratch, input, the two marker settings and reports; the numbers at (b, o); the records; the answer words
+-- state, scratch, input, the two marker settings and reports; the work list at (b, o); the records; the answer words
 module _ {M : Type 1} (𝓤 : URA M) (H : Heap 𝓤) (A : Atoms 𝓤) (W : Given 𝓤 H A) (at-mem : Memory → SProp 𝓤) (run : Routine → Fun 𝓤)
     (κ₀ κ₁ κ₂ κ₃ κ₄ κ₅ κ₆ : Lft) (q₀ q₁ q₂ q₃ q₄ q₅ q₆ : Share) (st sc sr : RefT (List ℕ)) (sp ep : Bool) (rp : RefT (List ℕ))
     (b o : ℕ) (γ : GName) (xs : List ℕ) (rr : RefT (List Segment)) (an : RefT (List ℕ))
@@ -194,11 +194,11 @@ module _ {M : Type 1} (𝓤 : URA M) (H : Heap 𝓤) (A : Atoms 𝓤) (W : Given
   abbrev Own₆ : Fml
   Own₆ = MutSlice (named 6) κ₆ u64 .own an (v₆ ∷ [])
 
-  -- the numbers' value is right for a list as long as xs
+  -- the work list's value is right for a list as long as xs
   fact-at : (l : List ℕ) → length l ≡ length xs → (s ∷ [] ≡ sliceVal (b, o) (length l) ∷ []) × Room u32 (length l)
   fact-at l e = (ap (λ (m : ℕ). sliceVal (b, o) m ∷ []) (sym e), subst (Room u32) (sym e) gx)
 
-  -- `read_words`, with the numbers lent for α under δ
+  -- `read_words`, with the work list lent for α under δ
   abbrev asked : GName → Lists ℕ
   asked δ = (st, (sc, (sr, (sp, (ep, (rp, (ref δ xs, (room, (an, tt)))))))))
 
@@ -231,7 +231,7 @@ module _ {M : Type 1} (𝓤 : URA M) (H : Heap 𝓤) (A : Atoms 𝓤) (W : Given
       ∷ (‵ Own₀ ⊛ ‵ Own₁ ⊛ ‵ Own₂ ⊛ ‵ Own₃ ⊛ ‵ (Own (α ∷ []) δ xs) ⊛ ‵ Own₆) ∷ []) ∵
       move ! (1 ∷ []) $ split ! $ move ! (1 ∷ []) $ split ! $ move ! (1 ∷ []) $ split ! $ move ! (1 ∷ []) $ split ! $ move !
       (1 ∷ []) $ split ! $
-      -- [numbers; answer words; reports; input; scratch; state; tokens]
+      -- [work list; answer words; reports; input; scratch; state; tokens]
       nothing ! $ move ! (2 ∷ 0 ∷ []) $ fjoin ! $ owned ! usize (Is usize) (uint-makes 𝓤 H A W w64) room _ (refl, gr .0) $ fjoin ! $
       move ! (1 ∷ 0 ∷ []) $ fjoin ! $ move ! (1 ∷ 0 ∷ []) $ fjoin ! $ owned ! bool (Is bool) (bool-makes 𝓤 H A W) ep _ refl $ fjoin
       ! $ owned ! bool (Is bool) (bool-makes 𝓤 H A W) sp _ refl $ fjoin ! $
@@ -245,14 +245,14 @@ module _ {M : Type 1} (𝓤 : URA M) (H : Heap 𝓤) (A : Atoms 𝓤) (W : Given
   abbrev lastReports : Lasts → List ℕ
   lastReports ws = ws .1 .1 .1 .1 .1 .0
 
-  abbrev lastNumbers : Lasts → List ℕ
-  lastNumbers ws = ws .1 .1 .1 .1 .1 .1 .0
+  abbrev lastWork : Lasts → List ℕ
+  lastWork ws = ws .1 .1 .1 .1 .1 .1 .0
 
   abbrev lastWords : Lasts → List ℕ
   lastWords ws = ws .1 .1 .1 .1 .1 .1 .1 .1 .0
 
   abbrev CoreSays : Lasts → ReadAnswer → Type 0
-  CoreSays ws a = record { result = readResult (ws .0) (ws .1 .0) (lastReports ws) (lastNumbers ws) a; answer = lastWords ws }
+  CoreSays ws a = record { result = readResult (ws .0) (ws .1 .0) (lastReports ws) (lastWork ws) a; answer = lastWords ws }
       ≡ numbersCall (st .now) (sc .now) mk (sr .now) (rp .now) xs room (an .now)
 
   -- `to_fill`
@@ -267,7 +267,7 @@ module _ {M : Type 1} (𝓤 : URA M) (H : Heap 𝓤) (A : Atoms 𝓤) (W : Given
       → ent 𝓤 (ensured 𝓤 H A c.ended (c.clauses 𝓤 H A at-mem run) tt (a, (room, tt)) tt m) (fact 𝓤 (m ≡ toFill a room))
   count-said a m = exE 𝓤 _ (λ ws. snd∗ 𝓤 (sem 𝓤 H A (lasts c.ended tt (a, (room, tt)) ws)) (fact 𝓤 (m ≡ toFill a room)))
 
-  -- `fill`, with the numbers shared for β under δ
+  -- `fill`, with the work list shared for β under δ
   abbrev passed : GName → List ℕ → ℕ → RefT (List Segment) × (RefT (List ℕ) × (ℕ × Unit {0}))
   passed δ zs m = (rr, (ref δ zs, (m, tt)))
 
@@ -287,8 +287,8 @@ module _ {M : Type 1} (𝓤 : URA M) (H : Heap 𝓤) (A : Atoms 𝓤) (W : Given
 
   abbrev Exit : ℕ → List ℕ → List ℕ → List ℕ → List ℕ → List ℕ → List Segment → Type 0
   Exit n z₀ z₁ z₃ z₄ z₆ rs =
-      _≡_ {A = ReadCall}
-      (record { refusal = n; state = z₀; scratch = z₁; reports = z₃; numbers = z₄; records = wordsOf rs; answer = z₆ })
+      _≡_ {A = ReadExit}
+      (record { refusal = n; state = z₀; scratch = z₁; reports = z₃; work = z₄; records = wordsOf rs; answer = z₆ })
       (readCall (st .now) (sc .now) mk (sr .now) (rp .now) xs (rr .now) (an .now))
 
   exits : (n : ℕ) (z₀ z₁ z₃ z₄ z₆ : List ℕ) (rs : List Segment) → Exit n z₀ z₁ z₃ z₄ z₆ rs → n < 2 ^ 32
@@ -307,7 +307,7 @@ module _ {M : Type 1} (𝓤 : URA M) (H : Heap 𝓤) (A : Atoms 𝓤) (W : Given
       $
       nothing ! $ move ! (8 ∷ 0 ∷ []) $ join ! $ move ! (7 ∷ 0 ∷ []) $ join ! $ move ! (6 ∷ 0 ∷ []) $ join ! $ move ! (5 ∷ 0 ∷ []) $
       join ! $ move ! (4 ∷ 0 ∷ []) $ join ! $ move ! (3 ∷ 0 ∷ []) $ join ! $ move ! (2 ∷ 0 ∷ []) $ join ! $ frame ! $
-      -- [numbers; state; scratch; input; reports; records; answer words]
+      -- [work list; state; scratch; input; reports; records; answer words]
       nothing ! $ move ! (7 ∷ 0 ∷ []) $ fjoin ! $ move ! (6 ∷ 0 ∷ []) $ fjoin ! $ move ! (1 ∷ 0 ∷ []) $ fjoin ! $ move !
       (4 ∷ 0 ∷ []) $ fjoin ! $ owned ! bool (Is bool) (bool-makes 𝓤 H A W) ep _ refl $ fjoin ! $ owned ! bool (Is bool)
       (bool-makes 𝓤 H A W) sp _ refl $ fjoin ! $
@@ -383,22 +383,22 @@ module _ {M : Type 1} (𝓤 : URA M) (H : Heap 𝓤) (A : Atoms 𝓤) (W : Given
         move ! (57 ∷ []) $ fsplit ! $ move ! (1 ∷ []) $ fsplit ! $ move ! (1 ∷ []) $ fsplit ! $ move ! (1 ∷ []) $ fsplit ! $ move !
         (1 ∷ []) $ fsplit ! $ move ! (1 ∷ []) $ fsplit ! $ move ! (1 ∷ []) $ fsplit ! $ move ! (1 ∷ []) $ fsplit ! $ move ! (1 ∷ [])
         $ fsplit ! $
-        -- [answer words; …; records; numbers; reports; eph; sop; input; scratch; state; the locals (10); the tokens (66)]
+        -- [answer words; …; records; work list; reports; eph; sop; input; scratch; state; the locals (10); the tokens (66)]
         move ! (66 ∷ []) $ split ! $ move ! (1 ∷ []) $ split ! $ move ! (1 ∷ []) $ split ! $ move ! (1 ∷ []) $ split ! $ move !
         (1 ∷ []) $ split ! $ move ! (1 ∷ []) $ split ! $ move ! (1 ∷ []) $ split ! $
-        -- [κ₆; true; κ₅; κ₄; κ₃; κ₂; κ₁; κ₀; answer words (8); …; records (10); numbers; reports; eph; sop; input (15); scratch;
+        -- [κ₆; true; κ₅; κ₄; κ₃; κ₂; κ₁; κ₀; answer words (8); …; records (10); work list; reports; eph; sop; input (15); scratch;
         -- state (17); the locals (18)]
         move ! (15 ∷ []) $ use1 W (‵ Own₂ ⊛ ‵ Own₂) (shr-slice-copy 𝓤 H A W (named 2) κ₂ u8 .twice sr (v₂ ∷ [])) $ split ! $
-        -- [input; input; κ₆ (2); true; κ₅; κ₄; κ₃; κ₂; κ₁; κ₀ (9); answer words; …; records (12); numbers; reports; eph; sop;
+        -- [input; input; κ₆ (2); true; κ₅; κ₄; κ₃; κ₂; κ₁; κ₀ (9); answer words; …; records (12); work list; reports; eph; sop;
         -- scratch (17); state; the locals (19)]
         lft-new ! tt (λ α. move ! (14 ∷ 6 ∷ []) $
         use2 W (later (some (λ (δ : GName). ‵ (Own (α ∷ []) δ xs) ⊛ ‵ (LentAgain u32 κ₄ (α ∷ []) q₄ γ b o δ xs))))
         (lends-again u32 κ₄ (α ∷ []) q₄ γ b o 𝓤 H A W (named 4) (named 4) xs (s ∷ [])) $ await ! tt $ pick ! (λ δ. split ! $
-        -- [numbers; what is kept; α (2); input; input; κ₆ (5); true; κ₅; κ₃; κ₂; κ₁; κ₀ (11); answer words; …; records (14);
+        -- [work list; what is kept; α (2); input; input; κ₆ (5); true; κ₅; κ₃; κ₂; κ₁; κ₀ (11); answer words; …; records (14);
         -- reports; eph; sop; scratch (18); state; the locals (20)]
         nothing ! $ move ! (6 ∷ 0 ∷ []) $ join ! $ move ! (3 ∷ 0 ∷ []) $ join ! $ move ! (7 ∷ 0 ∷ []) $ join ! $ move ! (7 ∷ 0 ∷ [])
         $ join ! $ move ! (7 ∷ 0 ∷ []) $ join ! $ move ! (7 ∷ 0 ∷ []) $ join ! $
-        -- [the tokens; numbers; what is kept; input (3); input; true; κ₅; answer words (7); …; records; reports (10); eph; sop;
+        -- [the tokens; work list; what is kept; input (3); input; true; κ₅; answer words (7); …; records; reports (10); eph; sop;
         -- scratch; state (14); the locals (15)]
         move ! (1 ∷ 7 ∷ []) $ join ! $ move ! (9 ∷ 0 ∷ []) $ join ! $ move ! (3 ∷ 0 ∷ []) $ join ! $ move ! (10 ∷ 0 ∷ []) $ join ! $
         move ! (10 ∷ 0 ∷ []) $ join ! $ move ! (1 ∷ 0 ∷ []) $
@@ -430,21 +430,21 @@ module _ {M : Type 1} (𝓤 : URA M) (H : Heap 𝓤) (A : Atoms 𝓤) (W : Given
         (λ p₃. move ! (1 ∷ []) $ fsplit ! $ fsplit ! $ move ! (1 ∷ []) $ feqL !
         (λ p₄. move ! (1 ∷ []) $ fsplit ! $ drop ! $ fsplit ! $ fsplit ! $ move ! (1 ∷ []) $ feqL !
         (λ p₆. move ! (1 ∷ []) $ drop ! $
-        -- [the last answer words; numbers; reports; scratch; state; tokens and answer (5); what is kept; input; true; κ₅ (9); …;
+        -- [the last answer words; work list; reports; scratch; state; tokens and answer (5); what is kept; input; true; κ₅ (9); …;
         -- records; eph; sop; the locals (14)]
         move ! (5 ∷ []) $ split ! $ move ! (1 ∷ []) $ peeks ! AN (Is AN) (shows 𝓤 H A AN) a (u ∷ []) (λ is.
-        -- [the answer; the tokens; answer words (2); numbers; reports; scratch; state (6); what is kept; input; true; κ₅ (10); …;
+        -- [the answer; the tokens; answer words (2); work list; reports; scratch; state (6); what is kept; input; true; κ₅ (10); …;
         -- records; eph; sop; the locals (15)]
         land ! (from ! (stop !)) (init ! 47 refl (LL.lawful Q.the-type Q′.the-laws 𝓤 H A W .typed a _ is .0)) $
         move ! (1 ∷ []) $ split ! $ move ! (1 ∷ []) $ split ! $ move ! (1 ∷ []) $ split ! $ move ! (1 ∷ []) $ split ! $ move !
         (1 ∷ []) $ split ! $ move ! (1 ∷ []) $ split ! $
-        -- [κ₆; true; α (2); κ₃; κ₂; κ₁; κ₀ (6); the answer; answer words; numbers (9); reports; scratch; state (12); what is kept;
+        -- [κ₆; true; α (2); κ₃; κ₂; κ₁; κ₀ (6); the answer; answer words; work list (9); reports; scratch; state (12); what is kept;
         -- input; true; κ₅ (16); …; records; eph; sop; the locals (21)]
         move ! (2 ∷ []) $ lft-end ! tt $ move ! (0 ∷ 13 ∷ 9 ∷ []) $
-        use3 W (later (‵ (Own κ₄ γ (lastNumbers ws)) ⊛ ‵ (flft κ₄ q₄)))
-        (comes-back u32 κ₄ (α ∷ []) q₄ γ b o 𝓤 H A W (named 4) (named 4) xs (s ∷ []) δ (lastNumbers ws) (fact-at xs refl) p₄) $
+        use3 W (later (‵ (Own κ₄ γ (lastWork ws)) ⊛ ‵ (flft κ₄ q₄)))
+        (comes-back u32 κ₄ (α ∷ []) q₄ γ b o 𝓤 H A W (named 4) (named 4) xs (s ∷ []) δ (lastWork ws) (fact-at xs refl) p₄) $
         await ! tt $ split ! $
-        -- [numbers; κ₄; κ₆; true; κ₃; κ₂; κ₁; κ₀ (7); the answer; answer words; reports (10); scratch; state; input; true; κ₅ (15);
+        -- [work list; κ₄; κ₆; true; κ₃; κ₂; κ₁; κ₀ (7); the answer; answer words; reports (10); scratch; state; input; true; κ₅ (15);
         -- …; records (17); eph; sop; the locals (20)]
         owned ! AN (Is AN) (LL.makes Q.the-type Q′.the-plain 𝓤 H A) a _ is $ use1 W
         (raw (Count 𝓤 H A at-mem run .pre (to-count a u))) (goes-count a u) $
@@ -459,7 +459,7 @@ module _ {M : Type 1} (𝓤 : URA M) (H : Heap 𝓤) (A : Atoms 𝓤) (W : Given
         (λ e₂. split ! $ drop ! $ peeks ! usize (Is usize) (shows 𝓤 H A usize) m (u₂ ∷ []) (λ is₂.
         land ! (from ! (stop !)) (init ! 51 refl (uint-lawful 𝓤 H A W w64 .typed m _ is₂ .0)) $ rewrite ! 51
         (λ (z : Val). ‵ (fat fullShare (tyInt w64) l₁₂ 0 z)) (ap only (uint-tells w64 m _ is₂)) refl $ drop ! $
-        -- [numbers; κ₄; κ₆; true; κ₃; κ₂; κ₁; κ₀ (7); the answer; answer words; reports (10); scratch; state; input; true; κ₅ (15);
+        -- [work list; κ₄; κ₆; true; κ₃; κ₂; κ₁; κ₀ (7); the answer; answer words; reports (10); scratch; state; input; true; κ₅ (15);
         -- …; records (17); eph; sop; the locals (20)]
         assigns ! (addr ! (from ! (fld ! refl (hop ! (look-in ! 58 (sub ! 0 refl (whole !))) (stop !))))) (from ! (stop !))
         (init ! 26 refl (tt, tt)) $
@@ -473,40 +473,40 @@ module _ {M : Type 1} (𝓤 : URA M) (H : Heap 𝓤) (A : Atoms 𝓤) (W : Given
         (agg ! (and-then ! (load ! (from ! (stop !)) (look ! 22 refl))
         (and-then ! (load ! (from ! (fld ! refl (stop !))) (look-in ! 60 (sub ! 1 refl (whole !)))) (no-more !)))) (from ! (stop !))
         (init ! 20 refl (tt, (tt, (record { fits = gx .0 }, tt)))) $
-        -- the numbers are shared
+        -- the work list is shared
         lft-new ! tt (λ β. move ! (1 ∷ 2 ∷ []) $
-        use2 W (later (some (λ (δ′ : GName). ‵ (Shr β δ′ (lastNumbers ws)) ⊛ ‵ (Shared u32 κ₄ (β ∷ []) q₄ γ b o (lastNumbers ws)))))
-        (shares-again u32 κ₄ (β ∷ []) q₄ γ b o 𝓤 H A W (named 4) (named 1) (lastNumbers ws) (s ∷ [])) $ await ! tt $ pick !
+        use2 W (later (some (λ (δ′ : GName). ‵ (Shr β δ′ (lastWork ws)) ⊛ ‵ (Shared u32 κ₄ (β ∷ []) q₄ γ b o (lastWork ws)))))
+        (shares-again u32 κ₄ (β ∷ []) q₄ γ b o 𝓤 H A W (named 4) (named 1) (lastWork ws) (s ∷ [])) $ await ! tt $ pick !
         (λ δ′. split ! $
-        -- [numbers; what is kept; β (2); κ₆; true; κ₃; κ₂; κ₁; κ₀ (8); the answer; answer words; reports (11); scratch; state;
+        -- [work list; what is kept; β (2); κ₆; true; κ₃; κ₂; κ₁; κ₀ (8); the answer; answer words; reports (11); scratch; state;
         -- input; true; κ₅ (16); …; records (18); eph; sop; the locals (21)]
         nothing ! $ move ! (3 ∷ 0 ∷ []) $ join ! $ move ! (16 ∷ 0 ∷ []) $ join ! $ move ! (0 ∷ 17 ∷ 1 ∷ []) $ use3 W
-        (raw (Fill 𝓤 H A at-mem run .pre (to-fill β δ′ (lastNumbers ws) m))) (goes-fill β δ′ (lastNumbers ws) m (is₂ .1)) $
+        (raw (Fill 𝓤 H A at-mem run .pre (to-fill β δ′ (lastWork ws) m))) (goes-fill β δ′ (lastWork ws) m (is₂ .1)) $
         -- [pre; what is kept; κ₆; true; κ₃; κ₂; κ₁; κ₀ (7); the answer; answer words; reports (10); scratch; state; input; true; …;
         -- eph; sop; the locals (18)]
-        calls-at ! fm (Fill 𝓤 H A at-mem run) known-fill (to-fill β δ′ (lastNumbers ws) m)
+        calls-at ! fm (Fill 𝓤 H A at-mem run) known-fill (to-fill β δ′ (lastWork ws) m)
         (and-then ! (load ! (from ! (stop !)) (look ! 22 refl))
         (and-then ! (load ! (from ! (stop !)) (look ! 18 refl))
         (and-then ! (load ! (from ! (stop !)) (look ! 48 refl)) (no-more !)))) (λ u₃.
         use1 W
         (later
         (some (λ (r : Unit {0}). ((‵ (flft κ₅ q₅) ⊛ ‵ (flft (β ∷ []) fullShare) ⊛ ‵ ftrue) ⊛ ‵ (Nothing .own r (u₃ ∷ []))) ⊛ raw
-        (ensured 𝓤 H A p.ended (p.clauses 𝓤 H A at-mem run) (κ₅, (β ∷ [], tt)) (passed δ′ (lastNumbers ws) m) tt r)))) (id⊢ 𝓤 _) $
+        (ensured 𝓤 H A p.ended (p.clauses 𝓤 H A at-mem run) (κ₅, (β ∷ [], tt)) (passed δ′ (lastWork ws) m) tt r)))) (id⊢ 𝓤 _) $
         await ! tt $ pick ! (λ r.
         split ! $ move ! (1 ∷ []) $ use1 W
         (some (λ (vs : List Segment × (Unit {0} × (Unit {0} × Unit {0}))). ‵
-        (lasts p.ended (κ₅, (β ∷ [], tt)) (passed δ′ (lastNumbers ws) m) vs) ⊛ raw
-        (fact 𝓤 (vs .0 ≡ filled (lastNumbers ws) m (rr .now))))) (id⊢ 𝓤 _) $ pick ! (λ vs.
-        split ! $ move ! (1 ∷ []) $ heard ! (vs .0 ≡ filled (lastNumbers ws) m (rr .now))
+        (lasts p.ended (κ₅, (β ∷ [], tt)) (passed δ′ (lastWork ws) m) vs) ⊛ raw
+        (fact 𝓤 (vs .0 ≡ filled (lastWork ws) m (rr .now))))) (id⊢ 𝓤 _) $ pick ! (λ vs.
+        split ! $ move ! (1 ∷ []) $ heard ! (vs .0 ≡ filled (lastWork ws) m (rr .now))
         (λ e₃. fsplit ! $ fsplit ! $ move ! (1 ∷ []) $ feqL ! (λ p₅. move ! (2 ∷ []) $ split ! $ move ! (1 ∷ []) $ feqL ! (λ eu.
         -- [the tokens; the last records; …; what is kept (3); κ₆; true; κ₃; κ₂; κ₁; κ₀ (9); the answer; answer words; reports (12);
         -- scratch; state; input; true; …; eph; sop; the locals (20)]
         land ! (from ! (stop !)) (init ! 28 refl (subst (λ (z : Val). Holds (hasTy tyUnit z) × WT z) (sym (ap only eu)) (tt, tt))) $
         split ! $ move ! (1 ∷ []) $ split ! $ lft-end ! tt $ move ! (0 ∷ 5 ∷ []) $
-        use2 W (later (‵ (Own κ₄ γ (lastNumbers ws)) ⊛ ‵ (flft κ₄ q₄)))
-        (unshares u32 κ₄ (β ∷ []) q₄ γ b o 𝓤 H A W (named 4) (named 1) (lastNumbers ws) (s ∷ []) (fact-at (lastNumbers ws) p₄)) $
+        use2 W (later (‵ (Own κ₄ γ (lastWork ws)) ⊛ ‵ (flft κ₄ q₄)))
+        (unshares u32 κ₄ (β ∷ []) q₄ γ b o 𝓤 H A W (named 4) (named 1) (lastWork ws) (s ∷ []) (fact-at (lastWork ws) p₄)) $
         await ! tt $ split ! $
-        -- [numbers; κ₄; true; κ₅; the last records (4); …; κ₆; true; κ₃ (8); κ₂; κ₁; κ₀; the answer (12); answer words; reports;
+        -- [work list; κ₄; true; κ₅; the last records (4); …; κ₆; true; κ₃ (8); κ₂; κ₁; κ₀; the answer (12); answer words; reports;
         -- scratch; state (16); input; true; …; eph; sop; the locals (22)]
         rewrite ! 54 (λ (z : Val). ‵ (fat fullShare Q′.mir l₁₁ 0 z)) (ap only (LL.tells Q.the-type Q′.the-laws a _ is)) refl $
         let small : a .refusal < 2 ^ 32 = LL.owed Q.the-type Q′.the-laws a _ is .0 .1 in
@@ -526,9 +526,9 @@ module _ {M : Type 1} (𝓤 : URA M) (H : Heap 𝓤) (A : Atoms 𝓤) (W : Given
         (34 ∷ 35 ∷ []) $ free1 ! $ move ! (32 ∷ 33 ∷ []) $ free1 ! $ move ! (30 ∷ 31 ∷ []) $ free1 ! $ move ! (28 ∷ 29 ∷ []) $ free1
         ! $ move ! (26 ∷ 27 ∷ []) $ free1 ! $ move ! (24 ∷ 25 ∷ []) $ free1 ! $ move ! (22 ∷ 23 ∷ []) $ free1 ! $ free0 ! $
         keep ! (0 ∷ 11 ∷ 10 ∷ 9 ∷ 8 ∷ 1 ∷ 3 ∷ 6 ∷ 16 ∷ 15 ∷ 17 ∷ 14 ∷ 4 ∷ 13 ∷ []) $ by !
-        (exits (a .refusal) (ws .0) (ws .1 .0) (lastReports ws) (lastNumbers ws) (lastWords ws) (vs .0)
+        (exits (a .refusal) (ws .0) (ws .1 .0) (lastReports ws) (lastWork ws) (lastWords ws) (vs .0)
         (filled-is-call (st .now) (sc .now) mk (sr .now) (rp .now) xs (rr .now) (an .now) (ws .0) (ws .1 .0) (lastReports ws)
-        (lastNumbers ws) (lastWords ws) a (vs .0) m e p₄ e₂ e₃) small p₀ p₁ p₃ p₄ p₅
+        (lastWork ws) (lastWords ws) a (vs .0) m e p₄ e₂ e₃) small p₀ p₁ p₃ p₄ p₅
         p₆)))))))))))))))))))))))))))))))))))))))))))))))))))))
 
 module _ {M : Type 1} (𝓤 : URA M) (H : Heap 𝓤) (A : Atoms 𝓤) (W : Given 𝓤 H A) (mem : Memory → SProp 𝓤) (run : Routine → Fun 𝓤)
@@ -610,6 +610,6 @@ tonkelvi-read-spec 𝓤 H 𝓜 𝓖 𝓡 =
     entered 𝓤 H (tripleOf 𝓤 H (𝓖 .A) f.signature (f.spec 𝓤 H (𝓖 .A) (𝓜 .mem) (𝓡 .run)))
     (tables 𝓤 H 𝓜 𝓡 code.env .C) (tables 𝓤 H 𝓜 𝓡 code.env .Λ) #me code.function (code.unfolded 𝓤 H 𝓜 𝓡)
     (f-meets 𝓤 H (𝓖 .A) (givenOf 𝓤 H 𝓜 𝓖) (𝓜 .mem) (𝓡 .run) (tablesOf 𝓤 H 𝓜 (tables 𝓤 H 𝓜 𝓡 code.env))
-    (cited 𝓤 H (Core 𝓤 H (𝓖 .A) (𝓜 .mem) (𝓡 .run)) 𝓜 𝓡 code.env #g g-def.routine code.calls-tonkelvi-parts·read-words (g-thm.met 𝓤 H 𝓜 𝓖 𝓡))
+    (cited 𝓤 H (Core 𝓤 H (𝓖 .A) (𝓜 .mem) (𝓡 .run)) 𝓜 𝓡 code.env #g g-def.routine code.calls-tonkelvi-read-parts·read-words (g-thm.met 𝓤 H 𝓜 𝓖 𝓡))
     (cited 𝓤 H (Count 𝓤 H (𝓖 .A) (𝓜 .mem) (𝓡 .run)) 𝓜 𝓡 code.env #c c-def.routine code.calls-t2-read-numbers·to-fill (c-thm.met 𝓤 H 𝓜 𝓖 𝓡))
     (cited 𝓤 H (Fill 𝓤 H (𝓖 .A) (𝓜 .mem) (𝓡 .run)) 𝓜 𝓡 code.env #p p-def.routine code.calls-t2-records·fill (p-thm.met 𝓤 H 𝓜 𝓖 𝓡)))

@@ -1,19 +1,21 @@
 -- `tonkelvi::tonkelvi_start_writer` meets its contract.
+use borrow.Author.Needs.{needs}
 use Rattle.t800.specs.State.{writer}
-use Rattle.tonkelvi_parts.specs.Calls.{band, threeBands}
-use Rattle.tonkelvi_parts.proofs.Laws.{started-with}
+use Rattle.tonkelvi_parts.proofs.Laws.{start-unlisted, start-listed}
 use Rattle.tonkelvi.proofs.tonkelvi_start_writer.Statement.{statement}
 use Rattle.tonkelvi.proofs.tonkelvi_start_writer.Tie as tie
 
 returns : tie.Need-returns
 returns c =
-    let a = c .before .before .before .before .before .before .before .args in
-    let bands = threeBands (band (a .across0) (a .down0) (a .planes0)) (band (a .across1) (a .down1) (a .planes1))
-    (band (a .across2) (a .down2) (a .planes2)) in
-    let g = c .before .before .before .before .three-bands in
-    started-with writer (a .count) (g .result) bands (a .style) (a .planes .now) (a .state .now) _
-    (c .before .before .start-writer .ensures) (g .ensures)
+    let a = c .before .before .before .before .args in
+    start-unlisted writer (a .count) (a .bands .now) (a .style) (a .planes .now) (a .state .now) (c .if1 .taken)
+
+returns-2 : tie.Need-returns-2
+returns-2 c =
+    let a = c .before .before .before .before .before .before .before .before .before .args in
+    start-listed writer (a .count) (a .bands .now) (a .style) (a .planes .now) (a .state .now) _ _ (c .before .before .before .before .before .if1 .left)
+    (c .before .before .start-writer .ensures) (c .before .before .before .before .bands-in .ensures)
 
 pub tonkelvi-start-writer-spec : {M : Type 1} → statement M
 tonkelvi-start-writer-spec =
-    tie.close (tie.spec (λ c κs. tt) (λ c κs. tt) (λ c. c .before .before .start-writer .kept .1 .1 .1 .1 .0) returns)
+    tie.close (tie.spec returns (λ c κs. search needs) (λ c κs. search needs) (λ c. search needs) returns-2)

@@ -1,4 +1,4 @@
--- `t2_read_numbers::wrong_list` meets its contract.
+-- `t2_read_numbers::work_refusal` meets its contract.
 use mathlib.Core.Path.{sym, _∙_}
 use native.Mathlib.Omega.{arith}
 use lib.ListN.{length}
@@ -8,8 +8,8 @@ use Rattle.tcd_state.proofs.Laws.ValidStates.{valid-state}
 use Rattle.t2_read_header.proofs.Laws.HeaderEnd.{thirteen-words}
 use Rattle.t2_read_numbers.proofs.Numbers.{wrong-5, wrong-6, wrong-3}
 use borrow.Author.Needs.{needs}
-use Rattle.t2_read_numbers.proofs.wrong_list.Statement.{statement}
-use Rattle.t2_read_numbers.proofs.wrong_list.Tie as tie
+use Rattle.t2_read_numbers.proofs.work_refusal.Statement.{statement}
+use Rattle.t2_read_numbers.proofs.work_refusal.Tie as tie
 
 returns : tie.Need-returns
 unfolding reader
@@ -40,6 +40,6 @@ returns-3 c =
     wrong-3 (s .args .state .now) (s .args .scratch .now)
     (sym (c .before .before .before .valid-state .ensures) ∙ not-false _ (c .before .before .if1 .left)) (c .if2 .left)
 
-pub wrong-list-spec : {M : Type 1} → statement M
-wrong-list-spec =
+pub work-refusal-spec : {M : Type 1} → statement M
+work-refusal-spec =
     tie.close (tie.spec (λ c κs. search needs) returns shared-slice-read-if2 returns-2 returns-3)

@@ -1,14 +1,14 @@
--- `tonkelvi_parts::read_words` meets its contract.
+-- `tonkelvi_read_parts::read_words` meets its contract.
 use borrow.Author.Needs.{needs}
-use Rattle.tonkelvi_parts.proofs.Laws.{read-unlisted, read-listed}
-use Rattle.tonkelvi_parts.proofs.read_words.Statement.{statement}
-use Rattle.tonkelvi_parts.proofs.read_words.Tie as tie
+use Rattle.tonkelvi_read_parts.proofs.Structs.{read-unlisted, read-listed}
+use Rattle.tonkelvi_read_parts.proofs.read_words.Statement.{statement}
+use Rattle.tonkelvi_read_parts.proofs.read_words.Tie as tie
 
 returns : tie.Need-returns
 returns c =
     let a = c .before .before .before .before .before .before .before .args in
     read-unlisted (a .state .now) (a .scratch .now) (record { sop = a .sop; eph = a .eph }) (a .src .now) (a .reports .now)
-    (a .numbers .now) (a .room) (a .answer .now) (c .if1 .taken)
+    (a .work .now) (a .room) (a .answer .now) (c .if1 .taken)
 
 returns-2 : tie.Need-returns-2
 returns-2 c =
@@ -17,7 +17,7 @@ returns-2 c =
     let f = c .before .before .before .before .before .before .before .before .before .before .before .before .before .before
     .before .read-numbers in
     read-listed (a .state .now) (a .scratch .now) (record { sop = a .sop; eph = a .eph }) (a .src .now) (a .reports .now)
-    (a .numbers .now) (a .room) (a .answer .now)
+    (a .work .now) (a .room) (a .answer .now)
     (f .result) _ _ _ _ _
     (c .before .before .before .before .before .before .before .before .before .before .before .before .before .before .before
     .before .before .before .before .before .if1 .left) (f .ensures) (c .before .before .put-five .ensures)

@@ -1,4 +1,4 @@
--- The records that are stored from the numbers are those that t800's `read` leaves in the records' words.
+-- The records that are stored from the work list are those that t800's `read` leaves in the records' words.
 use mathlib.Core.Path.{_≡_, refl, sym, ap, _∙_}
 use mathlib.Core.Logic.{_≢_}
 use mathlib.Core.Bool.{Bool, true, false, cond, not, _&&_, _||_}
@@ -8,7 +8,7 @@ use native.Mathlib.Omega.{arith}
 use lib.ListN.{length, take, drop, replicate, length-append, length-replicate, drop-of-length-le}
 use lib.Seq.{take-append-seam, take-length}
 use lib.Dec.{eqb}
-use borrow.Author.Tests.{eq-eqb, eqb-true, eqb-false}
+use borrow.Author.Tests.{eq-eqb, ne-eqb, eqb-true, eqb-false}
 use Rattle.t800.specs.declared.Markers.{Markers}
 use Rattle.t800.specs.declared.ReadAnswer.{ReadAnswer}
 use Rattle.t800.specs.Base.{overwrite, wiped}
@@ -25,17 +25,18 @@ use Rattle.t800.specs.RoundTrip.{ReadCall, readOf}
 use Rattle.t2_theorems.specs.Calls.{WasRead}
 use Rattle.t2_theorems.specs.Numbers.{NoneHolds, readChecks, NumbersOfCalls}
 use Rattle.t2_theorems.proofs.Numbers.{numbers-of-calls}
-use Rattle.t2_records.specs.declared.Segment.{Segment}
-use Rattle.t2_records.specs.Segments.{wordsOf, segmentAt, filled}
-use Rattle.t2_read_numbers.specs.Reading.{wrongListNumber, wrongList, readNumbers, toFill}
-use Rattle.tonkelvi_parts.specs.Reading.{StructsRead, structsRead, readStructs}
+use Rattle.t800.specs.declared.Segment.{Segment}
+use Rattle.t800.specs.Exports.{wordsOf, readWords, ReadExit, readExit, workRefusal, readCall}
+use Rattle.t2_records.specs.Segments.{segmentAt, filled}
+use Rattle.t2_read_numbers.specs.Reading.{readNumbers, toFill}
+use Rattle.tonkelvi_read_parts.specs.Numbers.{NumbersCall, numbersOf, numbersCall}
 use Rattle.t2_records.proofs.Stored.{stored-none, words-length, filled-words}
 use Rattle.t2_read_numbers.proofs.Numbers.{numbers-refused, numbers-read}
 
 -- ---- what is stored, case by case
 
 module _ (rs : List Segment) where
-  pub none-stored : (ws : List ℕ) → wordsOf (filled ws 0 rs) ≡ wordsOf rs
+  none-stored : (ws : List ℕ) → wordsOf (filled ws 0 rs) ≡ wordsOf rs
   none-stored ws = ap wordsOf (stored-none (segmentAt ws) rs)
 
   -- as many as were found
@@ -67,7 +68,7 @@ module _ (rs : List Segment) where
       ∙ append-nil zs
       ∙ ap (λ (j : ℕ). replicate j 0) same
 
--- ---- the numbers of a read
+-- ---- how many are stored
 
 -- 5, 6 and 3 store nothing
 early-stores-none : (ws scratch reports : List ℕ) (room : ℕ) → readRefusal ws scratch reports ≢ 0
@@ -81,8 +82,8 @@ early-stores-none ws scratch reports room =
     None : ℕ → Type 0
     None n = n ≢ 0 → toFill (refusedAnswer n) room ≡ 0
 
-wrong-stores-none : (ws scratch : List ℕ) (room : ℕ) → toFill (refusedAnswer (wrongListNumber ws scratch)) room ≡ 0
-unfolding wrongListNumber toFill
+wrong-stores-none : (ws scratch : List ℕ) (room : ℕ) → toFill (refusedAnswer (workRefusal ws scratch)) room ≡ 0
+unfolding workRefusal toFill
 wrong-stores-none ws scratch room =
     either (λ (n : ℕ). toFill (refusedAnswer n) room ≡ 0) (not (validState reader ws (length scratch))) 5 _ refl
     (either (λ (n : ℕ). toFill (refusedAnswer n) room ≡ 0) (eqb (layer ws) notYetIncluded) 6 3 refl refl)
@@ -169,7 +170,7 @@ module _ (ws scratch : List ℕ) (m : Markers) (src reports : List ℕ) where
 
   -- ---- the read
 
-  -- the result with the records that are stored from its numbers
+  -- the result with the records that are stored from its work list
   abbrev restored : List Segment → ReadResult → ReadResult
   restored rs z = readResult (z .state) (z .scratch) (z .reports)
       (wordsOf (filled (z .records) (toFill (z .answer) (length rs)) rs)) (z .answer)
@@ -217,7 +218,7 @@ module _ (ws scratch : List ℕ) (m : Markers) (src reports : List ℕ) where
     unfolding readAt
     same-at = same-by (eqb why 0) (eqb (first .value) 0) (eqb (header n .refusal) 0) refl refl refl
 
-    pub stored-is-read : length (read ws scratch m src reports xs .records) ≡ length xs
+    stored-is-read : length (read ws scratch m src reports xs .records) ≡ length xs
         → restored rs (read ws scratch m src reports xs) ≡ read ws scratch m src reports (wordsOf rs)
     stored-is-read l =
         let e = read-is-at xs in
@@ -225,30 +226,72 @@ module _ (ws scratch : List ℕ) (m : Markers) (src reports : List ℕ) where
         ap (restored rs) e ∙ same-at (ap (λ (z : ReadResult). length (z .records)) (sym e) ∙ l)
         ∙ ap (λ (j : ℕ). readAt (j / 4) (wordsOf rs)) k ∙ sym (read-is-at (wordsOf rs))
 
--- what the three calls of `read` give together
-module _ (st sc : List ℕ) (m : Markers) (src rp xs : List ℕ) (rs : List Segment) where
-  by-length : (t : Bool) → eqb (length xs) (4 * length rs) ≡ t → (z : ReadResult) → z ≡ readNumbers st sc m src rp xs (length rs)
-      → length (z .records) ≡ length xs
-      → _≡_ {A = StructsRead} (record { result = restored st sc m src rp rs z; numbers = z .records }) (readStructs st sc m src rp xs rs)
-  unfolding readStructs
-  by-length true t z e l =
-      let k = e ∙ numbers-read st sc m src rp xs (length rs) t in
-      ap (λ (y : ReadResult). record { result = restored st sc m src rp rs y; numbers = y .records }) k
-      ∙ ap (λ (y : ReadResult). record { result = y; numbers = read st sc m src rp xs .records })
-      (stored-is-read st sc m src rp xs rs (eqb-true (length xs) (4 * length rs) t)
-      (ap (λ (y : ReadResult). length (y .records)) (sym k) ∙ l))
-      ∙ sym (if-true (eqb (length xs) (4 * length rs)) _ _ t)
-  by-length false t z e l =
-      ap (λ (y : ReadResult). record { result = restored st sc m src rp rs y; numbers = y .records })
-      (e ∙ numbers-refused st sc m src rp xs (length rs) t)
-      ∙ ap (λ (y : List ℕ). record { result = wrongList st sc rp y; numbers = xs })
-      (ap (λ (k : ℕ). wordsOf (filled xs k rs)) (wrong-stores-none st sc (length rs)) ∙ none-stored rs xs)
-      ∙ sym (if-false (eqb (length xs) (4 * length rs)) _ _ t)
+-- ---- the read on the work list, with its answer words
 
-  pub filled-is-read : (z₀ z₁ z₃ z₄ : List ℕ) (a : ReadAnswer) (us : List Segment) (k : ℕ)
-      → readResult z₀ z₁ z₃ z₄ a ≡ readNumbers st sc m src rp xs (length rs) → length z₄ ≡ length xs → k ≡ toFill a (length rs) → us
-      ≡ filled z₄ k rs
-      → structsRead z₀ z₁ z₃ z₄ us a ≡ readStructs st sc m src rp xs rs
-  filled-is-read z₀ z₁ z₃ z₄ a us k e l f g =
-      ap (λ (y : List Segment). structsRead z₀ z₁ z₃ z₄ y a) (g ∙ ap (λ (j : ℕ). filled z₄ j rs) f)
-      ∙ by-length (eqb (length xs) (4 * length rs)) refl (readResult z₀ z₁ z₃ z₄ a) e l
+module _ (ws scratch : List ℕ) (m : Markers) (src reports work : List ℕ) (room : ℕ) (answer : List ℕ) where
+  pub read-unlisted : length answer ≢ 5
+      → record { result = readResult ws scratch reports work (refusedAnswer 3); answer = answer }
+      ≡ numbersCall ws scratch m src reports work room answer
+  unfolding numbersCall
+  read-unlisted h = rw (ne-eqb (length answer) 5 h)
+
+  pub read-listed : (r : ReadAnswer) (vs s p q l : List ℕ) → length answer ≡ 5 → readResult vs s p q r
+      ≡ readNumbers ws scratch m src reports work room → l ≡ readWords r
+      → record { result = readResult vs s p q r; answer = l } ≡ numbersCall ws scratch m src reports work room answer
+  unfolding numbersCall
+  read-listed r vs s p q l h e g = rw (eq-eqb (length answer) 5 h, g) (ap numbersOf e)
+
+-- ---- what the three calls of `tonkelvi_read` give together
+
+module _ (ws scratch : List ℕ) (m : Markers) (src reports work : List ℕ) (records : List Segment) (answer : List ℕ) where
+  -- the call's result with the records that are stored from its work list
+  abbrev filledOf : NumbersCall → ReadExit
+  filledOf z = record {
+    refusal = z .result .answer .refusal;
+    state = z .result .state;
+    scratch = z .result .scratch;
+    reports = z .result .reports;
+    work = z .result .records;
+    records = wordsOf (filled (z .result .records) (toFill (z .result .answer) (length records)) records);
+    answer = z .answer;
+  }
+
+  by-lists : (t u : Bool) → eqb (length answer) 5 ≡ t → eqb (length work) (4 * length records) ≡ u → (z : NumbersCall) → z
+      ≡ numbersCall ws scratch m src reports work (length records) answer → length (z .result .records) ≡ length work
+      → filledOf z ≡ readCall ws scratch m src reports work records answer
+  unfolding numbersCall readCall toFill
+  by-lists true true t u z e l =
+      let k = e ∙ if-true (eqb (length answer) 5) _ _ t
+      ∙ ap numbersOf (numbers-read ws scratch m src reports work (length records) u) in
+      ap filledOf k
+      ∙ ap (λ (y : ReadResult). readExit y (read ws scratch m src reports work .records))
+      (stored-is-read ws scratch m src reports work records (eqb-true (length work) (4 * length records) u)
+      (ap (λ (y : NumbersCall). length (y .result .records)) (sym k) ∙ l))
+      ∙ sym (if-true (eqb (length work) (4 * length records)) _ _ u)
+      ∙ sym (if-true (eqb (length answer) 5) _ _ t)
+  by-lists true false t u z e l =
+      ap filledOf (e ∙ if-true (eqb (length answer) 5) _ _ t
+      ∙ ap numbersOf (numbers-refused ws scratch m src reports work (length records) u))
+      ∙ ap (λ (y : List ℕ). readExit (readResult ws scratch reports y (refusedAnswer (workRefusal ws scratch))) work)
+      (ap (λ (k : ℕ). wordsOf (filled work k records)) (wrong-stores-none ws scratch (length records)) ∙ none-stored records work)
+      ∙ sym (if-false (eqb (length work) (4 * length records)) _ _ u)
+      ∙ sym (if-true (eqb (length answer) 5) _ _ t)
+  by-lists false u t v z e l =
+      ap filledOf (e ∙ if-false (eqb (length answer) 5) _ _ t)
+      ∙ ap (λ (y : List ℕ).
+      record { refusal = 3; state = ws; scratch = scratch; reports = reports; work = work; records = y; answer = answer })
+      (none-stored records work)
+      ∙ sym (if-false (eqb (length answer) 5) _ _ t)
+
+  pub filled-is-call : (z₀ z₁ z₃ z₄ z₆ : List ℕ) (a : ReadAnswer) (us : List Segment) (k : ℕ)
+      → record { result = readResult z₀ z₁ z₃ z₄ a; answer = z₆ }
+      ≡ numbersCall ws scratch m src reports work (length records) answer → length z₄ ≡ length work → k
+      ≡ toFill a (length records) → us ≡ filled z₄ k records
+      → record { refusal = a .refusal; state = z₀; scratch = z₁; reports = z₃; work = z₄; records = wordsOf us; answer = z₆ }
+      ≡ readCall ws scratch m src reports work records answer
+  filled-is-call z₀ z₁ z₃ z₄ z₆ a us k e l f g =
+      ap (λ (y : List Segment).
+      record { refusal = a .refusal; state = z₀; scratch = z₁; reports = z₃; work = z₄; records = wordsOf y; answer = z₆ })
+      (g ∙ ap (λ (j : ℕ). filled z₄ j records) f)
+      ∙ by-lists (eqb (length answer) 5) (eqb (length work) (4 * length records)) refl refl
+      (record { result = readResult z₀ z₁ z₃ z₄ a; answer = z₆ }) e l
