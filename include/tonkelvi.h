@@ -1,4 +1,4 @@
-/* Tonkelvi: JPEG 2000 packet headers for one precinct, layer by layer. Link with libcapi.a, which `rt staticlib capi` makes. */
+/* Tonkelvi: JPEG 2000 packet headers for one precinct, layer by layer. Link with libtonkelvi.a, which `rt staticlib tonkelvi` makes. */
 #ifndef TONKELVI_H
 #define TONKELVI_H
 
@@ -9,6 +9,10 @@
 #ifdef __cplusplus
 extern "C" {
 #endif
+
+/* The version: major * 10000 + minor * 100 + patch, and as text. */
+#define TONKELVI_VERSION 200
+#define TONKELVI_VERSION_TEXT "0.2.0"
 
 /*
  * Lists. Each list is passed as a pointer to its first element and its number of elements; the pointer of an empty list is not used
@@ -25,10 +29,20 @@ extern "C" {
  * Further answers come in a lent list of 64-bit words, `answer`, of exactly the length given at each call. With another length the
  * call gives 3 and changes nothing. Otherwise its words are 0 after a refusal.
  *
- * Words. A state is a list of 32-bit words that the calls keep between them: role (1 writer, 2 reader), band count, style, next layer;
- * across, down and planes of each of three bands, 0 where unused; then band by band the nodes of the inclusion tree, the nodes of the
- * zero-plane tree (value, low, known each) and the blocks (passes so far, length bits, limit and passes of the current segment).
- * It may be copied, stored and taken up again. Blocks are numbered from 0, band by band, row by row.
+ * State. A list of 32-bit words that the calls keep between them: role (1 writer, 2 reader), band count, style, next layer; across, down
+ * and planes of each of three bands, 0 where unused; then band by band the nodes of the inclusion tree, the nodes of the zero-plane tree
+ * (value, low, known each) and the blocks (passes so far, length bits, limit and passes of the current segment). It may be copied, stored
+ * and taken up again. Blocks are numbered from 0, band by band, row by row.
+ *
+ * Scratch. A list as long as the state, with any content. It holds after
+ *     measure, 0                  the state after the packet
+ *     write or read, 0            the state after the packet, as the state does
+ *     write, 11                   zeros
+ *     read, 9, 12 or 13           zeros
+ *     any other refusal           what it held before
+ *
+ * Linking. The archive has no names but those declared here, and needs memset alone. It has no unwind tables (.eh_frame): a call neither
+ * throws nor calls back, but a debugger or profiler cannot walk through its frames by them.
  */
 
 /* Why a call was turned away. A refused call leaves the state as it was. */
@@ -43,27 +57,44 @@ enum tonkelvi_refusal {
     TONKELVI_LENGTH = 8,      /* a written segment of 2^31 bytes or more */
     TONKELVI_WIDTH = 9,       /* a length field wider than 32 bits */
     TONKELVI_BODY = 10,       /* body bytes differ from the sum of pass lengths */
-    TONKELVI_SPACE = 11,      /* the packet is longer than the output: scratch and output are wiped to 0 */
+    TONKELVI_SPACE = 11,      /* the packet is longer than the output, which is wiped to 0 */
     TONKELVI_HEADER_END = 12, /* the last bit read lies in a byte FF and the input ends with that byte */
     TONKELVI_RECORDS = 13     /* more segments than records lent */
 };
-/* In reading, 9, 12 and 13 wipe scratch, reports, numbers and records to 0. All other refusals but 11 change no list, `answer` apart. */
+/* In reading, 9, 12 and 13 wipe reports, work and records to 0. But for these, 11, scratch and `answer` a refusal changes no list. */
 
-/* The words of a state for these bands (blocks across and down, and bit-planes, of the first `count` of three), or 0 where a start
- * would give 1. */
+/* One sentence for a refusal, and "" for any other number. */
+static inline const char *tonkelvi_text(uint32_t refusal) {
+    switch (refusal) {
+    case TONKELVI_SHAPE: return "The band count is not 1 to 3, or a band has more than 64 blocks across or down.";
+    case TONKELVI_STYLE: return "The style has a high-throughput bit, 0x40 or 0x80.";
+    case TONKELVI_LIST: return "A list has another length than the call asks.";
+    case TONKELVI_PLANES: return "A band has more than 998 bit-planes, or a block has more than its band.";
+    case TONKELVI_STATE: return "The state is of the other role, or its length or one of its words is out of range.";
+    case TONKELVI_LAYERS: return "All 999 layers have been coded.";
+    case TONKELVI_PASSES: return "A block has more than 164 passes in one layer.";
+    case TONKELVI_LENGTH: return "A segment has 2^31 bytes or more.";
+    case TONKELVI_WIDTH: return "A length field is wider than 32 bits.";
+    case TONKELVI_BODY: return "The body has another length than the pass lengths add up to.";
+    case TONKELVI_SPACE: return "The packet is longer than the output.";
+    case TONKELVI_HEADER_END: return "The input ends with a byte FF that the header ends in.";
+    case TONKELVI_RECORDS: return "The packet has more segments than records were lent.";
+    default: return "";
+    }
+}
+
+/* The words of a state for the first `count` of three bands, or 0 where a start would give 1. `bands`, 9 words: blocks across, blocks
+ * down and bit-planes of each band; what is given for bands beyond the count is ignored. With another length of it the result is 0. */
 size_t tonkelvi_state_length(
     uint32_t count,
-    uint32_t across0, uint32_t down0, uint32_t planes0,
-    uint32_t across1, uint32_t down1, uint32_t planes1,
-    uint32_t across2, uint32_t down2, uint32_t planes2);
+    const uint32_t *bands, size_t n_bands);
 
-/* Fills a state for a writer at layer 0. `planes` has each block's bit-planes. What is given for bands beyond the count is ignored.
+/* Fills a state for a writer at layer 0. `bands` as in tonkelvi_state_length; with another length than 9 the call gives 3 before all else.
+ * `style` is the code-block style of the codestream. `planes` has each block's bit-planes; a block that is never included is given 0.
  * Refusals: 1, 2, 3, 4. */
 uint32_t tonkelvi_start_writer(
     uint32_t count,
-    uint32_t across0, uint32_t down0, uint32_t planes0,
-    uint32_t across1, uint32_t down1, uint32_t planes1,
-    uint32_t across2, uint32_t down2, uint32_t planes2,
+    const uint32_t *bands, size_t n_bands,
     uint8_t style,
     const uint32_t *planes, size_t n_planes,
     uint32_t *state, size_t n_state);
@@ -71,16 +102,13 @@ uint32_t tonkelvi_start_writer(
 /* The same for a reader; `planes` is to be an empty list. */
 uint32_t tonkelvi_start_reader(
     uint32_t count,
-    uint32_t across0, uint32_t down0, uint32_t planes0,
-    uint32_t across1, uint32_t down1, uint32_t planes1,
-    uint32_t across2, uint32_t down2, uint32_t planes2,
+    const uint32_t *bands, size_t n_bands,
     uint8_t style,
     const uint32_t *planes, size_t n_planes,
     uint32_t *state, size_t n_state);
 
-/* Measures the next packet of a writer, which is not written: the state stays, and scratch, a list as long as the state, gets the
- * state after the packet. `counts` has each block's passes in this layer; `lengths` and `marks`, block by block, each pass's bytes
- * and whether it is terminated (not 0). `sop` and `eph` say whether the markers are used.
+/* Measures the next packet of a writer, which is not written: the state stays. `counts` has each block's passes in this layer; `lengths`
+ * and `marks`, block by block, each pass's bytes and whether it is terminated (not 0). `sop` and `eph` say whether the markers are used.
  * answer, 2 words: header bytes with markers, body bytes. Refusals: 5, 6, 3, 7, 8, 9. */
 uint32_t tonkelvi_measure(
     const uint32_t *state, size_t n_state,
@@ -92,7 +120,7 @@ uint32_t tonkelvi_measure(
     uint64_t *answer, size_t n_answer);
 
 /* Writes the next packet to the front of `output`: SOP with the low 16 bits of `number`, header, EPH, body. Output after it is
- * unchanged; state and scratch get the state after the packet.
+ * unchanged.
  * answer, 1 word: the packet's bytes. Refusals: 5, 6, 3, 7, 8, 9, 10, 11. */
 uint32_t tonkelvi_write(
     uint32_t *state, size_t n_state,
@@ -113,12 +141,13 @@ struct tonkelvi_segment {
     uint32_t bytes;
 };
 
-/* Reads the next packet's markers and header from the front of `src`. State and scratch get the state after the packet.
+/* Reads the next packet's markers and header from the front of `src`.
  * reports, 4 words a block: 0 absent, 1 first time, 2 again; zero planes; block planes; passes. Planes are 0 unless the first is 1.
- * records: the packet's segments, in order, at the front of the list; the structs after them are unchanged. 164 records a block are
- * always enough.
- * numbers: a work list of exactly 4 words for each struct of `records`, with any content. Where the call gives 0 the words at its front
- * are those of the segments, field by field, and the others are unchanged.
+ * records: the packet's segments, in order, at the front of the list; the structs after them are unchanged. Always enough for each block
+ * are 3 where the style has neither bit 0x01 nor 0x04, 110 with 0x01 alone, and 164 with 0x04.
+ * work: a list of exactly 4 words for each struct of `records`, with any content. It must be lent because the engine allocates nothing:
+ * it collects the segments there, and fills the structs from it once the header has been read without a refusal. Then the words at its
+ * front are those of the segments, field by field, and the others are unchanged.
  * answer, 5 words: 1 if the packet is present, or else 0; bytes taken with markers; segments; SOP mark; EPH mark. A mark is 0 in order
  * or not used, 1 too few bytes, 2 not found. Refusals: 5, 6, 3, then 9 before 13 at each segment, then 12. */
 uint32_t tonkelvi_read(
@@ -127,8 +156,14 @@ uint32_t tonkelvi_read(
     const uint8_t *src, size_t n_src,
     bool sop, bool eph,
     uint32_t *reports, size_t n_reports,
-    uint32_t *numbers, size_t n_numbers,
+    uint32_t *work, size_t n_work,
     struct tonkelvi_segment *records, size_t n_records,
+    uint64_t *answer, size_t n_answer);
+
+/* Tells what a state is. answer, 3 words: role, next layer, blocks. Refusals: 5, where the state is neither a writer's nor a reader's
+ * in range. */
+uint32_t tonkelvi_describe(
+    const uint32_t *state, size_t n_state,
     uint64_t *answer, size_t n_answer);
 
 #ifdef __cplusplus

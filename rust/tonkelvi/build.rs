@@ -1,4 +1,4 @@
-//! Finds the engine's static library, libcapi.a: in the folder that TONKELVI_LIB names, or else by `rt staticlib capi` at the
+//! Finds the engine's static library, libtonkelvi.a: in the folder that TONKELVI_LIB names, or else by `rt staticlib tonkelvi` at the
 //! repository's root, which proves what isn't proved yet and needs Rattle's kit.
 use std::path::{Path, PathBuf};
 use std::process::Command;
@@ -9,11 +9,11 @@ fn main() {
         Some(folder) => PathBuf::from(folder),
         None => build(),
     };
-    let folder = folder.canonicalize().expect("the folder of libcapi.a");
-    println!("cargo:rerun-if-changed={}", folder.join("libcapi.a").display());
+    let folder = folder.canonicalize().expect("the folder of libtonkelvi.a");
+    println!("cargo:rerun-if-changed={}", folder.join("libtonkelvi.a").display());
     println!("cargo:rustc-env=TONKELVI_FOLDER={}", folder.display());
     println!("cargo:rustc-link-search=native={}", folder.display());
-    println!("cargo:rustc-link-lib=static=capi");
+    println!("cargo:rustc-link-lib=static=tonkelvi");
 }
 
 fn build() -> PathBuf {
@@ -23,9 +23,9 @@ fn build() -> PathBuf {
     // `rt staticlib` proves one crate after another; `rt check` proves those that the library depends on on all cores.
     let crates = std::fs::read_to_string(root.join("crates.txt")).expect("crates.txt");
     let mut words = vec!["check"];
-    words.extend(dependencies(&crates, "capi"));
+    words.extend(dependencies(&crates, "tonkelvi"));
     rt(&root, &words);
-    rt(&root, &["staticlib", "capi"]);
+    rt(&root, &["staticlib", "tonkelvi"]);
     root.join("target/staticlib")
 }
 
@@ -40,6 +40,6 @@ fn rt(root: &Path, words: &[&str]) {
     match Command::new("rt").args(words).current_dir(root).status() {
         Ok(status) if status.success() => {}
         Ok(status) => panic!("`rt {}` ended with {status}", words.join(" ")),
-        Err(error) => panic!("`rt` could not be run ({error}); set TONKELVI_LIB to the folder that holds libcapi.a"),
+        Err(error) => panic!("`rt` could not be run ({error}); set TONKELVI_LIB to the folder that holds libtonkelvi.a"),
     }
 }

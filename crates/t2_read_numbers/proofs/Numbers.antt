@@ -1,4 +1,4 @@
--- The read into numbers: what it gives where the work list has the length asked, and where not.
+-- The read on the work list: what it gives where the work list has the length asked, and where not.
 use mathlib.Core.Path.{_≡_, sym, _∙_}
 use mathlib.Core.Logic.{_≢_}
 use mathlib.Core.Bool.{true, false}
@@ -14,8 +14,9 @@ use Rattle.t800.specs.State.{reader, layer, notYetIncluded}
 use Rattle.t800.specs.Ranges.{validState}
 use Rattle.t800.specs.Packet.{read}
 use Rattle.t800.proofs.Laws.Tests.{on-eq}
-use Rattle.t2_read_numbers.specs.Reading.{wrongListNumber, wrongList, readNumbers, toFill}
 use Rattle.t800.specs.Reports.{recordWidth}
+use Rattle.t800.specs.Exports.{workRefusal}
+use Rattle.t2_read_numbers.specs.Reading.{wrongWork, readNumbers, toFill}
 
 -- ---- four words for each record
 
@@ -30,29 +31,29 @@ four-each words room e = on-eq (words % 4) 0
 -- ---- the numbers before it
 
 module _ (ws scratch : List ℕ) where
-  pub wrong-5 : validState reader ws (length scratch) ≡ false → 5 ≡ wrongListNumber ws scratch
-  unfolding wrongListNumber
+  pub wrong-5 : validState reader ws (length scratch) ≡ false → 5 ≡ workRefusal ws scratch
+  unfolding workRefusal
   wrong-5 e = rw e
 
   module _ (valid : validState reader ws (length scratch) ≡ true) where
-    pub wrong-6 : layer ws ≡ notYetIncluded → 6 ≡ wrongListNumber ws scratch
-    unfolding wrongListNumber
+    pub wrong-6 : layer ws ≡ notYetIncluded → 6 ≡ workRefusal ws scratch
+    unfolding workRefusal
     wrong-6 e = rw (valid, eq-eqb (layer ws) notYetIncluded e)
 
-    pub wrong-3 : layer ws ≢ notYetIncluded → 3 ≡ wrongListNumber ws scratch
-    unfolding wrongListNumber
+    pub wrong-3 : layer ws ≢ notYetIncluded → 3 ≡ workRefusal ws scratch
+    unfolding workRefusal
     wrong-3 e = rw (valid, ne-eqb (layer ws) notYetIncluded e)
 
 -- ---- the read
 
-module _ (ws scratch : List ℕ) (m : Markers) (src reports numbers : List ℕ) (room : ℕ) where
-  pub numbers-refused : eqb (length numbers) (recordWidth * room) ≡ false → readNumbers ws scratch m src reports numbers room
-      ≡ wrongList ws scratch reports numbers
+module _ (ws scratch : List ℕ) (m : Markers) (src reports work : List ℕ) (room : ℕ) where
+  pub numbers-refused : eqb (length work) (recordWidth * room) ≡ false → readNumbers ws scratch m src reports work room
+      ≡ wrongWork ws scratch reports work
   unfolding readNumbers
   numbers-refused e = rw e
 
-  pub numbers-read : eqb (length numbers) (recordWidth * room) ≡ true → readNumbers ws scratch m src reports numbers room
-      ≡ read ws scratch m src reports numbers
+  pub numbers-read : eqb (length work) (recordWidth * room) ≡ true → readNumbers ws scratch m src reports work room
+      ≡ read ws scratch m src reports work
   unfolding readNumbers
   numbers-read e = rw e
 

@@ -1,12 +1,13 @@
-// The read on numbers with room for so many records, and how many records are then to be stored.
+// The read on the work list with room for so many records, and how many records are then to be stored.
 ghost use mathlib.Core.Path.{_≡_};
 ghost use Prim.Native.Nat.{_*_};
 ghost use lib.Dec.{eqb};
 ghost use Rattle.t800.specs.Packet.{readResult};
-ghost use Rattle.t2_read_numbers.specs.Reading.{wrongListNumber, readNumbers, toFill};
+ghost use Rattle.t800.specs.Reports.{recordWidth};
+ghost use Rattle.t800.specs.Exports.{workRefusal};
+ghost use Rattle.t2_read_numbers.specs.Reading.{readNumbers, toFill};
 use t800::Markers;
 use t800::ReadAnswer;
-ghost use Rattle.t800.specs.Reports.{recordWidth};
 
 // Four words for each record.
 fn four_each(words: usize, room: usize) -> bool
@@ -19,8 +20,8 @@ fn four_each(words: usize, room: usize) -> bool
 }
 
 // 5 and 6 are looked for before the list's 3.
-fn wrong_list(state: &[u32], scratch: &[u32]) -> u32
-    ensures { λ r. ⌜ r ≡ wrongListNumber (now (state .entry)) (now (scratch .entry)) ⌝ }
+fn work_refusal(state: &[u32], scratch: &[u32]) -> u32
+    ensures { λ r. ⌜ r ≡ workRefusal (now (state .entry)) (now (scratch .entry)) ⌝ }
 {
     if !tcd_state::valid_state(tcd_style::READER, state, scratch.len()) {
         return t2_read_refusals::BAD_STATE;
@@ -31,23 +32,23 @@ fn wrong_list(state: &[u32], scratch: &[u32]) -> u32
     t2_read_refusals::WRONG_LIST
 }
 
-// The read into numbers, which must be four for each record that there is room for.
+// The read into the work list, which must have four words for each record that there is room for.
 pub fn read_numbers(
     state: &mut [u32],
     scratch: &mut [u32],
     src: &[u8],
     markers: Markers,
     reports: &mut [u32],
-    numbers: &mut [u32],
+    work: &mut [u32],
     room: usize,
 ) -> ReadAnswer
-    ensures { λ r. ⌜ readResult (now (state .exit)) (now (scratch .exit)) (now (reports .exit)) (now (numbers .exit)) r
+    ensures { λ r. ⌜ readResult (now (state .exit)) (now (scratch .exit)) (now (reports .exit)) (now (work .exit)) r
         ≡ readNumbers (now (state .entry)) (now (scratch .entry)) markers (now (src .entry)) (now (reports .entry))
-        (now (numbers .entry)) room ⌝ }
+        (now (work .entry)) room ⌝ }
 {
-    if !four_each(numbers.len(), room) {
+    if !four_each(work.len(), room) {
         return ReadAnswer {
-            refusal: wrong_list(state, scratch),
+            refusal: work_refusal(state, scratch),
             present: 0,
             taken: 0,
             segments: 0,
@@ -55,7 +56,7 @@ pub fn read_numbers(
             eph: 0,
         };
     }
-    t2_read_packet::read(state, scratch, src, markers, reports, numbers)
+    t2_read_packet::read(state, scratch, src, markers, reports, work)
 }
 
 // How many records a read stores: as many as it found, all where it wiped them, and none where it changed nothing.

@@ -4,8 +4,9 @@ use mathlib.Core.List.{List, [], _∷_, _++_}
 use Prim.Native.Nat.{ℕ, zero, suc, _+_, _*_, _≤_}
 use native.Mathlib.Omega.{arith}
 use lib.ListN.{length, getD, set, length-set, take, drop}
-use Rattle.t2_records.specs.declared.Segment.{Segment}
-use Rattle.t2_records.specs.Segments.{wordsOf, segmentAt, stored, filled}
+use Rattle.t800.specs.declared.Segment.{Segment}
+use Rattle.t800.specs.Exports.{wordsOf}
+use Rattle.t2_records.specs.Segments.{segmentAt, stored, filled}
 
 module _ (f : ℕ → Segment) where
   pub stored-none : (rs : List Segment) → stored f 0 rs ≡ rs

@@ -1,13 +1,8 @@
--- Segment records as structs and as numbers, four to a record.
-use mathlib.Core.List.{List, [], _∷_}
+-- Segment records stored from numbers, four to a record.
+use mathlib.Core.List.{List}
 use Prim.Native.Nat.{ℕ, zero, suc, _+_, _*_}
 use lib.ListN.{getD, set}
-use Rattle.t2_records.specs.declared.Segment.{Segment}
-
--- the order of t800's `recordWords`
-unfoldable pub wordsOf : List Segment → List ℕ
-wordsOf [] = []
-wordsOf (s ∷ ss) = s .block ∷ s .opens ∷ s .passes ∷ s .bytes ∷ wordsOf ss
+use Rattle.t800.specs.declared.Segment.{Segment}
 
 -- record i of the numbers; past the end they are 0
 unfoldable pub segmentAt : List ℕ → ℕ → Segment

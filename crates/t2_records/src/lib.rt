@@ -3,15 +3,7 @@ ghost use mathlib.Core.Path.{_≡_};
 ghost use Prim.Native.Nat.{_≤_, _+_, _*_};
 ghost use lib.ListN.{set, getD};
 ghost use Rattle.t2_records.specs.Segments.{segmentAt, filled};
-
-// Block number; 1 if the record opens a segment, else 0; passes; length.
-#[repr(C)]
-pub struct Segment {
-    pub block: u32,
-    pub opens: u32,
-    pub passes: u32,
-    pub bytes: u32,
-}
+use t800::Segment;
 
 // A record is stored where there is room for it.
 pub fn put_segment(records: &mut [Segment], at: usize, s: Segment)

@@ -16,3 +16,4 @@ pub mod Interface
 pub mod Book
 pub mod Numbers
 pub mod RoundTrip
+pub mod Exports

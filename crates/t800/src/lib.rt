@@ -47,6 +47,15 @@ pub struct ReadAnswer {
     pub eph: u32,
 }
 
+// A segment record as a struct: block number; 1 if it opens a segment, else 0; passes; length.
+#[repr(C)]
+pub struct Segment {
+    pub block: u32,
+    pub opens: u32,
+    pub passes: u32,
+    pub bytes: u32,
+}
+
 // The refusals of SCOPE S4.
 pub struct Refusal {
     pub number: u32,

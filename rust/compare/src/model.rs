@@ -74,15 +74,22 @@ fn shape_refused(count: u32, bands: &[[u32; 3]; 3]) -> bool {
     count < 1 || count > 3 || bands[..count as usize].iter().any(|b| b[0] > 64 || b[1] > 64)
 }
 
-pub fn state_length(count: u32, bands: &[[u32; 3]; 3]) -> usize {
-    match shape_refused(count, bands) {
-        true => 0,
-        false => layout(&bands[..count as usize]).1,
+/// The three bands of nine words.
+fn three(bands: &[u32]) -> Option<[[u32; 3]; 3]> {
+    let nine: [u32; 9] = bands.try_into().ok()?;
+    Some([0, 3, 6].map(|i| [nine[i], nine[i + 1], nine[i + 2]]))
+}
+
+pub fn state_length(count: u32, bands: &[u32]) -> usize {
+    match three(bands) {
+        Some(bands) if !shape_refused(count, &bands) => layout(&bands[..count as usize]).1,
+        _ => 0,
     }
 }
 
-fn start(role: u32, count: u32, bands: &[[u32; 3]; 3], style: u8, planes: &[u32], state: &mut [u32]) -> u32 {
-    if shape_refused(count, bands) {
+fn start(role: u32, count: u32, bands: &[u32], style: u8, planes: &[u32], state: &mut [u32]) -> u32 {
+    let Some(bands) = three(bands) else { return 3 };
+    if shape_refused(count, &bands) {
         return 1;
     }
     if style & 0xc0 != 0 {
@@ -117,11 +124,11 @@ fn start(role: u32, count: u32, bands: &[[u32; 3]; 3], style: u8, planes: &[u32]
     0
 }
 
-pub fn start_writer(count: u32, bands: &[[u32; 3]; 3], style: u8, planes: &[u32], state: &mut [u32]) -> u32 {
+pub fn start_writer(count: u32, bands: &[u32], style: u8, planes: &[u32], state: &mut [u32]) -> u32 {
     start(WRITER, count, bands, style, planes, state)
 }
 
-pub fn start_reader(count: u32, bands: &[[u32; 3]; 3], style: u8, planes: &[u32], state: &mut [u32]) -> u32 {
+pub fn start_reader(count: u32, bands: &[u32], style: u8, planes: &[u32], state: &mut [u32]) -> u32 {
     start(READER, count, bands, style, planes, state)
 }
 
@@ -570,7 +577,7 @@ pub fn read(
     sop: bool,
     eph: bool,
     reports: &mut [u32],
-    numbers: &mut [u32],
+    work: &mut [u32],
     records: &mut [[u32; 4]],
     answer: &mut [u64],
 ) -> u32 {
@@ -585,7 +592,7 @@ pub fn read(
         return 6;
     }
     let blocks = layout(&bands_of(state)).2;
-    if reports.len() != 4 * blocks || numbers.len() != 4 * records.len() {
+    if reports.len() != 4 * blocks || work.len() != 4 * records.len() {
         return 3;
     }
     let (sop_mark, skipped) = marker(sop, src, 0, 6, 0x91);
@@ -611,7 +618,7 @@ pub fn read(
     if refusal != 0 {
         scratch.fill(0);
         reports.fill(0);
-        numbers.fill(0);
+        work.fill(0);
         records.fill([0; 4]);
         return refusal;
     }
@@ -620,8 +627,20 @@ pub fn read(
     state.copy_from_slice(&words);
     scratch.copy_from_slice(&words);
     reports.copy_from_slice(told.reports.as_flattened());
-    numbers[..4 * told.records.len()].copy_from_slice(told.records.as_flattened());
+    work[..4 * told.records.len()].copy_from_slice(told.records.as_flattened());
     records[..told.records.len()].copy_from_slice(&told.records);
     answer.copy_from_slice(&[u64::from(present), (end + after) as u64, told.records.len() as u64, sop_mark, eph_mark]);
+    0
+}
+
+pub fn describe(state: &[u32], answer: &mut [u64]) -> u32 {
+    if answer.len() != 3 {
+        return 3;
+    }
+    answer.fill(0);
+    if !in_range(WRITER, state, state.len()) && !in_range(READER, state, state.len()) {
+        return 5;
+    }
+    answer.copy_from_slice(&[u64::from(state[0]), u64::from(state[3]), layout(&bands_of(state)).2 as u64]);
     0
 }

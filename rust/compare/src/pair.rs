@@ -6,6 +6,8 @@ use tonkelvi::words;
 
 pub type Bands = [[u32; 3]; 3];
 
+type Start = fn(u32, &[u32], u8, &[u32], &mut [u32]) -> u32;
+
 /// What the lists held before a call is written over by it; these are the words that no call is to keep by chance.
 const USED: u32 = 0xdead_beef;
 const USED_RECORD: [u32; 4] = [0xfeed_0001, 0xfeed_0002, 0xfeed_0003, 0xfeed_0004];
@@ -18,22 +20,24 @@ pub enum Call {
     Measure,
     Write,
     Read,
+    Describe,
 }
 
-pub const CALLS: [(Call, &str); 6] = [
+pub const CALLS: [(Call, &str); 7] = [
     (Call::Length, "state_length"),
     (Call::StartWriter, "start_writer"),
     (Call::StartReader, "start_reader"),
     (Call::Measure, "measure"),
     (Call::Write, "write"),
     (Call::Read, "read"),
+    (Call::Describe, "describe"),
 ];
 
 /// How many calls gave which number, and how many of them the crate was asked too.
 #[derive(Clone, Default)]
 pub struct Counts {
-    pub by_number: [[u64; 14]; 6],
-    pub with_crate: [[u64; 14]; 6],
+    pub by_number: [[u64; 14]; 7],
+    pub with_crate: [[u64; 14]; 7],
 }
 
 impl Counts {
@@ -100,7 +104,7 @@ impl Pair {
         self.counts.with_crate[call as usize][number as usize] += u64::from(with_crate);
     }
 
-    pub fn state_length(&mut self, count: u32, bands: &Bands) -> usize {
+    pub fn state_length(&mut self, count: u32, bands: &[u32]) -> usize {
         let engine = words::state_length(count, bands);
         same("lengths", &engine, &model::state_length(count, bands), &|| format!("{count} {bands:?}"));
         self.count(Call::Length, 0, false);
@@ -108,15 +112,15 @@ impl Pair {
     }
 
     /// A start with a state of so many words. Gives the state where it was filled.
-    pub fn start(&mut self, writer: bool, count: u32, bands: &Bands, style: u8, planes: &[u32], length: usize) -> Option<Vec<u32>> {
+    pub fn start(&mut self, writer: bool, count: u32, bands: &[u32], style: u8, planes: &[u32], length: usize) -> Option<Vec<u32>> {
         let mut state = vec![USED; length];
         let mut expected = state.clone();
-        let (call, engine, model): (_, fn(_, &_, _, &_, &mut _) -> _, fn(_, &_, _, &_, &mut _) -> _) = match writer {
+        let (call, engine, model): (_, Start, Start) = match writer {
             true => (Call::StartWriter, words::start_writer, model::start_writer),
             false => (Call::StartReader, words::start_reader, model::start_reader),
         };
-        let number = engine(count, bands, style, planes, &mut state[..]);
-        let should = model(count, bands, style, planes, &mut expected[..]);
+        let number = engine(count, bands, style, planes, &mut state);
+        let should = model(count, bands, style, planes, &mut expected);
         let text = || format!("start writer {writer} {count} {bands:?} style {style} planes {planes:?} length {length}");
         same("numbers", &number, &should, &text);
         same("states", &state, &expected, &text);
@@ -211,12 +215,12 @@ impl Pair {
         src: &[u8],
         markers: Markers,
         reports: usize,
-        numbers: usize,
+        work: usize,
         records: usize,
         answer: usize,
     ) -> (u32, Vec<u64>) {
         let before = state.clone();
-        let mut buffers = (vec![USED; scratch], vec![USED; reports], vec![USED; numbers], vec![u64::MAX; answer]);
+        let mut buffers = (vec![USED; scratch], vec![USED; reports], vec![USED; work], vec![u64::MAX; answer]);
         let mut expected = buffers.clone();
         let mut expected_state = state.clone();
         let mut lent = vec![segment(USED_RECORD); records];
@@ -237,7 +241,7 @@ impl Pair {
         let text = || {
             format!(
                 "read {before:?} scratch {scratch} {src:02x?} {markers:?} \
-                 reports {reports} numbers {numbers} records {records} answer {answer}"
+                 reports {reports} work {work} records {records} answer {answer}"
             )
         };
         let lent: Vec<[u32; 4]> = lent.iter().map(record).collect();
@@ -249,6 +253,19 @@ impl Pair {
         let with_crate = matches!(number, 0 | 9 | 12) && crate_reads(&before, src, markers, told, &text);
         self.count(Call::Read, number, with_crate);
         (number, buffers.3)
+    }
+
+    /// What a state is, with an answer of so many words.
+    pub fn describe(&mut self, state: &[u32], answer: usize) -> (u32, Vec<u64>) {
+        let mut told = vec![u64::MAX; answer];
+        let mut expected = told.clone();
+        let number = words::describe(state, &mut told);
+        let should = model::describe(state, &mut expected);
+        let text = || format!("describe {state:?} answer {answer}");
+        same("numbers", &number, &should, &text);
+        same("answers", &told, &expected, &text);
+        self.count(Call::Describe, number, false);
+        (number, told)
     }
 }
 
@@ -278,9 +295,9 @@ fn in_domain(state: &[u32]) -> bool {
             let leaf = |p: &model::Place, i: usize| state[p.zero_planes + 3 * i];
             let planes: Vec<u32> =
                 places.iter().zip(&used).flat_map(|(p, band)| (0..p.blocks).map(move |i| band[2].wrapping_sub(leaf(p, i)))).collect();
-            model::start_writer(state[1], &bands, state[2] as u8, &planes, &mut started)
+            model::start_writer(state[1], bands.as_flattened(), state[2] as u8, &planes, &mut started)
         }
-        _ => model::start_reader(state[1], &bands, state[2] as u8, &[], &mut started),
+        _ => model::start_reader(state[1], bands.as_flattened(), state[2] as u8, &[], &mut started),
     };
     number == 0 && started == state
 }

@@ -27,9 +27,9 @@ impl Trials {
     }
 
     fn start(&mut self, writer: bool, shape: &Shape) -> Vec<u32> {
-        let length = self.pair.state_length(shape.count, &shape.bands);
+        let length = self.pair.state_length(shape.count, shape.bands.as_flattened());
         let planes = if writer { &shape.planes[..] } else { &[] };
-        self.pair.start(writer, shape.count, &shape.bands, shape.style, planes, length).expect("a shape in range")
+        self.pair.start(writer, shape.count, shape.bands.as_flattened(), shape.style, planes, length).expect("a shape in range")
     }
 
     fn read(&mut self, state: &mut Vec<u32>, src: &[u8], markers: Markers, records: usize) -> u32 {
@@ -39,7 +39,7 @@ impl Trials {
 
     // ---- starts
 
-    /// Starts with any numbers, most of them near an edge.
+    /// Starts with any numbers, most of them near an edge, some with a list of bands of another length than nine words.
     pub fn starts(&mut self, calls: u64) {
         self.until(calls, |t| {
             let shape = inputs::shape(&mut t.random, 5);
@@ -57,11 +57,15 @@ impl Trials {
                     _ => {}
                 }
             }
-            let length = t.pair.state_length(count, &bands);
+            let mut words = bands.as_flattened().to_vec();
+            if t.random.once_in(8) {
+                words.resize(t.random.pick(&[0, 8, 10]), 1);
+            }
+            let length = t.pair.state_length(count, &words);
             let lent = (length as u64 + if t.random.once_in(4) { t.random.below(3) } else { 1 }).saturating_sub(1) as usize;
-            t.pair.start(true, count, &bands, style, &planes, lent);
+            t.pair.start(true, count, &words, style, &planes, lent);
             let none = if t.random.once_in(8) { &planes[..] } else { &[] };
-            t.pair.start(false, count, &bands, style, none, lent);
+            t.pair.start(false, count, &words, style, none, lent);
         });
     }
 
@@ -125,6 +129,7 @@ impl Trials {
             let shape = inputs::shape(&mut t.random, 3);
             t.states_written(&shape);
             t.states_read(&shape);
+            t.states_described(&shape);
         });
     }
 
@@ -155,9 +160,22 @@ impl Trials {
         for mut state in [damaged, state] {
             let (length, src) = (state.len(), inputs::noise(&mut self.random));
             let other = self.random.once_in(2);
-            let numbers = self.near(400, other);
-            self.pair.read(&mut state, length, &src, markers, 4 * shape.planes.len(), numbers, 100, 5);
+            let work = self.near(400, other);
+            self.pair.read(&mut state, length, &src, markers, 4 * shape.planes.len(), work, 100, 5);
         }
+    }
+
+    fn states_described(&mut self, shape: &Shape) {
+        let role = self.random.between(0, 3) as u32;
+        let state = inputs::state(&mut self.random, role, shape);
+        let damaged = inputs::damaged_state(&mut self.random, &state);
+        for state in [state, damaged] {
+            let other = self.random.once_in(8);
+            let answer = self.near(3, other);
+            self.pair.describe(&state, answer);
+        }
+        let short = self.random.below(13) as usize;
+        self.pair.describe(&vec![1; short], 3);
     }
 
     // ---- lists of other lengths
@@ -227,8 +245,8 @@ impl Trials {
         let answer = self.near(5, list == 4);
         let records = self.random.below(10) as usize;
         let other = list == 1 || self.random.once_in(4);
-        let numbers = self.near(4 * records, other);
-        self.pair.read(&mut state, scratch, &src, markers, reports, numbers, records, answer);
+        let work = self.near(4 * records, other);
+        self.pair.read(&mut state, scratch, &src, markers, reports, work, records, answer);
     }
 
     // ---- every short input, every count

@@ -143,7 +143,7 @@ fn again(writer: &mut Writer, kept: &Kept, file: &[u8]) -> Result<(), (Message, 
     let (before, body) = bytes.split_at(bytes.len() - kept.packet.body() as usize);
     let header = kept.packed.as_deref().unwrap_or(before);
     if !kept.packet.present {
-        *writer = passed_over(writer);
+        *writer = passed_over(writer).map_err(refused)?;
         let first = if kept.markers.sop { header.get(6) } else { header.first() };
         return Err(if first == Some(&0) { (Message::SingleBit, None) } else { (Message::Differs, Some(kept.bytes.start)) });
     }
@@ -163,7 +163,7 @@ fn refused(refusal: Refusal) -> (Message, Option<usize>) {
 }
 
 /// The writer at the next layer with its trees as they are, as a single 0 bit leaves them.
-fn passed_over(writer: &Writer) -> Writer {
+fn passed_over(writer: &Writer) -> Result<Writer, Refusal> {
     let mut state = writer.state().to_vec();
     state[3] += 1;
     Writer::from_state(state)

@@ -18,14 +18,14 @@
 //! ```
 //!
 //! The static library is linked by build.rs: from the folder that the environment variable `TONKELVI_LIB` names, or else it is built by
-//! `rt staticlib capi`.
+//! `rt staticlib tonkelvi`.
 
 mod reader;
 mod refusal;
 pub mod words;
 mod writer;
 
-pub use reader::{Block, Mark, Packet, Reader, Segment};
+pub use reader::{most_segments, Block, Mark, Packet, Reader, Segment};
 pub use refusal::Refusal;
 pub use writer::{Contribution, Measured, Writer};
 
@@ -49,11 +49,26 @@ impl Markers {
     pub const BOTH: Markers = Markers { sop: true, eph: true };
 }
 
-/// Count and numbers of the bands as the calls on words take them. More than three give a count that every start refuses.
-fn band_words(bands: &[Band]) -> (u32, words::Bands) {
-    let mut three = words::Bands::default();
-    for (row, band) in three.iter_mut().zip(bands) {
-        *row = [band.across, band.down, band.planes];
+/// Count and words of the bands as the calls on words take them. More than three give a count that every start refuses.
+fn band_words(bands: &[Band]) -> (u32, [u32; 9]) {
+    let mut words = [0; 9];
+    for (row, band) in words.chunks_exact_mut(3).zip(bands) {
+        row.copy_from_slice(&[band.across, band.down, band.planes]);
     }
-    (bands.len().min(4) as u32, three)
+    (bands.len().min(4) as u32, words)
+}
+
+/// The roles of a state.
+const WRITER: u64 = 1;
+const READER: u64 = 2;
+
+/// The next layer and the blocks of a state of this role; refused where it is another's or out of range.
+fn described(state: &[u32], role: u64) -> Result<(u32, usize), Refusal> {
+    let mut answer = [0; 3];
+    refusal::checked(words::describe(state, &mut answer))?;
+    let [is, layer, blocks] = answer;
+    if is != role {
+        return Err(Refusal::State);
+    }
+    Ok((layer as u32, blocks as usize))
 }

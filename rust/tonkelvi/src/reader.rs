@@ -1,6 +1,6 @@
 //! Reading packet headers.
 use crate::refusal::checked;
-use crate::{band_words, words, Band, Markers, Refusal};
+use crate::{band_words, described, words, Band, Markers, Refusal, READER};
 
 /// How a marker was found.
 #[derive(Clone, Copy, PartialEq, Eq, Debug)]
@@ -71,12 +71,19 @@ pub struct Reader {
     scratch: Vec<u32>,
     reports: Vec<u32>,
     /// The engine's work list, four words for each record.
-    numbers: Vec<u32>,
+    work: Vec<u32>,
     records: Vec<words::Segment>,
 }
 
-/// A block has at most so many segments in one layer: one for each pass.
-const MOST_SEGMENTS: usize = 164;
+/// Records for each block that are always enough for one packet, by the style: 164 passes touch at most 3 segments of 109 passes, 110 of
+/// the segments of 10, 2, 1, 2, 1 and so on, and 164 of one pass.
+pub fn most_segments(style: u32) -> usize {
+    match (style & 0x04 != 0, style & 0x01 != 0) {
+        (true, _) => 164,
+        (false, true) => 110,
+        (false, false) => 3,
+    }
+}
 
 impl Reader {
     /// A reader at layer 0.
@@ -84,16 +91,16 @@ impl Reader {
         let (count, bands) = band_words(bands);
         let mut state = vec![0; words::state_length(count, &bands)];
         checked(words::start_reader(count, &bands, style, &[], &mut state))?;
-        Ok(Reader::from_state(state))
+        Reader::from_state(state)
     }
 
-    /// A reader that goes on from a state kept earlier. Whether the words are in range is looked at by each call.
-    pub fn from_state(state: Vec<u32>) -> Reader {
-        let blocks = blocks_in(&state);
-        let scratch = vec![0; state.len()];
-        let (reports, numbers) = (vec![0; 4 * blocks], vec![0; 4 * blocks]);
-        let records = vec![words::Segment::default(); blocks];
-        Reader { state, scratch, reports, numbers, records }
+    /// A reader that goes on from a state kept earlier; refused unless that is a reader's in range.
+    pub fn from_state(state: Vec<u32>) -> Result<Reader, Refusal> {
+        let (_, blocks) = described(&state, READER)?;
+        let mut reader =
+            Reader { scratch: vec![0; state.len()], state, reports: vec![0; 4 * blocks], work: Vec::new(), records: Vec::new() };
+        reader.lend(most_segments(0) * blocks);
+        Ok(reader)
     }
 
     /// The state's words.
@@ -103,7 +110,16 @@ impl Reader {
 
     /// The layer that the next packet is of.
     pub fn next_layer(&self) -> u32 {
-        self.state.get(3).copied().unwrap_or(0)
+        self.described().0
+    }
+
+    /// The number of blocks.
+    pub fn blocks(&self) -> usize {
+        self.described().1
+    }
+
+    fn described(&self) -> (u32, usize) {
+        described(&self.state, READER).expect("a start or from_state has filled it, and calls keep it in range")
     }
 
     /// Reads the next packet's header from the front of `src`.
@@ -126,21 +142,24 @@ impl Reader {
             markers.sop,
             markers.eph,
             &mut self.reports,
-            &mut self.numbers,
+            &mut self.work,
             &mut self.records,
             &mut answer,
         ))?;
         Ok(answer)
     }
 
-    /// Lends twice the records, up to the most that a packet can have; false if there were so many already.
+    /// Lends as many records as are always enough; false if there were so many already.
     fn lend_more(&mut self) -> bool {
-        let most = self.reports.len() / 4 * MOST_SEGMENTS;
-        let more = self.records.len().saturating_mul(2).min(most);
-        let grows = self.records.len() < more;
-        self.records.resize(more, words::Segment::default());
-        self.numbers.resize(4 * more, 0);
+        let most = self.reports.len() / 4 * most_segments(self.state[2]);
+        let grows = self.records.len() < most;
+        self.lend(most);
         grows
+    }
+
+    fn lend(&mut self, records: usize) {
+        self.records.resize(records, words::Segment::default());
+        self.work.resize(4 * records, 0);
     }
 
     fn packet(&self, [present, taken, segments, sop, eph]: [u64; 5]) -> Packet {
@@ -153,13 +172,6 @@ impl Reader {
             segments: self.records.iter().take(segments as usize).map(segment).collect(),
         }
     }
-}
-
-/// The blocks of the bands that a state names; 0 where a side is out of range.
-fn blocks_in(state: &[u32]) -> usize {
-    let bands = state.get(4..13).unwrap_or(&[]).chunks_exact(3);
-    let count = state.get(1).copied().unwrap_or(0) as usize;
-    bands.take(count).map(|band| if band[0] <= 64 && band[1] <= 64 { (band[0] * band[1]) as usize } else { 0 }).sum()
 }
 
 fn mark(word: u64) -> Mark {

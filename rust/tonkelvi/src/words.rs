@@ -16,29 +16,11 @@ mod exported {
     use super::Segment;
 
     extern "C" {
-        pub fn tonkelvi_state_length(
-            count: u32,
-            across0: u32,
-            down0: u32,
-            planes0: u32,
-            across1: u32,
-            down1: u32,
-            planes1: u32,
-            across2: u32,
-            down2: u32,
-            planes2: u32,
-        ) -> usize;
+        pub fn tonkelvi_state_length(count: u32, bands: *const u32, n_bands: usize) -> usize;
         pub fn tonkelvi_start_writer(
             count: u32,
-            across0: u32,
-            down0: u32,
-            planes0: u32,
-            across1: u32,
-            down1: u32,
-            planes1: u32,
-            across2: u32,
-            down2: u32,
-            planes2: u32,
+            bands: *const u32,
+            n_bands: usize,
             style: u8,
             planes: *const u32,
             n_planes: usize,
@@ -47,15 +29,8 @@ mod exported {
         ) -> u32;
         pub fn tonkelvi_start_reader(
             count: u32,
-            across0: u32,
-            down0: u32,
-            planes0: u32,
-            across1: u32,
-            down1: u32,
-            planes1: u32,
-            across2: u32,
-            down2: u32,
-            planes2: u32,
+            bands: *const u32,
+            n_bands: usize,
             style: u8,
             planes: *const u32,
             n_planes: usize,
@@ -110,42 +85,32 @@ mod exported {
             eph: bool,
             reports: *mut u32,
             n_reports: usize,
-            numbers: *mut u32,
-            n_numbers: usize,
+            work: *mut u32,
+            n_work: usize,
             records: *mut Segment,
             n_records: usize,
             answer: *mut u64,
             n_answer: usize,
         ) -> u32;
+        pub fn tonkelvi_describe(state: *const u32, n_state: usize, answer: *mut u64, n_answer: usize) -> u32;
     }
 }
 
-/// Across, down and planes of each of three bands.
-pub type Bands = [[u32; 3]; 3];
-
-/// The words of a state for these bands, or 0 where a start would give refusal 1.
-pub fn state_length(count: u32, bands: &Bands) -> usize {
-    let [a, b, c] = bands;
-    // SAFETY: numbers alone are passed.
-    unsafe { exported::tonkelvi_state_length(count, a[0], a[1], a[2], b[0], b[1], b[2], c[0], c[1], c[2]) }
+/// The words of a state for the first `count` of three bands; 0 where a start would give refusal 1. `bands` has nine words: across, down
+/// and planes of each band. With another length of it the answer is 0.
+pub fn state_length(count: u32, bands: &[u32]) -> usize {
+    // SAFETY: pointer and length are of one slice.
+    unsafe { exported::tonkelvi_state_length(count, bands.as_ptr(), bands.len()) }
 }
 
 /// Fills a writer's state. Answers 0 or a refusal.
-pub fn start_writer(count: u32, bands: &Bands, style: u8, planes: &[u32], state: &mut [u32]) -> u32 {
-    let [a, b, c] = bands;
+pub fn start_writer(count: u32, bands: &[u32], style: u8, planes: &[u32], state: &mut [u32]) -> u32 {
     // SAFETY: each pointer and length is of one slice, and the borrow checker keeps lent slices apart.
     unsafe {
         exported::tonkelvi_start_writer(
             count,
-            a[0],
-            a[1],
-            a[2],
-            b[0],
-            b[1],
-            b[2],
-            c[0],
-            c[1],
-            c[2],
+            bands.as_ptr(),
+            bands.len(),
             style,
             planes.as_ptr(),
             planes.len(),
@@ -156,21 +121,13 @@ pub fn start_writer(count: u32, bands: &Bands, style: u8, planes: &[u32], state:
 }
 
 /// Fills a reader's state; `planes` is to be empty. Answers 0 or a refusal.
-pub fn start_reader(count: u32, bands: &Bands, style: u8, planes: &[u32], state: &mut [u32]) -> u32 {
-    let [a, b, c] = bands;
+pub fn start_reader(count: u32, bands: &[u32], style: u8, planes: &[u32], state: &mut [u32]) -> u32 {
     // SAFETY: as in start_writer.
     unsafe {
         exported::tonkelvi_start_reader(
             count,
-            a[0],
-            a[1],
-            a[2],
-            b[0],
-            b[1],
-            b[2],
-            c[0],
-            c[1],
-            c[2],
+            bands.as_ptr(),
+            bands.len(),
             style,
             planes.as_ptr(),
             planes.len(),
@@ -254,7 +211,7 @@ pub fn write(
     }
 }
 
-/// Reads a packet's header. `numbers` is a work list of four words for each record. `answer` has five words: present, bytes taken,
+/// Reads a packet's header. `work` is a work list of four words for each record. `answer` has five words: present, bytes taken,
 /// segments, SOP mark, EPH mark.
 #[allow(clippy::too_many_arguments)]
 pub fn read(
@@ -264,7 +221,7 @@ pub fn read(
     sop: bool,
     eph: bool,
     reports: &mut [u32],
-    numbers: &mut [u32],
+    work: &mut [u32],
     records: &mut [Segment],
     answer: &mut [u64],
 ) -> u32 {
@@ -281,12 +238,18 @@ pub fn read(
             eph,
             reports.as_mut_ptr(),
             reports.len(),
-            numbers.as_mut_ptr(),
-            numbers.len(),
+            work.as_mut_ptr(),
+            work.len(),
             records.as_mut_ptr(),
             records.len(),
             answer.as_mut_ptr(),
             answer.len(),
         )
     }
+}
+
+/// Tells what a state is. `answer` has three words: role, next layer, blocks.
+pub fn describe(state: &[u32], answer: &mut [u64]) -> u32 {
+    // SAFETY: as in start_writer.
+    unsafe { exported::tonkelvi_describe(state.as_ptr(), state.len(), answer.as_mut_ptr(), answer.len()) }
 }

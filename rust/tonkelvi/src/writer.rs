@@ -1,6 +1,6 @@
 //! Writing packets.
 use crate::refusal::checked;
-use crate::{band_words, words, Band, Markers, Refusal};
+use crate::{band_words, described, words, Band, Markers, Refusal, WRITER};
 
 /// What a layer brings: a pass count for each block, band by band and row by row; then, block by block, for each pass its bytes and a
 /// mark, other than 0 if the pass is terminated.
@@ -29,7 +29,7 @@ pub struct Measured {
 /// assert_eq!((size.header, size.body), (3, 10));
 /// assert_eq!(writer.write(layer, &[0; 9], Markers::NONE, 0), Err(Refusal::Body));
 /// assert_eq!(writer.write(layer, &[0; 10], Markers::NONE, 0)?[..3], [0xf9, 0x69, 0x40]);
-/// assert_eq!(writer.next_layer(), 1);
+/// assert_eq!((writer.next_layer(), writer.blocks()), (1, 2));
 /// # Ok::<(), Refusal>(())
 /// ```
 #[derive(Clone, PartialEq, Eq, Debug)]
@@ -39,18 +39,19 @@ pub struct Writer {
 }
 
 impl Writer {
-    /// A writer at layer 0. `planes` has each block's bit-planes.
+    /// A writer at layer 0. `planes` has each block's bit-planes; a block that is never included is given 0.
     pub fn new(bands: &[Band], style: u8, planes: &[u32]) -> Result<Writer, Refusal> {
         let (count, bands) = band_words(bands);
         let mut state = vec![0; words::state_length(count, &bands)];
         checked(words::start_writer(count, &bands, style, planes, &mut state))?;
-        Ok(Writer::from_state(state))
+        Writer::from_state(state)
     }
 
-    /// A writer that goes on from a state kept earlier. Whether the words are in range is looked at by each call.
-    pub fn from_state(state: Vec<u32>) -> Writer {
+    /// A writer that goes on from a state kept earlier; refused unless that is a writer's in range.
+    pub fn from_state(state: Vec<u32>) -> Result<Writer, Refusal> {
+        described(&state, WRITER)?;
         let scratch = vec![0; state.len()];
-        Writer { state, scratch }
+        Ok(Writer { state, scratch })
     }
 
     /// The state's words.
@@ -60,7 +61,16 @@ impl Writer {
 
     /// The layer that the next packet is of.
     pub fn next_layer(&self) -> u32 {
-        self.state.get(3).copied().unwrap_or(0)
+        self.described().0
+    }
+
+    /// The number of blocks.
+    pub fn blocks(&self) -> usize {
+        self.described().1
+    }
+
+    fn described(&self) -> (u32, usize) {
+        described(&self.state, WRITER).expect("a start or from_state has filled it, and calls keep it in range")
     }
 
     /// The bytes of the next packet, which is not written.

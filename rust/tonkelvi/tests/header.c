@@ -1,6 +1,8 @@
-/* Packet A with both markers, by the calls of include/tonkelvi.h alone; ends with 0 where every answer is right. */
+/* Packet A with both markers, by the calls of include/tonkelvi.h alone, as C and as C++; ends with 0 where every answer is right. With an
+ * argument it writes the version and the sentences of all refusals, a line each, instead. */
 #include "tonkelvi.h"
 
+#include <stdio.h>
 #include <stdlib.h>
 #include <string.h>
 
@@ -9,28 +11,41 @@ static int expect(int right, int line) {
 }
 #define EXPECT(right) do { int failed = expect(right, __LINE__ % 250); if (failed) return failed; } while (0)
 
-int main(void) {
+static int texts(void) {
+    uint32_t number;
+    printf("%d %s\n", TONKELVI_VERSION, TONKELVI_VERSION_TEXT);
+    for (number = TONKELVI_SHAPE; number <= TONKELVI_RECORDS; number++) puts(tonkelvi_text(number));
+    return 0;
+}
+
+int main(int argc, char **argv) {
+    const uint32_t bands[10] = {1, 1, 5, 0, 0, 0, 0, 0, 0, 0};
     const uint32_t planes[1] = {5}, counts[1] = {1}, lengths[1] = {5};
     const uint8_t marks[1] = {0}, body[5] = {1, 2, 3, 4, 5};
     const uint8_t packet[14] = {0xff, 0x91, 0, 4, 0, 1, 0xe5, 0xff, 0x92, 1, 2, 3, 4, 5};
     const uint32_t report[4] = {1, 0, 5, 1};
     const struct tonkelvi_segment record = {0, 1, 1, 5}, unused = {7, 7, 7, 7};
     struct tonkelvi_segment records[2] = {{7, 7, 7, 7}, {7, 7, 7, 7}};
-    uint32_t reports[4], numbers[8];
+    uint32_t reports[4], work[9];
     uint8_t output[14];
     uint64_t answer[5];
 
+    (void)argv;
+    if (argc > 1) return texts();
+    EXPECT(tonkelvi_text(0)[0] == 0 && tonkelvi_text(14)[0] == 0);
     EXPECT(sizeof record == 16 && offsetof(struct tonkelvi_segment, block) == 0 && offsetof(struct tonkelvi_segment, opens) == 4);
     EXPECT(offsetof(struct tonkelvi_segment, passes) == 8 && offsetof(struct tonkelvi_segment, bytes) == 12);
 
-    size_t n = tonkelvi_state_length(1, 1, 1, 5, 0, 0, 0, 0, 0, 0);
+    size_t n = tonkelvi_state_length(1, bands, 9);
     EXPECT(n == 13 + 6 + 4);
-    EXPECT(tonkelvi_state_length(0, 1, 1, 5, 0, 0, 0, 0, 0, 0) == 0);
-    uint32_t *state = malloc(n * sizeof *state), *scratch = malloc(n * sizeof *scratch);
+    EXPECT(tonkelvi_state_length(0, bands, 9) == 0 && tonkelvi_state_length(1, bands, 8) == 0 && tonkelvi_state_length(1, NULL, 0) == 0);
+    uint32_t *state = (uint32_t *)calloc(n, sizeof *state), *scratch = (uint32_t *)calloc(n, sizeof *scratch);
     EXPECT(state && scratch);
 
-    EXPECT(tonkelvi_start_writer(1, 1, 1, 5, 0, 0, 0, 0, 0, 0, 0x40, planes, 1, state, n) == TONKELVI_STYLE);
-    EXPECT(tonkelvi_start_writer(1, 1, 1, 5, 0, 0, 0, 0, 0, 0, 0, planes, 1, state, n) == 0);
+    EXPECT(tonkelvi_describe(state, n, answer, 3) == TONKELVI_STATE && answer[0] == 0 && answer[1] == 0 && answer[2] == 0);
+    EXPECT(tonkelvi_start_writer(1, bands, 10, 0x40, planes, 1, state, n) == TONKELVI_LIST);
+    EXPECT(tonkelvi_start_writer(1, bands, 9, 0x40, planes, 1, state, n) == TONKELVI_STYLE && state[0] == 0);
+    EXPECT(tonkelvi_start_writer(1, bands, 9, 0, planes, 1, state, n) == 0);
     EXPECT(tonkelvi_measure(state, n, scratch, n, counts, 1, lengths, 1, marks, 1, true, true, answer, 5) == TONKELVI_LIST);
     EXPECT(tonkelvi_measure(state, n, scratch, n, counts, 1, lengths, 1, marks, 1, true, true, answer, 2) == 0);
     EXPECT(answer[0] == 9 && answer[1] == 5);
@@ -38,17 +53,21 @@ int main(void) {
            == TONKELVI_SPACE);
     EXPECT(tonkelvi_write(state, n, scratch, n, counts, 1, lengths, 1, marks, 1, body, 5, true, true, 65537, output, 14, answer, 1) == 0);
     EXPECT(answer[0] == 14 && memcmp(output, packet, 14) == 0);
+    EXPECT(tonkelvi_describe(state, n, answer, 2) == TONKELVI_LIST && answer[0] == 14);
+    EXPECT(tonkelvi_describe(state, n, answer, 3) == 0 && answer[0] == 1 && answer[1] == 1 && answer[2] == 1);
 
-    EXPECT(tonkelvi_start_reader(1, 1, 1, 5, 0, 0, 0, 0, 0, 0, 0, NULL, 0, state, n) == 0);
+    EXPECT(tonkelvi_start_reader(1, bands, 9, 0, NULL, 0, state, n) == 0);
     EXPECT(tonkelvi_read(state, n, scratch, n, packet, 14, true, true, reports, 4, NULL, 0, NULL, 0, answer, 5) == TONKELVI_RECORDS);
-    EXPECT(tonkelvi_read(state, n, scratch, n, packet, 14, true, true, reports, 4, numbers, 7, records, 2, answer, 5) == TONKELVI_LIST);
+    EXPECT(tonkelvi_read(state, n, scratch, n, packet, 14, true, true, reports, 4, work, 7, records, 2, answer, 5) == TONKELVI_LIST);
+    EXPECT(tonkelvi_read(state, n, scratch, n, packet, 14, true, true, reports, 4, work, 9, records, 2, answer, 5) == TONKELVI_LIST);
     EXPECT(memcmp(records, &unused, sizeof unused) == 0);
-    EXPECT(tonkelvi_read(state, n, scratch, n, packet, 14, true, true, reports, 4, numbers, 8, records, 2, answer, 5) == 0);
+    EXPECT(tonkelvi_read(state, n, scratch, n, packet, 14, true, true, reports, 4, work, 8, records, 2, answer, 5) == 0);
     EXPECT(answer[0] == 1 && answer[1] == 9 && answer[2] == 1 && answer[3] == 0 && answer[4] == 0);
     EXPECT(memcmp(reports, report, sizeof report) == 0);
     EXPECT(memcmp(&records[0], &record, sizeof record) == 0 && memcmp(&records[1], &unused, sizeof unused) == 0);
-    EXPECT(tonkelvi_read(state, n, scratch, n, NULL, 0, false, false, reports, 4, numbers, 8, records, 2, answer, 5) == 0);
-    EXPECT(answer[0] == 0 && answer[1] == 0 && state[3] == 2);
+    EXPECT(tonkelvi_read(state, n, scratch, n, NULL, 0, false, false, reports, 4, work, 8, records, 2, answer, 5) == 0);
+    EXPECT(answer[0] == 0 && answer[1] == 0);
+    EXPECT(tonkelvi_describe(state, n, answer, 3) == 0 && answer[0] == 2 && answer[1] == 2 && answer[2] == 1);
     free(state);
     free(scratch);
     return 0;

@@ -11,9 +11,9 @@ use Rattle.t2_read_numbers.proofs.read_numbers.Tie as tie
 returns : tie.Need-returns
 returns c =
     let a = c .before .before .before .before .before .before .before .before .before .before .args in
-    ap (λ (n : ℕ). readResult (a .state .now) (a .scratch .now) (a .reports .now) (a .numbers .now) (refusedAnswer n))
-    (c .wrong-list .ensures)
-    ∙ sym (numbers-refused (a .state .now) (a .scratch .now) (a .markers) (a .src .now) (a .reports .now) (a .numbers .now)
+    ap (λ (n : ℕ). readResult (a .state .now) (a .scratch .now) (a .reports .now) (a .work .now) (refusedAnswer n))
+    (c .work-refusal .ensures)
+    ∙ sym (numbers-refused (a .state .now) (a .scratch .now) (a .markers) (a .src .now) (a .reports .now) (a .work .now)
     (a .room) (sym (c .before .before .before .before .four-each .ensures) ∙ not-true _ (c .before .before .before .if1 .taken)))
 
 returns-2 : tie.Need-returns-2
@@ -21,7 +21,7 @@ returns-2 c =
     let a = c .before .before .before .before .before .before .before .before .before .before .before .before .before .before
     .before .before .before .before .before .before .args in
     c .before .before .before .before .before .before .before .before .read .ensures
-    ∙ sym (numbers-read (a .state .now) (a .scratch .now) (a .markers) (a .src .now) (a .reports .now) (a .numbers .now) (a .room)
+    ∙ sym (numbers-read (a .state .now) (a .scratch .now) (a .markers) (a .src .now) (a .reports .now) (a .work .now) (a .room)
     (sym (c .before .before .before .before .before .before .before .before .before .before .before .before .before .before
     .four-each .ensures)
     ∙ not-false _ (c .before .before .before .before .before .before .before .before .before .before .before .before .before .if1

@@ -52,10 +52,10 @@ use denote.Triple.Walked.{goes-none-slice, Walks, ends-at, walked, walk-meets}
 use denote.Exit.{yes}
 use Rattle.t2_records.specs.Segments.{segmentAt, filled}
 use Rattle.t2_records.proofs.Stored.{stored-none, stored-turn, stored-length}
-use Rattle.t2_records.specs.declared.Segment.{Segment}
+use Rattle.t800.specs.declared.Segment.{Segment}
 use Rattle.t2_records.proofs.Lent.{LentAgain, lends-again, comes-back}
-use Rattle.t2_records.proofs.Segment as T
-use Rattle.t2_records.proofs.Segment.Laws as T′
+use Rattle.t800.proofs.Segment as T
+use Rattle.t800.proofs.Segment.Laws as T′
 use Rattle.t2_records.proofs.segment_at as g
 use Rattle.t2_records.proofs.segment_at.Symbol as g-def
 use Rattle.t2_records.proofs.segment_at.Symbol.{name as #g}

@@ -44,9 +44,9 @@ use denote.Triple.Spec.{Meets, tripleOf}
 use denote.Triple.Table.{entered}
 use denote.Triple.Walked.{says, Stays, stay-slice, stay-none, walkOf, AllGo, goes-slice, goes-none, Walks, ends-at, walked, walk-meets}
 use denote.Exit.{yes}
-use Rattle.t2_records.specs.declared.Segment.{Segment}
-use Rattle.t2_records.proofs.Segment as T
-use Rattle.t2_records.proofs.Segment.Laws as T′
+use Rattle.t800.specs.declared.Segment.{Segment}
+use Rattle.t800.proofs.Segment as T
+use Rattle.t800.proofs.Segment.Laws as T′
 use Rattle.t2_records.proofs.put_segment.Key.{name as #me}
 use Rattle.t2_records.proofs.put_segment as f
 use Rattle.t2_records.proofs.put_segment.Statement as stated

@@ -30,7 +30,7 @@ mod timed {
         scratch: Vec<u32>,
         output: Vec<u8>,
         reports: Vec<u32>,
-        numbers: Vec<u32>,
+        work: Vec<u32>,
         records: Vec<words::Segment>,
     }
 
@@ -74,21 +74,21 @@ mod timed {
                 scratch: vec![1; length],
                 output: vec![1; row.room()],
                 reports: vec![1; 4 * blocks],
-                numbers: vec![1; 12 * blocks],
+                work: vec![1; 12 * blocks],
                 records: vec![words::Segment::default(); 3 * blocks],
             };
             row
         }
 
         fn length(&self) -> usize {
-            words::state_length(self.count, &self.bands)
+            words::state_length(self.count, self.bands.as_flattened())
         }
 
         fn started(&self, writer: bool, job: &Job) -> Vec<u32> {
             let mut state = vec![0; self.length()];
             let number = match writer {
-                true => words::start_writer(self.count, &self.bands, 0, &job.planes, &mut state),
-                false => words::start_reader(self.count, &self.bands, 0, &[], &mut state),
+                true => words::start_writer(self.count, self.bands.as_flattened(), 0, &job.planes, &mut state),
+                false => words::start_reader(self.count, self.bands.as_flattened(), 0, &[], &mut state),
             };
             assert_eq!(number, 0);
             state
@@ -106,7 +106,7 @@ mod timed {
             let mut total = Duration::ZERO;
             let begin = Instant::now();
             for (job, state) in self.jobs.iter().zip(states.iter_mut()) {
-                words::start_writer(self.count, &self.bands, 0, &job.planes, state);
+                words::start_writer(self.count, self.bands.as_flattened(), 0, &job.planes, state);
             }
             total += begin.elapsed();
             for i in 0..LAYERS {
@@ -148,18 +148,18 @@ mod timed {
         // ---- reading
 
         fn engine_reads(&mut self, check: bool) -> Duration {
-            let Lent { states, scratch, reports, numbers, records, .. } = &mut self.lent;
+            let Lent { states, scratch, reports, work, records, .. } = &mut self.lent;
             let mut answer = [0; 5];
             let mut total = Duration::ZERO;
             let begin = Instant::now();
             for state in states.iter_mut() {
-                words::start_reader(self.count, &self.bands, 0, &[], state);
+                words::start_reader(self.count, self.bands.as_flattened(), 0, &[], state);
             }
             total += begin.elapsed();
             for i in 0..LAYERS {
                 let begin = Instant::now();
                 for (job, state) in self.jobs.iter().zip(states.iter_mut()) {
-                    let number = words::read(state, scratch, &job.packets[i], false, false, reports, numbers, records, &mut answer);
+                    let number = words::read(state, scratch, &job.packets[i], false, false, reports, work, records, &mut answer);
                     if check {
                         assert_eq!((number, answer[1] as usize), (0, job.packets[i].len() - job.bodies[i].len()));
                     }

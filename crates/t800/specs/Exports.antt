@@ -1,0 +1,150 @@
+-- The exported calls (include/tonkelvi.h): those of Start and Packet with the lists that the interface adds. These are `bands`, nine
+-- words; `answer`, as many words as the call answers; and the work list of a read into structs. `bands` and `answer` are looked at first:
+-- with another length the call gives 3 and changes no list.
+use Prim.Native.Nat.{ℕ, _+_, _*_}
+use mathlib.Core.Bool.{Bool, cond, not, _||_}
+use mathlib.Core.List.{List, [], _∷_}
+use lib.ListN.{length, getD, take}
+use lib.Dec.{eqb}
+use Rattle.t800.specs.declared.Band.{Band}
+use Rattle.t800.specs.declared.Markers.{Markers}
+use Rattle.t800.specs.declared.ReadAnswer.{ReadAnswer}
+use Rattle.t800.specs.declared.Segment.{Segment}
+use Rattle.t800.specs.State.{notYetIncluded, writer, reader, role, layer, bands, blocks, stateLength}
+use Rattle.t800.specs.Ranges.{badShape, validState}
+use Rattle.t800.specs.Start.{StartResult, start}
+use Rattle.t800.specs.Reports.{recordWidth}
+use Rattle.t800.specs.WriteHeader.{Contribution}
+use Rattle.t800.specs.Packet.{MeasureResult, measure, WriteResult, write, ReadResult, read, readResult, refusedAnswer}
+
+-- ---- starts
+
+-- band i: across, down, planes
+unfoldable pub bandIn : (words : List ℕ) (i : ℕ) → Band
+bandIn words i = record { across = getD words (3 * i) 0; down = getD words (3 * i + 1) 0; planes = getD words (3 * i + 2) 0 }
+
+abbrev pub bandsIn : (words : List ℕ) → List Band
+bandsIn words = bandIn words 0 ∷ bandIn words 1 ∷ bandIn words 2 ∷ []
+
+-- the length that a start asks of its state; 0 where it gives 1, or 3 for `bands`
+unfoldable pub stateLengthOf : (count : ℕ) (bands : List ℕ) → ℕ
+stateLengthOf count bands =
+    let used = take count (bandsIn bands) in
+    cond (eqb (length bands) 9) (cond (badShape count used) 0 (stateLength used)) 0
+
+unfoldable pub startCall : (role : ℕ) (count : ℕ) (bands : List ℕ) (style : ℕ) (planes : List ℕ) (state : List ℕ) → StartResult
+startCall role count bands style planes state =
+    cond (eqb (length bands) 9) (start role count (bandsIn bands) style planes state) (record { answer = 3; state = state })
+
+-- ---- measuring
+
+-- The number that a call gives, and what its lists hold at exit: here and below.
+pub record MeasureExit : Type 0 where
+  pub refusal : ℕ
+  pub scratch : List ℕ
+  pub answer : List ℕ
+
+abbrev pub measureExit : (result : MeasureResult) → MeasureExit
+measureExit r = record { refusal = r .answer .refusal; scratch = r .scratch; answer = r .answer .header ∷ r .answer .body ∷ [] }
+
+unfoldable pub measureCall : (state : List ℕ) (scratch : List ℕ) (brought : Contribution) (markers : Markers) (answer : List ℕ)
+    → MeasureExit
+measureCall state scratch brought markers answer =
+    cond (eqb (length answer) 2) (measureExit (measure state scratch brought markers))
+    (record { refusal = 3; scratch = scratch; answer = answer })
+
+-- ---- writing
+
+pub record WriteExit : Type 0 where
+  pub refusal : ℕ
+  pub state : List ℕ
+  pub scratch : List ℕ
+  pub output : List ℕ
+  pub answer : List ℕ
+
+abbrev pub writeExit : (result : WriteResult) → WriteExit
+writeExit r = record {
+  refusal = r .answer .refusal;
+  state = r .state;
+  scratch = r .scratch;
+  output = r .output;
+  answer = r .answer .bytes ∷ [];
+}
+
+unfoldable pub writeCall : (state : List ℕ) (scratch : List ℕ) (brought : Contribution) (body : List ℕ) (markers : Markers)
+    (number : ℕ) (output : List ℕ) (answer : List ℕ) → WriteExit
+writeCall state scratch brought body markers number output answer =
+    cond (eqb (length answer) 1) (writeExit (write state scratch brought body markers number output))
+    (record { refusal = 3; state = state; scratch = scratch; output = output; answer = answer })
+
+-- ---- reading
+
+-- the words of the structs, in the order of `recordWords`; they determine the structs
+unfoldable pub wordsOf : (records : List Segment) → List ℕ
+wordsOf [] = []
+wordsOf (s ∷ ss) = s .block ∷ s .opens ∷ s .passes ∷ s .bytes ∷ wordsOf ss
+
+-- `records`: the structs' words
+pub record ReadExit : Type 0 where
+  pub refusal : ℕ
+  pub state : List ℕ
+  pub scratch : List ℕ
+  pub reports : List ℕ
+  pub work : List ℕ
+  pub records : List ℕ
+  pub answer : List ℕ
+
+abbrev pub readWords : (answer : ReadAnswer) → List ℕ
+readWords a = a .present ∷ a .taken ∷ a .segments ∷ a .sop ∷ a .eph ∷ []
+
+abbrev pub readExit : (result : ReadResult) (work : List ℕ) → ReadExit
+readExit r work = record {
+  refusal = r .answer .refusal;
+  state = r .state;
+  scratch = r .scratch;
+  reports = r .reports;
+  work = work;
+  records = r .records;
+  answer = readWords (r .answer);
+}
+
+-- 3 for a work list that is not four words a struct, where neither 5 nor 6 comes before it
+unfoldable pub workRefusal : (state : List ℕ) (scratch : List ℕ) → ℕ
+workRefusal state scratch =
+    cond (not (validState reader state (length scratch))) 5
+    (cond (eqb (layer state) notYetIncluded) 6 3)
+
+-- Packet's `read` of the structs' words. The work list holds what the same read leaves in it.
+unfoldable pub readCall : (state : List ℕ) (scratch : List ℕ) (markers : Markers) (input : List ℕ) (reports : List ℕ) (work : List ℕ)
+    (records : List Segment) (answer : List ℕ) → ReadExit
+readCall state scratch markers input reports work records answer =
+    let words = wordsOf records in
+    let done = readExit (read state scratch markers input reports words) (read state scratch markers input reports work .records) in
+    let wrongWork = readExit (readResult state scratch reports words (refusedAnswer (workRefusal state scratch))) work in
+    let wrongAnswer : ReadExit = record {
+      refusal = 3;
+      state = state;
+      scratch = scratch;
+      reports = reports;
+      work = work;
+      records = words;
+      answer = answer;
+    } in
+    cond (eqb (length answer) 5) (cond (eqb (length work) (recordWidth * length records)) done wrongWork) wrongAnswer
+
+-- ---- what a state is
+
+pub record DescribeExit : Type 0 where
+  pub refusal : ℕ
+  pub answer : List ℕ
+
+-- a writer's or a reader's, in the ranges of refusal 5
+unfoldable pub anyState : (state : List ℕ) → Bool
+anyState state = validState writer state (length state) || validState reader state (length state)
+
+-- role, next layer, number of blocks
+unfoldable pub describeCall : (state : List ℕ) (answer : List ℕ) → DescribeExit
+describeCall state answer =
+    let told : DescribeExit = record { refusal = 0; answer = role state ∷ layer state ∷ length (blocks (bands state)) ∷ [] } in
+    let outOfRange : DescribeExit = record { refusal = 5; answer = 0 ∷ 0 ∷ 0 ∷ [] } in
+    cond (eqb (length answer) 3) (cond (anyState state) told outOfRange) (record { refusal = 3; answer = answer })

@@ -1,0 +1,11 @@
+-- `tonkelvi_parts::put_three` meets its contract.
+use borrow.Author.Needs.{needs}
+use Rattle.tonkelvi_parts.proofs.Laws.{three-set}
+use Rattle.tonkelvi_parts.proofs.put_three.Statement.{statement}
+use Rattle.tonkelvi_parts.proofs.put_three.Tie as tie
+
+returns : tie.Need-returns
+returns c = three-set (c .args .answer .now) (c .args .a) (c .args .b) (c .args .c) (c .pre)
+
+pub put-three-spec : {M : Type 1} → statement M
+put-three-spec = tie.close (tie.spec (λ c. search needs) (λ c. search needs) (λ c. search needs) (λ c. search needs) returns)

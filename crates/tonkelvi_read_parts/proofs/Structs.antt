@@ -1,0 +1,297 @@
+-- The records that are stored from the work list are those that t800's `read` leaves in the records' words.
+use mathlib.Core.Path.{_≡_, refl, sym, ap, _∙_}
+use mathlib.Core.Logic.{_≢_}
+use mathlib.Core.Bool.{Bool, true, false, cond, not, _&&_, _||_}
+use mathlib.Core.List.{List, _++_, append-nil}
+use Prim.Native.Nat.{ℕ, _+_, _*_, _/_, _≤_}
+use native.Mathlib.Omega.{arith}
+use lib.ListN.{length, take, drop, replicate, length-append, length-replicate, drop-of-length-le}
+use lib.Seq.{take-append-seam, take-length}
+use lib.Dec.{eqb}
+use borrow.Author.Tests.{eq-eqb, ne-eqb, eqb-true, eqb-false}
+use Rattle.t800.specs.declared.Markers.{Markers}
+use Rattle.t800.specs.declared.ReadAnswer.{ReadAnswer}
+use Rattle.t800.specs.Base.{overwrite, wiped}
+use Rattle.t800.specs.Bits.{Decoded, bioAt, getBit}
+use Rattle.t800.specs.State.{reader, notYetIncluded, layer, bands, blocks}
+use Rattle.t800.specs.Ranges.{validState}
+use Rattle.t800.specs.Reports.{SegmentRecord, recordWords, reportWidth, recordWidth}
+use Rattle.t800.specs.MarkerSegments.{readSop}
+use Rattle.t800.specs.ReadHeader.{HeaderRead, readHeader}
+use Rattle.t800.specs.Packet.{ReadResult, refusedAnswer, readRefusal, readAbsent, readPresent, read, readResult}
+use Rattle.t800.proofs.Laws.Tests.{if-true, if-false, either, not-refused}
+use Rattle.t800.proofs.Laws.Lists.{record-words-length}
+use Rattle.t800.specs.RoundTrip.{ReadCall, readOf}
+use Rattle.t2_theorems.specs.Calls.{WasRead}
+use Rattle.t2_theorems.specs.Numbers.{NoneHolds, readChecks, NumbersOfCalls}
+use Rattle.t2_theorems.proofs.Numbers.{numbers-of-calls}
+use Rattle.t800.specs.declared.Segment.{Segment}
+use Rattle.t800.specs.Exports.{wordsOf, readWords, ReadExit, readExit, workRefusal, readCall}
+use Rattle.t2_records.specs.Segments.{segmentAt, filled}
+use Rattle.t2_read_numbers.specs.Reading.{readNumbers, toFill}
+use Rattle.tonkelvi_read_parts.specs.Numbers.{NumbersCall, numbersOf, numbersCall}
+use Rattle.t2_records.proofs.Stored.{stored-none, words-length, filled-words}
+use Rattle.t2_read_numbers.proofs.Numbers.{numbers-refused, numbers-read}
+
+-- ---- what is stored, case by case
+
+module _ (rs : List Segment) where
+  none-stored : (ws : List ℕ) → wordsOf (filled ws 0 rs) ≡ wordsOf rs
+  none-stored ws = ap wordsOf (stored-none (segmentAt ws) rs)
+
+  -- as many as were found
+  found-stored : (xs : List ℕ) (fs : List SegmentRecord) → length (overwrite xs (recordWords fs)) ≡ length xs → length xs ≡ 4 * length rs
+      → wordsOf (filled (overwrite xs (recordWords fs)) (length fs) rs) ≡ overwrite (wordsOf rs) (recordWords fs)
+  unfolding overwrite
+  found-stored xs fs l e =
+      let n : ℕ = length fs in
+      let front : List ℕ = recordWords fs in
+      let after : List ℕ = drop (length front) xs in
+      let k : length front ≡ 4 * n = record-words-length fs in
+      let both : length (front ++ after) ≡ length front + length after = length-append front after in
+      filled-words (front ++ after) n rs (omega arith) (omega arith)
+      ∙ ap (λ (j : ℕ). take j (front ++ after) ++ drop j (wordsOf rs)) (sym k)
+      ∙ ap (λ (z : List ℕ). z ++ drop (length front) (wordsOf rs)) (take-append-seam front after)
+
+  -- all, from zeros
+  all-stored : (xs : List ℕ) → length xs ≡ 4 * length rs → wordsOf (filled (wiped xs) (length rs) rs) ≡ wiped (wordsOf rs)
+  all-stored xs e =
+      let zs : List ℕ = wiped xs in
+      let k : length zs ≡ length xs = length-replicate (length xs) 0 in
+      let w : length (wordsOf rs) ≡ 4 * length rs = words-length rs in
+      let at : 4 * length rs ≡ length zs = omega arith in
+      let past : length (wordsOf rs) ≤ length zs = omega arith in
+      let same : length xs ≡ length (wordsOf rs) = omega arith in
+      filled-words zs (length rs) rs (omega arith) (omega arith)
+      ∙ ap (λ (j : ℕ). take j zs ++ drop j (wordsOf rs)) at
+      ∙ (λ i. take-length zs i ++ drop-of-length-le (wordsOf rs) past i)
+      ∙ append-nil zs
+      ∙ ap (λ (j : ℕ). replicate j 0) same
+
+-- ---- how many are stored
+
+-- 5, 6 and 3 store nothing
+early-stores-none : (ws scratch reports : List ℕ) (room : ℕ) → readRefusal ws scratch reports ≢ 0
+    → toFill (refusedAnswer (readRefusal ws scratch reports)) room ≡ 0
+unfolding readRefusal toFill
+early-stores-none ws scratch reports room =
+    either None (not (validState reader ws (length scratch))) 5 _ (λ n. refl)
+    (either None (eqb (layer ws) notYetIncluded) 6 _ (λ n. refl)
+    (either None (not (eqb (length reports) (reportWidth * length (blocks (bands ws))))) 3 0 (λ n. refl) (λ n. absurd (n refl))))
+  where
+    None : ℕ → Type 0
+    None n = n ≢ 0 → toFill (refusedAnswer n) room ≡ 0
+
+wrong-stores-none : (ws scratch : List ℕ) (room : ℕ) → toFill (refusedAnswer (workRefusal ws scratch)) room ≡ 0
+unfolding workRefusal toFill
+wrong-stores-none ws scratch room =
+    either (λ (n : ℕ). toFill (refusedAnswer n) room ≡ 0) (not (validState reader ws (length scratch))) 5 _ refl
+    (either (λ (n : ℕ). toFill (refusedAnswer n) room ≡ 0) (eqb (layer ws) notYetIncluded) 6 3 refl refl)
+
+module _ (ws scratch : List ℕ) (m : Markers) (src reports : List ℕ) where
+  abbrev why : ℕ
+  why = readRefusal ws scratch reports
+
+  abbrev first : Decoded
+  first = getBit src (bioAt (readSop m src .skip))
+
+  abbrev header : ℕ → HeaderRead
+  header n = readHeader src n ws (first .bio)
+
+  abbrev unchanged : List ℕ → ReadResult
+  unchanged records = readResult ws scratch reports records (refusedAnswer why)
+
+  abbrev broken : ℕ → List ℕ → ReadResult
+  broken n records = readResult ws (wiped scratch) (wiped reports) (wiped records) (refusedAnswer (header n .refusal))
+
+  -- a read with room for n records
+  readAt : ℕ → List ℕ → ReadResult
+  readAt n records =
+      cond (not (eqb why 0)) (unchanged records)
+      (cond (eqb (first .value) 0) (readAbsent ws m src reports records (readSop m src) (first .bio))
+      (cond (eqb (header n .refusal) 0) (readPresent ws m src records (readSop m src) (header n)) (broken n records)))
+
+  read-is-at : (records : List ℕ) → read ws scratch m src reports records ≡ readAt (length records / recordWidth) records
+  unfolding read readAt
+  read-is-at records = refl
+
+  -- a header that is refused gives 9, 12 or 13, and all records are stored
+  module _ (records : List ℕ) (room : ℕ) (in-time : why ≡ 0) (present : eqb (first .value) 0 ≡ false)
+      (fails : eqb (header (length records / recordWidth) .refusal) 0 ≡ false) where
+    abbrev number : ℕ
+    number = header (length records / recordWidth) .refusal
+
+    abbrev call : ReadCall
+    call = record { scratch = scratch; markers = m; input = src; reports = reports; records = records }
+
+    abbrev made : WasRead
+    made = record { state = ws; call = call; result = readOf ws call; met = refl }
+
+    its-number : readOf ws call .answer .refusal ≡ number
+    unfolding readAt
+    its-number =
+        ap (λ (z : ReadResult). z .answer .refusal)
+        (read-is-at records ∙ if-false (not (eqb why 0)) _ _ (ap not (eq-eqb why 0 in-time))
+        ∙ if-false (eqb (first .value) 0) _ _ present ∙ if-false (eqb number 0) _ _ fails)
+
+    no-list : (validState reader ws (length scratch) ≡ true) × (eqb (layer ws) notYetIncluded ≡ false)
+        × (eqb (length reports) (reportWidth * length (blocks (bands ws))) ≡ true)
+    unfolding readRefusal
+    no-list =
+        let a = not-refused (not (validState reader ws (length scratch))) 5 _ (omega arith) in-time in
+        let b = not-refused (eqb (layer ws) notYetIncluded) 6 _ (omega arith) (a .1) in
+        let c = not-refused (not (eqb (length reports) (reportWidth * length (blocks (bands ws))))) 3 0 (omega arith) (b .1) in
+        (unnot _ (a .0), b .0, unnot _ (c .0))
+      where
+        unnot : (b : Bool) → not b ≡ false → b ≡ true
+        unnot true e = refl
+        unnot false e = sym e
+
+    one-of : (t u v : Bool) → eqb number 9 ≡ t → eqb number 13 ≡ u → eqb number 12 ≡ v
+        → (eqb number 9 || eqb number 12 || eqb number 13) ≡ true
+    unfolding NumbersOfCalls
+    one-of true u v p q r = rw p
+    one-of false true true p q r = rw (p, q, r)
+    one-of false true false p q r = rw (p, q, r)
+    one-of false false true p q r = rw (p, q, r)
+    one-of false false false p q r =
+        let holds : NoneHolds (readChecks ws call) =
+        (ap not (no-list .0), (no-list .1, (ap not (no-list .2), (none 9 p, (none 13 q, (none 12 r, tt)))))) in
+        absurd (eqb-false number 0 fails (sym its-number ∙ numbers-of-calls .3 made .0 .accepts .1 holds))
+      where
+        none : (n : ℕ) → eqb number n ≡ false → (not (eqb (first .value) 0) && eqb number n) ≡ false
+        none n e = rw (present, e)
+
+    header-stores-all : toFill (refusedAnswer number) room ≡ room
+    unfolding toFill
+    header-stores-all = if-false (eqb number 0) _ _ fails
+        ∙ if-true (eqb number 9 || eqb number 12 || eqb number 13) _ _
+        (one-of (eqb number 9) (eqb number 13) (eqb number 12) refl refl refl)
+
+  -- ---- the read
+
+  -- the result with the records that are stored from its work list
+  abbrev restored : List Segment → ReadResult → ReadResult
+  restored rs z = readResult (z .state) (z .scratch) (z .reports)
+      (wordsOf (filled (z .records) (toFill (z .answer) (length rs)) rs)) (z .answer)
+
+  module _ (xs : List ℕ) (rs : List Segment) (as-long : length xs ≡ 4 * length rs) where
+    abbrev n : ℕ
+    n = length xs / 4
+
+    abbrev absent : List ℕ → ReadResult
+    absent records = readAbsent ws m src reports records (readSop m src) (first .bio)
+
+    abbrev present : List ℕ → ReadResult
+    present records = readPresent ws m src records (readSop m src) (header n)
+
+    abbrev Same : (List ℕ → ReadResult) → Type 0
+    Same z = length (z xs .records) ≡ length xs → restored rs (z xs) ≡ z (wordsOf rs)
+
+    same-unchanged : why ≢ 0 → Same unchanged
+    same-unchanged h l =
+        ap (λ (z : List ℕ). readResult ws scratch reports z (refusedAnswer why))
+        (ap (λ (k : ℕ). wordsOf (filled xs k rs)) (early-stores-none ws scratch reports (length rs) h) ∙ none-stored rs xs)
+
+    same-absent : Same absent
+    unfolding readAbsent toFill
+    same-absent l = ap (λ (z : List ℕ). absent z) (none-stored rs xs)
+
+    same-present : Same present
+    unfolding readPresent toFill
+    same-present l = ap (λ (z : List ℕ). readResult (present xs .state) (present xs .scratch) (present xs .reports) z
+        (present xs .answer)) (found-stored rs xs (header n .records) l as-long)
+
+    same-broken : why ≡ 0 → eqb (first .value) 0 ≡ false → eqb (header n .refusal) 0 ≡ false → Same (broken n)
+    same-broken a b c l =
+        ap (λ (z : List ℕ). readResult ws (wiped scratch) (wiped reports) z (refusedAnswer (header n .refusal)))
+        (ap (λ (k : ℕ). wordsOf (filled (wiped xs) k rs)) (header-stores-all xs (length rs) a b c) ∙ all-stored rs xs as-long)
+
+    same-by : (t u v : Bool) → eqb why 0 ≡ t → eqb (first .value) 0 ≡ u → eqb (header n .refusal) 0 ≡ v
+        → Same (λ (l : List ℕ). cond (not t) (unchanged l) (cond u (absent l) (cond v (present l) (broken n l))))
+    same-by false u v p q r = same-unchanged (eqb-false why 0 p)
+    same-by true true v p q r = same-absent
+    same-by true false true p q r = same-present
+    same-by true false false p q r = same-broken (eqb-true why 0 p) q r
+
+    same-at : length (readAt n xs .records) ≡ length xs → restored rs (readAt n xs) ≡ readAt n (wordsOf rs)
+    unfolding readAt
+    same-at = same-by (eqb why 0) (eqb (first .value) 0) (eqb (header n .refusal) 0) refl refl refl
+
+    stored-is-read : length (read ws scratch m src reports xs .records) ≡ length xs
+        → restored rs (read ws scratch m src reports xs) ≡ read ws scratch m src reports (wordsOf rs)
+    stored-is-read l =
+        let e = read-is-at xs in
+        let k : length xs ≡ length (wordsOf rs) = as-long ∙ sym (words-length rs) in
+        ap (restored rs) e ∙ same-at (ap (λ (z : ReadResult). length (z .records)) (sym e) ∙ l)
+        ∙ ap (λ (j : ℕ). readAt (j / 4) (wordsOf rs)) k ∙ sym (read-is-at (wordsOf rs))
+
+-- ---- the read on the work list, with its answer words
+
+module _ (ws scratch : List ℕ) (m : Markers) (src reports work : List ℕ) (room : ℕ) (answer : List ℕ) where
+  pub read-unlisted : length answer ≢ 5
+      → record { result = readResult ws scratch reports work (refusedAnswer 3); answer = answer }
+      ≡ numbersCall ws scratch m src reports work room answer
+  unfolding numbersCall
+  read-unlisted h = rw (ne-eqb (length answer) 5 h)
+
+  pub read-listed : (r : ReadAnswer) (vs s p q l : List ℕ) → length answer ≡ 5 → readResult vs s p q r
+      ≡ readNumbers ws scratch m src reports work room → l ≡ readWords r
+      → record { result = readResult vs s p q r; answer = l } ≡ numbersCall ws scratch m src reports work room answer
+  unfolding numbersCall
+  read-listed r vs s p q l h e g = rw (eq-eqb (length answer) 5 h, g) (ap numbersOf e)
+
+-- ---- what the three calls of `tonkelvi_read` give together
+
+module _ (ws scratch : List ℕ) (m : Markers) (src reports work : List ℕ) (records : List Segment) (answer : List ℕ) where
+  -- the call's result with the records that are stored from its work list
+  abbrev filledOf : NumbersCall → ReadExit
+  filledOf z = record {
+    refusal = z .result .answer .refusal;
+    state = z .result .state;
+    scratch = z .result .scratch;
+    reports = z .result .reports;
+    work = z .result .records;
+    records = wordsOf (filled (z .result .records) (toFill (z .result .answer) (length records)) records);
+    answer = z .answer;
+  }
+
+  by-lists : (t u : Bool) → eqb (length answer) 5 ≡ t → eqb (length work) (4 * length records) ≡ u → (z : NumbersCall) → z
+      ≡ numbersCall ws scratch m src reports work (length records) answer → length (z .result .records) ≡ length work
+      → filledOf z ≡ readCall ws scratch m src reports work records answer
+  unfolding numbersCall readCall toFill
+  by-lists true true t u z e l =
+      let k = e ∙ if-true (eqb (length answer) 5) _ _ t
+      ∙ ap numbersOf (numbers-read ws scratch m src reports work (length records) u) in
+      ap filledOf k
+      ∙ ap (λ (y : ReadResult). readExit y (read ws scratch m src reports work .records))
+      (stored-is-read ws scratch m src reports work records (eqb-true (length work) (4 * length records) u)
+      (ap (λ (y : NumbersCall). length (y .result .records)) (sym k) ∙ l))
+      ∙ sym (if-true (eqb (length work) (4 * length records)) _ _ u)
+      ∙ sym (if-true (eqb (length answer) 5) _ _ t)
+  by-lists true false t u z e l =
+      ap filledOf (e ∙ if-true (eqb (length answer) 5) _ _ t
+      ∙ ap numbersOf (numbers-refused ws scratch m src reports work (length records) u))
+      ∙ ap (λ (y : List ℕ). readExit (readResult ws scratch reports y (refusedAnswer (workRefusal ws scratch))) work)
+      (ap (λ (k : ℕ). wordsOf (filled work k records)) (wrong-stores-none ws scratch (length records)) ∙ none-stored records work)
+      ∙ sym (if-false (eqb (length work) (4 * length records)) _ _ u)
+      ∙ sym (if-true (eqb (length answer) 5) _ _ t)
+  by-lists false u t v z e l =
+      ap filledOf (e ∙ if-false (eqb (length answer) 5) _ _ t)
+      ∙ ap (λ (y : List ℕ).
+      record { refusal = 3; state = ws; scratch = scratch; reports = reports; work = work; records = y; answer = answer })
+      (none-stored records work)
+      ∙ sym (if-false (eqb (length answer) 5) _ _ t)
+
+  pub filled-is-call : (z₀ z₁ z₃ z₄ z₆ : List ℕ) (a : ReadAnswer) (us : List Segment) (k : ℕ)
+      → record { result = readResult z₀ z₁ z₃ z₄ a; answer = z₆ }
+      ≡ numbersCall ws scratch m src reports work (length records) answer → length z₄ ≡ length work → k
+      ≡ toFill a (length records) → us ≡ filled z₄ k records
+      → record { refusal = a .refusal; state = z₀; scratch = z₁; reports = z₃; work = z₄; records = wordsOf us; answer = z₆ }
+      ≡ readCall ws scratch m src reports work records answer
+  filled-is-call z₀ z₁ z₃ z₄ z₆ a us k e l f g =
+      ap (λ (y : List Segment).
+      record { refusal = a .refusal; state = z₀; scratch = z₁; reports = z₃; work = z₄; records = wordsOf y; answer = z₆ })
+      (g ∙ ap (λ (j : ℕ). filled z₄ j records) f)
+      ∙ by-lists (eqb (length answer) 5) (eqb (length work) (4 * length records)) refl refl
+      (record { result = readResult z₀ z₁ z₃ z₄ a; answer = z₆ }) e l
