@@ -133,8 +133,8 @@ module _ (ws : List ℕ) (c : WriteCall) where
 -- ---- reading
 
 -- a header gives none of the other numbers
-record HeaderNumber (r : HeaderRead) : Type 0 where
-  one-of : (eqb (r .refusal) 0 || eqb (r .refusal) 9 || eqb (r .refusal) 13 || eqb (r .refusal) 12) ≡ true
+pub record HeaderNumber (r : HeaderRead) : Type 0 where
+  pub one-of : (eqb (r .refusal) 0 || eqb (r .refusal) 9 || eqb (r .refusal) 13 || eqb (r .refusal) 12) ≡ true
 
 same-number : (r z : HeaderRead) → z .refusal ≡ r .refusal → HeaderNumber r → HeaderNumber z
 same-number r z e h = record { one-of = rw e (h .one-of) }
@@ -198,7 +198,7 @@ module _ (src : List ℕ) (room : ℕ) where
       let a = block-number t i k r h in
       either HeaderNumber (eqb (readBlock src room t i k r .refusal) 0) _ _ (blocks-number t (i + 1) ks (readBlock src room t i k r) a) a
 
-  header-number : (ws : List ℕ) (b : Bio) → HeaderNumber (readHeader src room ws b)
+  pub header-number : (ws : List ℕ) (b : Bio) → HeaderNumber (readHeader src room ws b)
   unfolding readHeader
   header-number ws b =
       let r : HeaderRead = record { refusal = 0; words = ws; bio = b; reports = []; records = [] } in

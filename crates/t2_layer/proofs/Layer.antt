@@ -17,8 +17,8 @@ use Rattle.t800.specs.Book.{terminatedAsStyle}
 use Rattle.t800.specs.RoundTrip.{Owed, GivesEntry, WriterMade, written, packetMade, accepted, Follows, owed, allTerminatedAsStyle}
 use Rattle.t800.specs.RoundTrip.{ReadsAsOwed, stateAfter, RoundTrip, WriterInRange}
 use Rattle.t800.proofs.Laws.Tests.{if-true, if-false}
-use Rattle.t2_theorems.specs.Calls.{calls}
-use Rattle.t2_theorems.proofs.Calls.{round-trip-of-calls, writer-of-calls-in-range}
+use Rattle.theorems.specs.Calls.{calls}
+use Rattle.theorems.proofs.Calls.{round-trip-of-calls, writer-of-calls-in-range}
 use Rattle.t800.proofs.Laws.Lists.{no-planes}
 use Rattle.t800.proofs.Laws.FreshState.{fresh-length}
 use Rattle.t800.proofs.Laws.Accepted.{start-accepted}

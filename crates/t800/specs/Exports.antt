@@ -2,20 +2,21 @@
 -- words; `answer`, as many words as the call answers; and the work list of a read into structs. `bands` and `answer` are looked at first:
 -- with another length the call gives 3 and changes no list.
 use Prim.Native.Nat.{ℕ, _+_, _*_}
-use mathlib.Core.Bool.{Bool, cond, not, _||_}
-use mathlib.Core.List.{List, [], _∷_}
+use mathlib.Core.Bool.{Bool, true, cond, _||_}
+use mathlib.Core.List.{List, [], _∷_, _++_}
 use lib.ListN.{length, getD, take}
 use lib.Dec.{eqb}
 use Rattle.t800.specs.declared.Band.{Band}
 use Rattle.t800.specs.declared.Markers.{Markers}
 use Rattle.t800.specs.declared.ReadAnswer.{ReadAnswer}
 use Rattle.t800.specs.declared.Segment.{Segment}
-use Rattle.t800.specs.State.{notYetIncluded, writer, reader, role, layer, bands, blocks, stateLength}
+use Rattle.t800.specs.Refusals.{check, firstOf, listRefusal, stateRefusal}
+use Rattle.t800.specs.State.{writer, reader, role, layer, bands, blocks, stateLength}
 use Rattle.t800.specs.Ranges.{badShape, validState}
 use Rattle.t800.specs.Start.{StartResult, start}
 use Rattle.t800.specs.Reports.{recordWidth}
 use Rattle.t800.specs.WriteHeader.{Contribution}
-use Rattle.t800.specs.Packet.{MeasureResult, measure, WriteResult, write, ReadResult, read, readResult, refusedAnswer}
+use Rattle.t800.specs.Packet.{stateChecks, MeasureResult, measure, WriteResult, write, ReadResult, read, readResult, refusedAnswer}
 
 -- ---- starts
 
@@ -34,7 +35,7 @@ stateLengthOf count bands =
 
 unfoldable pub startCall : (role : ℕ) (count : ℕ) (bands : List ℕ) (style : ℕ) (planes : List ℕ) (state : List ℕ) → StartResult
 startCall role count bands style planes state =
-    cond (eqb (length bands) 9) (start role count (bandsIn bands) style planes state) (record { answer = 3; state = state })
+    cond (eqb (length bands) 9) (start role count (bandsIn bands) style planes state) (record { answer = listRefusal; state = state })
 
 -- ---- measuring
 
@@ -51,7 +52,7 @@ unfoldable pub measureCall : (state : List ℕ) (scratch : List ℕ) (brought : 
     → MeasureExit
 measureCall state scratch brought markers answer =
     cond (eqb (length answer) 2) (measureExit (measure state scratch brought markers))
-    (record { refusal = 3; scratch = scratch; answer = answer })
+    (record { refusal = listRefusal; scratch = scratch; answer = answer })
 
 -- ---- writing
 
@@ -75,7 +76,7 @@ unfoldable pub writeCall : (state : List ℕ) (scratch : List ℕ) (brought : Co
     (number : ℕ) (output : List ℕ) (answer : List ℕ) → WriteExit
 writeCall state scratch brought body markers number output answer =
     cond (eqb (length answer) 1) (writeExit (write state scratch brought body markers number output))
-    (record { refusal = 3; state = state; scratch = scratch; output = output; answer = answer })
+    (record { refusal = listRefusal; state = state; scratch = scratch; output = output; answer = answer })
 
 -- ---- reading
 
@@ -110,9 +111,7 @@ readExit r work = record {
 
 -- 3 for a work list that is not four words a struct, where neither 5 nor 6 comes before it
 unfoldable pub workRefusal : (state : List ℕ) (scratch : List ℕ) → ℕ
-workRefusal state scratch =
-    cond (not (validState reader state (length scratch))) 5
-    (cond (eqb (layer state) notYetIncluded) 6 3)
+workRefusal state scratch = firstOf (stateChecks reader state (length scratch) ++ check listRefusal true ∷ [])
 
 -- Packet's `read` of the structs' words. The work list holds what the same read leaves in it.
 unfoldable pub readCall : (state : List ℕ) (scratch : List ℕ) (markers : Markers) (input : List ℕ) (reports : List ℕ) (work : List ℕ)
@@ -122,7 +121,7 @@ readCall state scratch markers input reports work records answer =
     let done = readExit (read state scratch markers input reports words) (read state scratch markers input reports work .records) in
     let wrongWork = readExit (readResult state scratch reports words (refusedAnswer (workRefusal state scratch))) work in
     let wrongAnswer : ReadExit = record {
-      refusal = 3;
+      refusal = listRefusal;
       state = state;
       scratch = scratch;
       reports = reports;
@@ -146,5 +145,5 @@ anyState state = validState writer state (length state) || validState reader sta
 unfoldable pub describeCall : (state : List ℕ) (answer : List ℕ) → DescribeExit
 describeCall state answer =
     let told : DescribeExit = record { refusal = 0; answer = role state ∷ layer state ∷ length (blocks (bands state)) ∷ [] } in
-    let outOfRange : DescribeExit = record { refusal = 5; answer = 0 ∷ 0 ∷ 0 ∷ [] } in
-    cond (eqb (length answer) 3) (cond (anyState state) told outOfRange) (record { refusal = 3; answer = answer })
+    let outOfRange : DescribeExit = record { refusal = stateRefusal; answer = 0 ∷ 0 ∷ 0 ∷ [] } in
+    cond (eqb (length answer) 3) (cond (anyState state) told outOfRange) (record { refusal = listRefusal; answer = answer })

@@ -1,7 +1,7 @@
 -- The records that are stored from the work list are those that t800's `read` leaves in the records' words.
 use mathlib.Core.Path.{_≡_, refl, sym, ap, _∙_}
 use mathlib.Core.Logic.{_≢_}
-use mathlib.Core.Bool.{Bool, true, false, cond, not, _&&_, _||_}
+use mathlib.Core.Bool.{Bool, true, false, cond, not, _||_, true≢false}
 use mathlib.Core.List.{List, _++_, append-nil}
 use Prim.Native.Nat.{ℕ, _+_, _*_, _/_, _≤_}
 use native.Mathlib.Omega.{arith}
@@ -21,10 +21,7 @@ use Rattle.t800.specs.ReadHeader.{HeaderRead, readHeader}
 use Rattle.t800.specs.Packet.{ReadResult, refusedAnswer, readRefusal, readAbsent, readPresent, read, readResult}
 use Rattle.t800.proofs.Laws.Tests.{if-true, if-false, either, not-refused}
 use Rattle.t800.proofs.Laws.Lists.{record-words-length}
-use Rattle.t800.specs.RoundTrip.{ReadCall, readOf}
-use Rattle.t2_theorems.specs.Calls.{WasRead}
-use Rattle.t2_theorems.specs.Numbers.{NoneHolds, readChecks, NumbersOfCalls}
-use Rattle.t2_theorems.proofs.Numbers.{numbers-of-calls}
+use Rattle.round_trip.proofs.Numbers.{HeaderNumber, header-number}
 use Rattle.t800.specs.declared.Segment.{Segment}
 use Rattle.t800.specs.Exports.{wordsOf, readWords, ReadExit, readExit, workRefusal, readCall}
 use Rattle.t2_records.specs.Segments.{segmentAt, filled}
@@ -116,57 +113,24 @@ module _ (ws scratch : List ℕ) (m : Markers) (src reports : List ℕ) where
   read-is-at records = refl
 
   -- a header that is refused gives 9, 12 or 13, and all records are stored
-  module _ (records : List ℕ) (room : ℕ) (in-time : why ≡ 0) (present : eqb (first .value) 0 ≡ false)
-      (fails : eqb (header (length records / recordWidth) .refusal) 0 ≡ false) where
-    abbrev number : ℕ
-    number = header (length records / recordWidth) .refusal
-
-    abbrev call : ReadCall
-    call = record { scratch = scratch; markers = m; input = src; reports = reports; records = records }
-
-    abbrev made : WasRead
-    made = record { state = ws; call = call; result = readOf ws call; met = refl }
-
-    its-number : readOf ws call .answer .refusal ≡ number
-    unfolding readAt
-    its-number =
-        ap (λ (z : ReadResult). z .answer .refusal)
-        (read-is-at records ∙ if-false (not (eqb why 0)) _ _ (ap not (eq-eqb why 0 in-time))
-        ∙ if-false (eqb (first .value) 0) _ _ present ∙ if-false (eqb number 0) _ _ fails)
-
-    no-list : (validState reader ws (length scratch) ≡ true) × (eqb (layer ws) notYetIncluded ≡ false)
-        × (eqb (length reports) (reportWidth * length (blocks (bands ws))) ≡ true)
-    unfolding readRefusal
-    no-list =
-        let a = not-refused (not (validState reader ws (length scratch))) 5 _ (omega arith) in-time in
-        let b = not-refused (eqb (layer ws) notYetIncluded) 6 _ (omega arith) (a .1) in
-        let c = not-refused (not (eqb (length reports) (reportWidth * length (blocks (bands ws))))) 3 0 (omega arith) (b .1) in
-        (unnot _ (a .0), b .0, unnot _ (c .0))
-      where
-        unnot : (b : Bool) → not b ≡ false → b ≡ true
-        unnot true e = refl
-        unnot false e = sym e
-
-    one-of : (t u v : Bool) → eqb number 9 ≡ t → eqb number 13 ≡ u → eqb number 12 ≡ v
-        → (eqb number 9 || eqb number 12 || eqb number 13) ≡ true
-    unfolding NumbersOfCalls
-    one-of true u v p q r = rw p
-    one-of false true true p q r = rw (p, q, r)
-    one-of false true false p q r = rw (p, q, r)
-    one-of false false true p q r = rw (p, q, r)
-    one-of false false false p q r =
-        let holds : NoneHolds (readChecks ws call) =
-        (ap not (no-list .0), (no-list .1, (ap not (no-list .2), (none 9 p, (none 13 q, (none 12 r, tt)))))) in
-        absurd (eqb-false number 0 fails (sym its-number ∙ numbers-of-calls .3 made .0 .accepts .1 holds))
-      where
-        none : (n : ℕ) → eqb number n ≡ false → (not (eqb (first .value) 0) && eqb number n) ≡ false
-        none n e = rw (present, e)
-
-    header-stores-all : toFill (refusedAnswer number) room ≡ room
-    unfolding toFill
-    header-stores-all = if-false (eqb number 0) _ _ fails
-        ∙ if-true (eqb number 9 || eqb number 12 || eqb number 13) _ _
-        (one-of (eqb number 9) (eqb number 13) (eqb number 12) refl refl refl)
+  header-stores-all : (n room : ℕ) → eqb (header n .refusal) 0 ≡ false → toFill (refusedAnswer (header n .refusal)) room ≡ room
+  unfolding toFill
+  header-stores-all n room fails =
+      let k : ℕ = header n .refusal in
+      if-false (eqb k 0) _ _ fails
+      ∙ if-true (eqb k 9 || eqb k 12 || eqb k 13) _ _
+      (other (eqb k 0) (eqb k 9) (eqb k 13) (eqb k 12) fails (header-number src n ws (first .bio) .one-of))
+    where
+      other : (z a b c : Bool) → z ≡ false → (z || a || b || c) ≡ true → (a || c || b) ≡ true
+      other true a b c e h = absurd (true≢false e)
+      other false true b c e h = refl
+      other false false true true e h = refl
+      other false false true false e h = refl
+      other false false false c e h = or-last c h
+        where
+          or-last : (c : Bool) → c ≡ true → (c || false) ≡ true
+          or-last true e = refl
+          or-last false e = e
 
   -- ---- the read
 
@@ -202,17 +166,17 @@ module _ (ws scratch : List ℕ) (m : Markers) (src reports : List ℕ) where
     same-present l = ap (λ (z : List ℕ). readResult (present xs .state) (present xs .scratch) (present xs .reports) z
         (present xs .answer)) (found-stored rs xs (header n .records) l as-long)
 
-    same-broken : why ≡ 0 → eqb (first .value) 0 ≡ false → eqb (header n .refusal) 0 ≡ false → Same (broken n)
-    same-broken a b c l =
+    same-broken : eqb (header n .refusal) 0 ≡ false → Same (broken n)
+    same-broken c l =
         ap (λ (z : List ℕ). readResult ws (wiped scratch) (wiped reports) z (refusedAnswer (header n .refusal)))
-        (ap (λ (k : ℕ). wordsOf (filled (wiped xs) k rs)) (header-stores-all xs (length rs) a b c) ∙ all-stored rs xs as-long)
+        (ap (λ (k : ℕ). wordsOf (filled (wiped xs) k rs)) (header-stores-all n (length rs) c) ∙ all-stored rs xs as-long)
 
     same-by : (t u v : Bool) → eqb why 0 ≡ t → eqb (first .value) 0 ≡ u → eqb (header n .refusal) 0 ≡ v
         → Same (λ (l : List ℕ). cond (not t) (unchanged l) (cond u (absent l) (cond v (present l) (broken n l))))
     same-by false u v p q r = same-unchanged (eqb-false why 0 p)
     same-by true true v p q r = same-absent
     same-by true false true p q r = same-present
-    same-by true false false p q r = same-broken (eqb-true why 0 p) q r
+    same-by true false false p q r = same-broken r
 
     same-at : length (readAt n xs .records) ≡ length xs → restored rs (readAt n xs) ≡ readAt n (wordsOf rs)
     unfolding readAt

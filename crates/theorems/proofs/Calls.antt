@@ -3,7 +3,7 @@ use Rattle.t800.specs.Numbers.{Numbers}
 use Rattle.t800.specs.RoundTrip.{RoundTrip, WriterInRange}
 use Rattle.round_trip.proofs.Numbers.{numbers}
 use Rattle.round_trip.proofs.Trip.Interfaces.{round-trip, writer-in-range}
-use Rattle.t2_theorems.specs.Calls.{calls}
+use Rattle.theorems.specs.Calls.{calls}
 
 pub numbers-of-calls : Numbers calls
 numbers-of-calls = numbers calls

@@ -1,0 +1,179 @@
+-- Demands 1 and 3 of the exported calls.
+use mathlib.Core.Path.{_≡_, refl, sym, ap, _∙_}
+use mathlib.Core.Bool.{Bool, true, false, not, _&&_, true≢false}
+use Prim.Native.Nat.{ℕ, _≤_, _*_}
+use native.Mathlib.Omega.{arith}
+use lib.ListN.{length, getD}
+use lib.Dec.{eqb}
+use Rattle.t800.specs.Refusals.{listRefusal}
+use Rattle.t800.specs.State.{notYetIncluded, reader, layer}
+use Rattle.t800.specs.Ranges.{validState}
+use Rattle.t800.specs.Reports.{recordWidth}
+use Rattle.t800.specs.Packet.{MeasureResult, WriteResult, ReadResult, readResult, refusedAnswer}
+use Rattle.t800.specs.Exports.{startCall, MeasureExit, measureCall, WriteExit, writeCall, ReadExit, workRefusal, readCall}
+use Rattle.t800.specs.Interface.{startOf, startUntouched, measureOf, measureUntouched, writeOf, writeUntouched, readOf, readUntouched}
+use Rattle.t800.specs.Interface.{Interface}
+use Rattle.t800.specs.Numbers.{Numbers}
+use Rattle.t800.specs.RoundTrip.{RoundTrip, WriterInRange}
+use Rattle.t800.proofs.Laws.Tests.{if-true, if-false, either}
+use Rattle.t800.proofs.Laws.Checks.{on-bool}
+use Rattle.round_trip.proofs.Numbers.{numbers}
+use Rattle.round_trip.proofs.Trip.Interfaces.{round-trip, writer-in-range}
+use Rattle.theorems.specs.Exports.{StartMade, startAsked, startArgs, MeasureMade, measureAsked, measureLeft, WriteMade}
+use Rattle.theorems.specs.Exports.{writeAsked, writeLeft, ReadMade, readAsked, readArgs, readLeft, readOtherwise}
+
+-- ---- each kind of call
+
+module _ {role : ℕ} (m : StartMade role) where
+  start-meets : startAsked m ≡ true → m .left ≡ startOf role (m .lent) (startArgs m)
+  unfolding startCall
+  start-meets a = m .met ∙ if-true (startAsked m) _ _ a
+
+  start-refuses : startAsked m ≡ false → m .left ≡ startUntouched (m .lent) (startArgs m) listRefusal
+  unfolding startCall
+  start-refuses a = m .met ∙ if-false (startAsked m) _ _ a
+
+module _ (m : MeasureMade) where
+  measure-meets : measureAsked m ≡ true → measureLeft m ≡ measureOf (m .state) (m .call)
+  unfolding measureCall
+  measure-meets a =
+      if-true (measureAsked m) _ _ a
+      ∙ ap (λ (z : MeasureExit). record {
+        answer = record { refusal = z .refusal; header = getD (z .answer) 0 0; body = getD (z .answer) 1 0 };
+        scratch = z .scratch;
+      }) (m .met ∙ if-true (measureAsked m) _ _ a)
+
+  measure-refuses : measureAsked m ≡ false → measureLeft m ≡ measureUntouched (m .state) (m .call) listRefusal
+  unfolding measureCall
+  measure-refuses a =
+      if-false (measureAsked m) _ _ a
+      ∙ ap (λ (z : MeasureExit). record { answer = record { refusal = z .refusal; header = 0; body = 0 }; scratch = z .scratch })
+      (m .met ∙ if-false (measureAsked m) _ _ a)
+
+module _ (m : WriteMade) where
+  abbrev by-bytes : ℕ → WriteExit → WriteResult
+  by-bytes bytes z =
+      record { answer = record { refusal = z .refusal; bytes = bytes }; state = z .state; scratch = z .scratch; output = z .output }
+
+  write-meets : writeAsked m ≡ true → writeLeft m ≡ writeOf (m .state) (m .call)
+  unfolding writeCall
+  write-meets a =
+      ap (λ (n : ℕ). by-bytes n (m .left)) (if-true (writeAsked m) (getD (m .left .answer) 0 0) 0 a)
+      ∙ ap (λ (z : WriteExit). by-bytes (getD (z .answer) 0 0) z) (m .met ∙ if-true (writeAsked m) _ _ a)
+
+  write-refuses : writeAsked m ≡ false → writeLeft m ≡ writeUntouched (m .state) (m .call) listRefusal
+  unfolding writeCall
+  write-refuses a =
+      ap (λ (n : ℕ). by-bytes n (m .left)) (if-false (writeAsked m) (getD (m .left .answer) 0 0) 0 a)
+      ∙ ap (by-bytes 0) (m .met ∙ if-false (writeAsked m) _ _ a)
+
+both-true : (a b : Bool) → (a && b) ≡ true → (a ≡ true) × (b ≡ true)
+both-true true b e = (refl, e)
+both-true false b e = absurd (true≢false (sym e))
+
+module _ (m : ReadMade) where
+  abbrev by-answer : ReadExit → ReadResult
+  by-answer z =
+      readResult (z .state) (z .scratch) (z .reports) (z .records) (record {
+        refusal = z .refusal;
+        present = getD (z .answer) 0 0;
+        taken = getD (z .answer) 1 0;
+        segments = getD (z .answer) 2 0;
+        sop = getD (z .answer) 3 0;
+        eph = getD (z .answer) 4 0;
+      })
+
+  abbrev untold : ReadExit → ReadResult
+  untold z = readResult (z .state) (z .scratch) (z .reports) (z .records) (refusedAnswer (z .refusal))
+
+  abbrev five : Bool
+  five = eqb (length (m .answer)) 5
+
+  abbrev fits : Bool
+  fits = eqb (length (m .work)) (recordWidth * length (m .records))
+
+  read-meets : readAsked m ≡ true → readLeft m ≡ readOf (m .state) (readArgs m)
+  unfolding readCall
+  read-meets a =
+      let b = both-true five fits a in
+      if-true five _ _ (b .0) ∙ ap by-answer (m .met ∙ if-true five _ _ (b .0) ∙ if-true fits _ _ (b .1))
+
+  read-refuses : readAsked m ≡ false → readLeft m ≡ readUntouched (m .state) (readArgs m) (readOtherwise m)
+  unfolding readCall
+  read-refuses a =
+      on-bool five
+      (λ e. if-true five _ _ e ∙ ap by-answer (m .met ∙ if-true five _ _ e ∙ if-false fits _ _ (second five fits e a))
+      ∙ ap (readUntouched (m .state) (readArgs m)) (sym (if-true five _ _ e)))
+      (λ e. if-false five _ _ e ∙ ap untold (m .met ∙ if-false five _ _ e)
+      ∙ ap (readUntouched (m .state) (readArgs m)) (sym (if-false five _ _ e)))
+    where
+      second : (a b : Bool) → a ≡ true → (a && b) ≡ false → b ≡ false
+      second true b e f = f
+      second false b e f = absurd (true≢false (sym e))
+
+  read-numbered : (1 ≤ readOtherwise m) × (readOtherwise m ≤ 13)
+  unfolding workRefusal
+  read-numbered =
+      let P : ℕ → Type 0 = λ n. (1 ≤ n) × (n ≤ 13) in
+      either P five _ _
+      (either P (not (validState reader (m .state) (length (m .scratch)))) 5 _ (omega arith)
+      (either P (eqb (layer (m .state)) notYetIncluded) 6 3 (omega arith) (omega arith))) (omega arith)
+
+-- ---- the interface
+
+pub exports : Interface
+exports = record {
+  starts = λ role. record {
+    Made = StartMade role;
+    found = λ m. m .lent;
+    args = startArgs;
+    left = λ m. m .left;
+    asked = startAsked;
+    otherwise = λ m. listRefusal;
+    meets = start-meets;
+    refuses = start-refuses;
+    numbered = λ m. omega arith;
+  };
+  measures = record {
+    Made = MeasureMade;
+    found = λ m. m .state;
+    args = λ m. m .call;
+    left = measureLeft;
+    asked = measureAsked;
+    otherwise = λ m. listRefusal;
+    meets = measure-meets;
+    refuses = measure-refuses;
+    numbered = λ m. omega arith;
+  };
+  writes = record {
+    Made = WriteMade;
+    found = λ m. m .state;
+    args = λ m. m .call;
+    left = writeLeft;
+    asked = writeAsked;
+    otherwise = λ m. listRefusal;
+    meets = write-meets;
+    refuses = write-refuses;
+    numbered = λ m. omega arith;
+  };
+  reads = record {
+    Made = ReadMade;
+    found = λ m. m .state;
+    args = readArgs;
+    left = readLeft;
+    asked = readAsked;
+    otherwise = readOtherwise;
+    meets = read-meets;
+    refuses = read-refuses;
+    numbered = read-numbered;
+  };
+}
+
+pub numbers-of-exports : Numbers exports
+numbers-of-exports = numbers exports
+
+pub round-trip-of-exports : RoundTrip exports
+round-trip-of-exports = round-trip exports
+
+pub writer-of-exports-in-range : WriterInRange exports
+writer-of-exports-in-range = writer-in-range exports
