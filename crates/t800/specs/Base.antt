@@ -17,32 +17,32 @@ abbrev pub Bits : Type 0
 Bits = List ℕ
 
 -- the test holds at each number below n
-unfoldable pub every : ℕ → (ℕ → Bool) → Bool
-every zero f = true
-every (suc n) f = f n && every n f
+unfoldable pub every : (n : ℕ) (test : ℕ → Bool) → Bool
+every zero test = true
+every (suc n) test = test n && every n test
 
 -- the test holds of some entry
-unfoldable pub any {ℓ} : {A : Type ℓ} → (A → Bool) → List A → Bool
-any f [] = false
-any f (x ∷ xs) = f x || any f xs
+unfoldable pub any {ℓ} : {A : Type ℓ} → (test : A → Bool) → List A → Bool
+any test [] = false
+any test (x ∷ xs) = test x || any test xs
 
 unfoldable pub sum : List ℕ → ℕ
 sum [] = 0
 sum (x ∷ xs) = x + sum xs
 
--- how often n can be halved before it is below 2; the first argument bounds that
-unfoldable pub halvings : ℕ → ℕ → ℕ
+-- how often n can be halved before it is below 2, up to a bound
+unfoldable pub halvings : (bound n : ℕ) → ℕ
 halvings zero n = 0
-halvings (suc f) n = let r = 1 + halvings f (n / 2) in cond (ltb n 2) 0 r
+halvings (suc bound) n = let r = 1 + halvings bound (n / 2) in cond (ltb n 2) 0 r
 
 -- floor (log2 n), and 0 at 0
-unfoldable pub floorLog2 : ℕ → ℕ
+unfoldable pub floorLog2 : (n : ℕ) → ℕ
 floorLog2 n = halvings n n
 
 -- xs over the front of a lent list
-unfoldable pub overwrite : List ℕ → List ℕ → List ℕ
+unfoldable pub overwrite : (lent xs : List ℕ) → List ℕ
 overwrite lent xs = xs ++ drop (length xs) lent
 
 -- zeros over the whole of a lent list
-abbrev pub wiped : List ℕ → List ℕ
+abbrev pub wiped : (lent : List ℕ) → List ℕ
 wiped lent = replicate (length lent) 0

@@ -6,29 +6,30 @@ use mathlib.Core.List.{List, [], _∷_}
 use lib.ListN.{length, getD}
 use lib.Dec.{eqb}
 use Rattle.t800.specs.declared.Bio.{Bio}
+use Rattle.t800.specs.Base.{Bytes, Bits}
 
 -- the low n bits of v, high bit first
-unfoldable pub bitsOf : ℕ → ℕ → List ℕ
+unfoldable pub bitsOf : (n v : ℕ) → Bits
 bitsOf zero v = []
 bitsOf (suc n) v = v / 2 ^ n % 2 ∷ bitsOf n v
 
 -- ---- writing
 
 -- how many bits go into the byte after this one
-unfoldable pub bitsAfter : ℕ → ℕ
+unfoldable pub bitsAfter : (byte : ℕ) → ℕ
 bitsAfter byte = cond (eqb byte 255) 7 8
 
 -- a last byte FF gets a 00 after it
-unfoldable pub lastBytes : ℕ → List ℕ
+unfoldable pub lastBytes : (byte : ℕ) → Bytes
 lastBytes byte = byte ∷ cond (eqb byte 255) (0 ∷ []) []
 
 -- the bytes that the bits make, where `byte` is being filled and its low `free` bits are free
-unfoldable pub packFrom : ℕ → ℕ → List ℕ → List ℕ
+unfoldable pub packFrom : (byte free : ℕ) → Bits → Bytes
 packFrom byte free [] = lastBytes byte
-packFrom byte zero (b ∷ bs) = byte ∷ packFrom (b * 2 ^ (bitsAfter byte - 1)) (bitsAfter byte - 1) bs
-packFrom byte (suc free) (b ∷ bs) = packFrom (byte + b * 2 ^ free) free bs
+packFrom byte zero (bit ∷ bits) = byte ∷ packFrom (bit * 2 ^ (bitsAfter byte - 1)) (bitsAfter byte - 1) bits
+packFrom byte (suc free) (bit ∷ bits) = packFrom (byte + bit * 2 ^ free) free bits
 
-unfoldable pub pack : List ℕ → List ℕ
+unfoldable pub pack : Bits → Bytes
 pack bits = packFrom 0 8 bits
 
 -- ---- reading
@@ -38,13 +39,13 @@ pub record Decoded : Type 0 where
   pub value : ℕ
   pub bio : Bio
 
--- before the first bit, with the next byte at p
-abbrev pub bioAt : ℕ → Bio
-bioAt p = record { bp = p; buf = 0; ct = 0 }
+-- before the first bit, with the next byte at this place
+abbrev pub bioAt : (place : ℕ) → Bio
+bioAt place = record { bp = place; buf = 0; ct = 0 }
 
 -- The held word is moved up by eight and cut to sixteen bits, and the next byte moves in, a 0 past the end. After FF seven bits
 -- of it count. The place stops at length + 1, which says that the held byte lies past the end.
-unfoldable pub byteIn : List ℕ → Bio → Bio
+unfoldable pub byteIn : (src : Bytes) → Bio → Bio
 byteIn src b =
     let moved = b .buf * 256 % 65536 in
     record { bp = min (b .bp + 1) (length src + 1); buf = moved + getD src (b .bp) 0; ct = cond (eqb moved 0xff00) 7 8 }
@@ -53,15 +54,15 @@ byteIn src b =
 unfoldable pub heldBit : Bio → Decoded
 heldBit b = record { value = b .buf / 2 ^ (b .ct - 1) % 2; bio = record { bp = b .bp; buf = b .buf; ct = b .ct - 1 } }
 
-unfoldable pub getBit : List ℕ → Bio → Decoded
+unfoldable pub getBit : (src : Bytes) → Bio → Decoded
 getBit src b = heldBit (cond (eqb (b .ct) 0) (byteIn src b) b)
 
 -- n bits as a number, high bit first, after those that v holds
-unfoldable pub readBitsOnto : List ℕ → ℕ → ℕ → Bio → Decoded
+unfoldable pub readBitsOnto : (src : Bytes) (n v : ℕ) → Bio → Decoded
 readBitsOnto src zero v b = record { value = v; bio = b }
 readBitsOnto src (suc n) v b = let r = getBit src b in readBitsOnto src n (2 * v + r .value) (r .bio)
 
-unfoldable pub readBits : List ℕ → ℕ → Bio → Decoded
+unfoldable pub readBits : (src : Bytes) (n : ℕ) → Bio → Decoded
 readBits src n b = readBitsOnto src n 0 b
 
 -- ---- the header's end
@@ -71,9 +72,9 @@ unfoldable pub inFF : Bio → Bool
 inFF b = eqb (b .buf % 256) 255
 
 -- refusal 12: and the input ends with that byte
-unfoldable pub endsInFF : List ℕ → Bio → Bool
+unfoldable pub endsInFF : (src : Bytes) → Bio → Bool
 endsInFF src b = inFF b && eqb (b .bp) (length src)
 
 -- the bytes taken: a byte FF takes the one after it along
-unfoldable pub bytesTaken : List ℕ → Bio → ℕ
+unfoldable pub bytesTaken : (src : Bytes) → Bio → ℕ
 bytesTaken src b = cond (inFF b) (b .bp + 1) (min (b .bp) (length src))

@@ -5,19 +5,19 @@ use mathlib.Core.List.{List, [], _∷_, _++_}
 use lib.ListN.{length, getD}
 use lib.Dec.{ltb, eqb}
 use Rattle.t800.specs.declared.Markers.{Markers}
+use Rattle.t800.specs.Base.{Bytes}
 
 -- ---- writing
 
 -- start of packet, with the low 16 bits of the packet number, high byte first
-unfoldable pub sopBytes : ℕ → List ℕ
+unfoldable pub sopBytes : (number : ℕ) → Bytes
 sopBytes number = 0xff ∷ 0x91 ∷ 0x00 ∷ 0x04 ∷ number / 256 % 256 ∷ number % 256 ∷ []
 
 -- end of packet header
-unfoldable pub ephBytes : List ℕ
+unfoldable pub ephBytes : Bytes
 ephBytes = 0xff ∷ 0x92 ∷ []
 
--- a header between its markers
-unfoldable pub withMarkers : Markers → ℕ → List ℕ → List ℕ
+unfoldable pub withMarkers : Markers → (number : ℕ) (header : Bytes) → Bytes
 withMarkers m number header = cond (m .sop) (sopBytes number) [] ++ header ++ cond (m .eph) ephBytes []
 
 -- ---- reading
@@ -27,16 +27,16 @@ pub record MarkerRead : Type 0 where
   pub skip : ℕ
   pub mark : ℕ
 
--- a marker of n bytes, FF and `second` first, looked for at place p
-unfoldable pub readMarker : Bool → ℕ → ℕ → List ℕ → ℕ → MarkerRead
-readMarker used n second src p =
+-- a marker of `size` bytes, FF and `second` first
+unfoldable pub readMarker : (used : Bool) (size second : ℕ) (src : Bytes) (place : ℕ) → MarkerRead
+readMarker used size second src place =
     cond (not used) (record { skip = 0; mark = 0 })
-    (cond (ltb (length src - p) n) (record { skip = 0; mark = 1 })
-    (cond (eqb (getD src p 0) 0xff && eqb (getD src (p + 1) 0) second) (record { skip = n; mark = 0 })
+    (cond (ltb (length src - place) size) (record { skip = 0; mark = 1 })
+    (cond (eqb (getD src place 0) 0xff && eqb (getD src (place + 1) 0) second) (record { skip = size; mark = 0 })
     (record { skip = 0; mark = 2 })))
 
-unfoldable pub readSop : Markers → List ℕ → MarkerRead
+unfoldable pub readSop : Markers → (src : Bytes) → MarkerRead
 readSop m src = readMarker (m .sop) 6 0x91 src 0
 
-unfoldable pub readEph : Markers → List ℕ → ℕ → MarkerRead
-readEph m src p = readMarker (m .eph) 2 0x92 src p
+unfoldable pub readEph : Markers → (src : Bytes) (place : ℕ) → MarkerRead
+readEph m src place = readMarker (m .eph) 2 0x92 src place

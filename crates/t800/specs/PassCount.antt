@@ -5,23 +5,23 @@ use mathlib.Core.List.{List, [], _∷_, _++_}
 use lib.ListN.{replicate}
 use lib.Dec.{leb, eqb}
 use Rattle.t800.specs.declared.Bio.{Bio}
+use Rattle.t800.specs.Base.{Bytes, Bits}
 use Rattle.t800.specs.Bits.{Decoded, bitsOf, getBit, readBits}
 
--- the codeword of n passes, 1 to 164
-unfoldable pub passBits : ℕ → List ℕ
-passBits n =
-    cond (leb n 1) (0 ∷ [])
-    (cond (leb n 2) (1 ∷ 0 ∷ [])
-    (cond (leb n 5) (1 ∷ 1 ∷ bitsOf 2 (n - 3))
-    (cond (leb n 36) (replicate 4 1 ++ bitsOf 5 (n - 6))
-    (replicate 9 1 ++ bitsOf 7 (n - 37)))))
+-- the codeword of 1 to 164 passes
+unfoldable pub passBits : (passes : ℕ) → Bits
+passBits passes =
+    cond (leb passes 1) (0 ∷ [])
+    (cond (leb passes 2) (1 ∷ 0 ∷ [])
+    (cond (leb passes 5) (1 ∷ 1 ∷ bitsOf 2 (passes - 3))
+    (cond (leb passes 36) (replicate 4 1 ++ bitsOf 5 (passes - 6))
+    (replicate 9 1 ++ bitsOf 7 (passes - 37)))))
 
--- k and the number that was read: shorter codewords name the numbers below k
-abbrev pub plus : ℕ → Decoded → Decoded
-plus k r = record { value = k + r .value; bio = r .bio }
+-- shorter codewords name the numbers below `least`
+abbrev pub plus : (least : ℕ) → Decoded → Decoded
+plus least r = record { value = least + r .value; bio = r .bio }
 
--- a bit 0 is 1; 10 is 2; then two bits unless both are 1, five bits unless all are 1, seven bits
-unfoldable pub readPasses : List ℕ → Bio → Decoded
+unfoldable pub readPasses : (src : Bytes) → Bio → Decoded
 readPasses src b =
     let first = getBit src b in
     let second = getBit src (first .bio) in

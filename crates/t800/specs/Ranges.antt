@@ -5,7 +5,7 @@ use mathlib.Core.List.{List, [], _∷_}
 use lib.ListN.{length, getD, take}
 use lib.Dec.{ltb, leb, eqb}
 use Rattle.t800.specs.declared.Band.{Band}
-use Rattle.t800.specs.Base.{every, any}
+use Rattle.t800.specs.Base.{Words, every, any}
 use Rattle.t800.specs.TagTree.{value, low, known}
 use Rattle.t800.specs.Segments.{isLimit}
 use Rattle.t800.specs.State.{Block, notYetIncluded, notYetPlanes, writer, role, bandCount, style, layer, bands, blocksIn}
@@ -13,66 +13,59 @@ use Rattle.t800.specs.State.{bandNodes, bandLength, stateLength, passesS
 
 -- ---- refusals 1, 2 and 4
 
--- band count not 1 to 3, or a side above 64
-unfoldable pub badShape : ℕ → List Band → Bool
-badShape n bs = eqb n 0 || ltb 3 n || any (λ b. ltb 64 (b .across) || ltb 64 (b .down)) (take n bs)
+unfoldable pub badShape : (count : ℕ) → List Band → Bool
+badShape count bs = eqb count 0 || ltb 3 count || any (λ b. ltb 64 (b .across) || ltb 64 (b .down)) (take count bs)
 
--- of a byte: bit 0x40 or 0x80 set
-unfoldable pub badStyle : ℕ → Bool
-badStyle s = ltb 63 s
+-- bit 0x40 or 0x80 set
+unfoldable pub badStyle : (styleByte : ℕ) → Bool
+badStyle styleByte = ltb 63 styleByte
 
--- a band above 998 planes
 unfoldable pub bandTooDeep : List Band → Bool
 bandTooDeep bs = any (λ b. ltb 998 (b .planes)) bs
 
--- a block above its band
-unfoldable pub blockTooDeep : List Block → List ℕ → Bool
+-- a block with more planes than its band
+unfoldable pub blockTooDeep : List Block → (planes : Words) → Bool
 blockTooDeep [] ps = false
 blockTooDeep (k ∷ ks) [] = false
 blockTooDeep (k ∷ ks) (p ∷ ps) = ltb (k .planes) p || blockTooDeep ks ps
 
 -- ---- refusal 5
 
--- a node in a tree whose "not yet" is m: value and low up to m, known 0 or 1
-unfoldable pub nodeInRange : List ℕ → ℕ → ℕ → Bool
-nodeInRange ws m n = leb (value ws n) m && leb (low ws n) m && leb (known ws n) 1
+unfoldable pub nodeInRange : (state : Words) (notYet nodeAt : ℕ) → Bool
+nodeInRange state notYet nodeAt = leb (value state nodeAt) notYet && leb (low state nodeAt) notYet && leb (known state nodeAt) 1
 
--- Passes at most 164 × next layer; length bits 0 exactly where passes are 0, else 3 to 32; in a reader a limit that the style gives
--- with 1 to that many passes, or both 0 exactly where passes are 0; in a writer both 0.
-unfoldable pub blockInRange : List ℕ → ℕ → Bool
+unfoldable pub blockInRange : (state : Words) (at : ℕ) → Bool
 unfolding writer
-blockInRange ws at =
-    let none = eqb (passesSoFar ws at) 0 in
-    let limit = segmentLimit ws at in
-    let used = segmentPasses ws at in
-    leb (passesSoFar ws at) (164 * layer ws)
-    && cond none (eqb (lengthBits ws at) 0) (leb 3 (lengthBits ws at) && leb (lengthBits ws at) 32)
-    && cond (none || eqb (role ws) writer) (eqb limit 0 && eqb used 0) (isLimit (style ws) limit && leb 1 used && leb used limit)
+blockInRange state at =
+    let none = eqb (passesSoFar state at) 0 in
+    let limit = segmentLimit state at in
+    let used = segmentPasses state at in
+    leb (passesSoFar state at) (164 * layer state)
+    && cond none (eqb (lengthBits state at) 0) (leb 3 (lengthBits state at) && leb (lengthBits state at) 32)
+    && cond (none || eqb (role state) writer) (eqb limit 0 && eqb used 0) (isLimit (style state) limit && leb 1 used && leb used limit)
 
--- a band whose words begin at `at`
-unfoldable pub bandInRange : List ℕ → ℕ → Band → Bool
-bandInRange ws at b =
-    every (bandNodes b) (λ i. nodeInRange ws notYetIncluded (at + 3 * i))
-    && every (bandNodes b) (λ i. nodeInRange ws notYetPlanes (at + 3 * bandNodes b + 3 * i))
-    && every (blocksIn b) (λ i. blockInRange ws (at + 6 * bandNodes b + 4 * i))
+unfoldable pub bandInRange : (state : Words) (bandStart : ℕ) → Band → Bool
+bandInRange state bandStart b =
+    every (bandNodes b) (λ i. nodeInRange state notYetIncluded (bandStart + 3 * i))
+    && every (bandNodes b) (λ i. nodeInRange state notYetPlanes (bandStart + 3 * bandNodes b + 3 * i))
+    && every (blocksIn b) (λ i. blockInRange state (bandStart + 6 * bandNodes b + 4 * i))
 
-unfoldable pub bandsInRange : List ℕ → ℕ → List Band → Bool
-bandsInRange ws at [] = true
-bandsInRange ws at (b ∷ bs) = bandInRange ws at b && bandsInRange ws (at + bandLength b) bs
+unfoldable pub bandsInRange : (state : Words) (bandStart : ℕ) → List Band → Bool
+bandsInRange state bandStart [] = true
+bandsInRange state bandStart (b ∷ bs) = bandInRange state bandStart b && bandsInRange state (bandStart + bandLength b) bs
 
--- the words of bands that are not used are 0
-unfoldable pub unusedBandsZero : List ℕ → Bool
-unusedBandsZero ws = every 9 (λ i. ltb i (3 * bandCount ws) || eqb (getD ws (4 + i) 0) 0)
+unfoldable pub unusedBandsZero : (state : Words) → Bool
+unusedBandsZero state = every 9 (λ i. ltb i (3 * bandCount state) || eqb (getD state (4 + i) 0) 0)
 
--- a state for the role r, with a scratch of n words: refusal 5 is given where this fails
-unfoldable pub validState : ℕ → List ℕ → ℕ → Bool
-validState r ws n =
-    eqb (role ws) r
-    && not (badShape (bandCount ws) (bands ws))
-    && not (badStyle (style ws))
-    && leb (layer ws) notYetIncluded
-    && not (bandTooDeep (bands ws))
-    && unusedBandsZero ws
-    && eqb (length ws) (stateLength (bands ws))
-    && eqb n (length ws)
-    && bandsInRange ws 13 (bands ws)
+-- refusal 5 is given where this fails
+unfoldable pub validState : (callRole : ℕ) (state : Words) (scratchLength : ℕ) → Bool
+validState callRole state scratchLength =
+    eqb (role state) callRole
+    && not (badShape (bandCount state) (bands state))
+    && not (badStyle (style state))
+    && leb (layer state) notYetIncluded
+    && not (bandTooDeep (bands state))
+    && unusedBandsZero state
+    && eqb (length state) (stateLength (bands state))
+    && eqb scratchLength (length state)
+    && bandsInRange state 13 (bands state)

@@ -1,6 +1,7 @@
 -- What a read tells of a packet (SCOPE S7), and how it lies in the lent lists.
 use Prim.Native.Nat.{ℕ}
 use mathlib.Core.List.{List, [], _∷_}
+use Rattle.t800.specs.Base.{Words}
 
 -- a block's report: 0 absent, 1 first time, 2 again; zero planes and block planes, both 0 unless it is 1; passes
 pub record BlockReport : Type 0 where
@@ -27,10 +28,10 @@ abbrev pub recordWidth : ℕ
 recordWidth = 4
 
 -- one after another, the words of each in the order above
-unfoldable pub reportWords : List BlockReport → List ℕ
+unfoldable pub reportWords : List BlockReport → Words
 reportWords [] = []
 reportWords (r ∷ rs) = r .inclusion ∷ r .zeroPlanes ∷ r .planes ∷ r .passes ∷ reportWords rs
 
-unfoldable pub recordWords : List SegmentRecord → List ℕ
+unfoldable pub recordWords : List SegmentRecord → Words
 recordWords [] = []
 recordWords (r ∷ rs) = r .block ∷ r .opens ∷ r .passes ∷ r .bytes ∷ recordWords rs

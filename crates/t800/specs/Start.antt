@@ -14,41 +14,40 @@ use Rattle.t800.specs.Ranges.{badShape, badStyle, bandTooDeep, blockTooD
 
 -- ---- a fresh state
 
--- n nodes with the value v, low 0, known 0
-unfoldable pub freshNodes : ℕ → ℕ → List ℕ
+unfoldable pub freshNodes : (v count : ℕ) → Words
 freshNodes v zero = []
-freshNodes v (suc n) = v ∷ 0 ∷ 0 ∷ freshNodes v n
+freshNodes v (suc count) = v ∷ 0 ∷ 0 ∷ freshNodes v count
 
-unfoldable pub freshBlocks : ℕ → List ℕ
+unfoldable pub freshBlocks : (count : ℕ) → Words
 freshBlocks zero = []
-freshBlocks (suc n) = 0 ∷ 0 ∷ 0 ∷ 0 ∷ freshBlocks n
+freshBlocks (suc count) = 0 ∷ 0 ∷ 0 ∷ 0 ∷ freshBlocks count
 
-unfoldable pub freshBands : List Band → List ℕ
+unfoldable pub freshBands : List Band → Words
 freshBands [] = []
 freshBands (b ∷ bs) =
     freshNodes notYetIncluded (bandNodes b) ++ freshNodes notYetPlanes (bandNodes b) ++ freshBlocks (blocksIn b) ++ freshBands bs
 
--- three words for each of n bands, 0 where there is none
-unfoldable pub bandWords : List Band → ℕ → List ℕ
+-- three words for each of so many bands, 0 where there is none
+unfoldable pub bandWords : List Band → (count : ℕ) → Words
 bandWords bs zero = []
-bandWords [] (suc n) = 0 ∷ 0 ∷ 0 ∷ bandWords [] n
-bandWords (b ∷ bs) (suc n) = b .across ∷ b .down ∷ b .planes ∷ bandWords bs n
+bandWords [] (suc count) = 0 ∷ 0 ∷ 0 ∷ bandWords [] count
+bandWords (b ∷ bs) (suc count) = b .across ∷ b .down ∷ b .planes ∷ bandWords bs count
 
-unfoldable pub freshState : ℕ → ℕ → List Band → List ℕ
-freshState r s bs = r ∷ length bs ∷ s ∷ 0 ∷ bandWords bs 3 ++ freshBands bs
+unfoldable pub freshState : (role style : ℕ) → List Band → Words
+freshState role style bs = role ∷ length bs ∷ style ∷ 0 ∷ bandWords bs 3 ++ freshBands bs
 
--- each block's zero planes, its band's planes minus its own, are set in the zero-plane tree
-unfoldable pub setZeroPlanes : List Block → List ℕ → List ℕ → List ℕ
-setZeroPlanes [] ps ws = ws
-setZeroPlanes (k ∷ ks) [] ws = ws
-setZeroPlanes (k ∷ ks) (p ∷ ps) ws = setZeroPlanes ks ps (setValue (k .zeroTree) (k .path) (k .planes - p) ws)
+-- each block's zero planes are its band's planes minus its own
+unfoldable pub setZeroPlanes : List Block → (planes state : Words) → Words
+setZeroPlanes [] ps state = state
+setZeroPlanes (k ∷ ks) [] state = state
+setZeroPlanes (k ∷ ks) (p ∷ ps) state = setZeroPlanes ks ps (setValue (k .zeroTree) (k .path) (k .planes - p) state)
 
 -- ---- the call
 
 -- 0 or a refusal, and the lent state after it
 pub record StartResult : Type 0 where
   pub answer : ℕ
-  pub state : List ℕ
+  pub state : Words
 
 -- 1, 2, 3, 4. Bands beyond the count are ignored. Fewer than the count cannot be given in the code, where they are an array of three. A
 -- reader is given no block planes.

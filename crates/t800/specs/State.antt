@@ -5,6 +5,7 @@ use Prim.Native.Nat.{ℕ, zero, suc, _+_, _*_}
 use mathlib.Core.List.{List, [], _∷_, _++_}
 use lib.ListN.{getD, take}
 use Rattle.t800.specs.declared.Band.{Band}
+use Rattle.t800.specs.Base.{Words}
 use Rattle.t800.specs.TagTree.{nodes, pathToRoot}
 
 -- "not yet" in the inclusion tree, which gives as many layers, and in the zero-plane tree
@@ -43,31 +44,30 @@ pub record Block : Type 0 where
   pub at : ℕ
   pub planes : ℕ
 
--- block i of a band whose words begin at `at`
-abbrev pub blockOf : ℕ → Band → ℕ → Block
-blockOf at b i = record {
-  inclTree = at;
-  zeroTree = at + 3 * bandNodes b;
-  leaf = i;
-  path = pathToRoot (b .across) (b .down) i;
-  at = at + 6 * bandNodes b + 4 * i;
+abbrev pub blockOf : (bandStart : ℕ) → Band → (leaf : ℕ) → Block
+blockOf bandStart b leaf = record {
+  inclTree = bandStart;
+  zeroTree = bandStart + 3 * bandNodes b;
+  leaf = leaf;
+  path = pathToRoot (b .across) (b .down) leaf;
+  at = bandStart + 6 * bandNodes b + 4 * leaf;
   planes = b .planes;
 }
 
--- n blocks of that band, from block i on
-unfoldable pub blocksFrom : ℕ → Band → ℕ → ℕ → List Block
-blocksFrom at b zero i = []
-blocksFrom at b (suc n) i = blockOf at b i ∷ blocksFrom at b n (i + 1)
+-- so many blocks of that band, from this leaf's on
+unfoldable pub blocksFrom : (bandStart : ℕ) → Band → (count leaf : ℕ) → List Block
+blocksFrom bandStart b zero leaf = []
+blocksFrom bandStart b (suc count) leaf = blockOf bandStart b leaf ∷ blocksFrom bandStart b count (leaf + 1)
 
--- the blocks of the bands whose words begin at `at`: band by band, row by row
-unfoldable pub blocksAt : ℕ → List Band → List Block
-blocksAt at [] = []
-blocksAt at (b ∷ bs) = blocksFrom at b (blocksIn b) 0 ++ blocksAt (at + bandLength b) bs
+-- band by band, row by row
+unfoldable pub blocksAt : (bandStart : ℕ) → List Band → List Block
+blocksAt bandStart [] = []
+blocksAt bandStart (b ∷ bs) = blocksFrom bandStart b (blocksIn b) 0 ++ blocksAt (bandStart + bandLength b) bs
 
--- where these words end
-unfoldable pub endOf : ℕ → List Band → ℕ
-endOf at [] = at
-endOf at (b ∷ bs) = endOf (at + bandLength b) bs
+-- where the bands' words end
+unfoldable pub endOf : (bandStart : ℕ) → List Band → ℕ
+endOf bandStart [] = bandStart
+endOf bandStart (b ∷ bs) = endOf (bandStart + bandLength b) bs
 
 unfoldable pub blocks : List Band → List Block
 blocks bs = blocksAt 13 bs
@@ -77,33 +77,33 @@ stateLength bs = endOf 13 bs
 
 -- ---- what the words say
 
-abbrev pub role : List ℕ → ℕ
-role ws = getD ws 0 0
+abbrev pub role : (state : Words) → ℕ
+role state = getD state 0 0
 
-abbrev pub bandCount : List ℕ → ℕ
-bandCount ws = getD ws 1 0
+abbrev pub bandCount : (state : Words) → ℕ
+bandCount state = getD state 1 0
 
-abbrev pub style : List ℕ → ℕ
-style ws = getD ws 2 0
+abbrev pub style : (state : Words) → ℕ
+style state = getD state 2 0
 
-abbrev pub layer : List ℕ → ℕ
-layer ws = getD ws 3 0
+abbrev pub layer : (state : Words) → ℕ
+layer state = getD state 3 0
 
-unfoldable pub bandAt : List ℕ → ℕ → Band
-bandAt ws i = record { across = getD ws (4 + 3 * i) 0; down = getD ws (5 + 3 * i) 0; planes = getD ws (6 + 3 * i) 0 }
+unfoldable pub bandAt : (state : Words) (i : ℕ) → Band
+bandAt state i = record { across = getD state (4 + 3 * i) 0; down = getD state (5 + 3 * i) 0; planes = getD state (6 + 3 * i) 0 }
 
-unfoldable pub bands : List ℕ → List Band
-bands ws = take (bandCount ws) (bandAt ws 0 ∷ bandAt ws 1 ∷ bandAt ws 2 ∷ [])
+unfoldable pub bands : (state : Words) → List Band
+bands state = take (bandCount state) (bandAt state 0 ∷ bandAt state 1 ∷ bandAt state 2 ∷ [])
 
--- a block's words, the first at `at`: passes so far, length bits, limit and passes of its current segment
-abbrev pub passesSoFar : List ℕ → ℕ → ℕ
-passesSoFar ws at = getD ws at 0
+-- a block's words, the first at `at`; limit and passes are those of its current segment
+abbrev pub passesSoFar : (state : Words) (at : ℕ) → ℕ
+passesSoFar state at = getD state at 0
 
-abbrev pub lengthBits : List ℕ → ℕ → ℕ
-lengthBits ws at = getD ws (at + 1) 0
+abbrev pub lengthBits : (state : Words) (at : ℕ) → ℕ
+lengthBits state at = getD state (at + 1) 0
 
-abbrev pub segmentLimit : List ℕ → ℕ → ℕ
-segmentLimit ws at = getD ws (at + 2) 0
+abbrev pub segmentLimit : (state : Words) (at : ℕ) → ℕ
+segmentLimit state at = getD state (at + 2) 0
 
-abbrev pub segmentPasses : List ℕ → ℕ → ℕ
-segmentPasses ws at = getD ws (at + 3) 0
+abbrev pub segmentPasses : (state : Words) (at : ℕ) → ℕ
+segmentPasses state at = getD state (at + 3) 0

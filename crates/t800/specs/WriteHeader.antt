@@ -5,7 +5,7 @@ use mathlib.Core.Bool.{Bool, false, cond, _&&_, _||_}
 use mathlib.Core.List.{List, [], _∷_, _++_, reverse}
 use lib.ListN.{take, drop, set}
 use lib.Dec.{ltb, leb, eqb}
-use Rattle.t800.specs.Base.{any}
+use Rattle.t800.specs.Base.{Words, Bytes, any}
 use Rattle.t800.specs.TagTree.{Coded, setValue, codePath}
 use Rattle.t800.specs.PassCount.{passBits}
 use Rattle.t800.specs.Segments.{Segment, segmentsOf, width, increment, commaBits, lengthFields}
@@ -13,89 +13,85 @@ use Rattle.t800.specs.State.{Block, notYetPlanes, blocks, bands, layer, 
 
 -- what a layer brings: a pass count for each block, and for each pass its bytes and a termination mark, 0 if it isn't terminated
 pub record Contribution : Type 0 where
-  pub counts : List ℕ
-  pub lengths : List ℕ
-  pub marks : List ℕ
+  pub counts : Words
+  pub lengths : Words
+  pub marks : Bytes
 
-abbrev pub contribution : List ℕ → List ℕ → List ℕ → Contribution
+abbrev pub contribution : (counts lengths : Words) (marks : Bytes) → Contribution
 contribution counts lengths marks = record { counts = counts; lengths = lengths; marks = marks }
 
--- a block without passes so far
-unfoldable pub isNew : List ℕ → Block → Bool
-isNew ws k = eqb (passesSoFar ws (k .at)) 0
+unfoldable pub isNew : (state : Words) → Block → Bool
+isNew state k = eqb (passesSoFar state (k .at)) 0
 
--- its length bits as the packet begins: 3 at first inclusion, then kept across layers
-unfoldable pub lengthBitsBefore : List ℕ → Block → ℕ
-lengthBitsBefore ws k = cond (isNew ws k) 3 (lengthBits ws (k .at))
+-- a block's length bits as the packet begins
+unfoldable pub lengthBitsBefore : (state : Words) → Block → ℕ
+lengthBitsBefore state k = cond (isNew state k) 3 (lengthBits state (k .at))
 
 -- ---- below, counts, lengths and marks are those that are left
 
--- The blocks that are new in layer t are set in their inclusion trees. No two bands share a tree, so that setting all bands' blocks
+-- The blocks that are new in this layer are set in their inclusion trees. No two bands share a tree, so that setting all bands' blocks
 -- before the first is coded is setting each band's before its first.
-unfoldable pub setNewBlocks : ℕ → List Block → List ℕ → List ℕ → List ℕ
-setNewBlocks t [] cs ws = ws
-setNewBlocks t (k ∷ ks) [] ws = ws
-setNewBlocks t (k ∷ ks) (c ∷ cs) ws = setNewBlocks t ks cs (cond (isNew ws k && ltb 0 c) (setValue (k .inclTree) (k .path) t ws) ws)
+unfoldable pub setNewBlocks : (layerNow : ℕ) → List Block → (counts state : Words) → Words
+setNewBlocks layerNow [] cs state = state
+setNewBlocks layerNow (k ∷ ks) [] state = state
+setNewBlocks layerNow (k ∷ ks) (c ∷ cs) state =
+    setNewBlocks layerNow ks cs (cond (isNew state k && ltb 0 c) (setValue (k .inclTree) (k .path) layerNow state) state)
 
--- inclusion in layer t: by tree until first included, then one bit
-unfoldable pub codeInclusion : ℕ → Block → ℕ → List ℕ → Coded
-codeInclusion t k c ws =
-    let tree = codePath (k .inclTree) (t + 1) (reverse (k .path)) 0 ws in
-    cond (isNew ws k) tree (record { bits = cond (ltb 0 c) 1 0 ∷ []; words = ws })
+unfoldable pub codeInclusion : (layerNow : ℕ) → Block → (passes : ℕ) (state : Words) → Coded
+codeInclusion layerNow k passes state =
+    let tree = codePath (k .inclTree) (layerNow + 1) (reverse (k .path)) 0 state in
+    cond (isNew state k) tree (record { bits = cond (ltb 0 passes) 1 0 ∷ []; words = state })
 
--- zero planes, at first inclusion
-unfoldable pub codeZeroPlanes : Block → List ℕ → Coded
-codeZeroPlanes k ws =
-    let tree = codePath (k .zeroTree) notYetPlanes (reverse (k .path)) 0 ws in
-    cond (isNew ws k) tree (record { bits = []; words = ws })
+unfoldable pub codeZeroPlanes : Block → (state : Words) → Coded
+codeZeroPlanes k state =
+    let tree = codePath (k .zeroTree) notYetPlanes (reverse (k .path)) 0 state in
+    cond (isNew state k) tree (record { bits = []; words = state })
 
--- pass count, increment of the length bits, one length per segment
-unfoldable pub codePasses : Block → ℕ → List Segment → List ℕ → Coded
-codePasses k c segments ws =
-    let before = lengthBitsBefore ws k in
+unfoldable pub codePasses : Block → (passes : ℕ) → List Segment → (state : Words) → Coded
+codePasses k passes segments state =
+    let before = lengthBitsBefore state k in
     let now = before + increment before segments in
     record {
-      bits = passBits c ++ commaBits (increment before segments) ++ lengthFields now segments;
-      words = set (set ws (k .at) (passesSoFar ws (k .at) + c)) (k .at + 1) now;
+      bits = passBits passes ++ commaBits (increment before segments) ++ lengthFields now segments;
+      words = set (set state (k .at) (passesSoFar state (k .at) + passes)) (k .at + 1) now;
     }
 
-unfoldable pub codeBlock : ℕ → Block → ℕ → List Segment → List ℕ → Coded
-codeBlock t k c segments ws =
-    let i = codeInclusion t k c ws in
+unfoldable pub codeBlock : (layerNow : ℕ) → Block → (passes : ℕ) → List Segment → (state : Words) → Coded
+codeBlock layerNow k passes segments state =
+    let i = codeInclusion layerNow k passes state in
     let z = codeZeroPlanes k (i .words) in
-    let p = codePasses k c segments (z .words) in
+    let p = codePasses k passes segments (z .words) in
     let all : Coded = record { bits = i .bits ++ z .bits ++ p .bits; words = p .words } in
-    cond (eqb c 0) i all
+    cond (eqb passes 0) i all
 
-unfoldable pub codeBlocks : ℕ → List Block → List ℕ → List ℕ → List ℕ → List ℕ → Coded
-codeBlocks t [] cs ls ms ws = record { bits = []; words = ws }
-codeBlocks t (k ∷ ks) [] ls ms ws = record { bits = []; words = ws }
-codeBlocks t (k ∷ ks) (c ∷ cs) ls ms ws =
-    let b = codeBlock t k c (segmentsOf (take c ls) (take c ms)) ws in
-    let r = codeBlocks t ks cs (drop c ls) (drop c ms) (b .words) in
+unfoldable pub codeBlocks : (layerNow : ℕ) → List Block → (counts lengths : Words) (marks : Bytes) (state : Words) → Coded
+codeBlocks layerNow [] cs lens marks state = record { bits = []; words = state }
+codeBlocks layerNow (k ∷ ks) [] lens marks state = record { bits = []; words = state }
+codeBlocks layerNow (k ∷ ks) (c ∷ cs) lens marks state =
+    let b = codeBlock layerNow k c (segmentsOf (take c lens) (take c marks)) state in
+    let r = codeBlocks layerNow ks cs (drop c lens) (drop c marks) (b .words) in
     record { bits = b .bits ++ r .bits; words = r .words }
 
--- the header's bits, the first always 1, and the state after the packet
-unfoldable pub codeHeader : Contribution → List ℕ → Coded
-codeHeader p ws =
-    let t = layer ws in
-    let ks = blocks (bands ws) in
-    let r = codeBlocks t ks (p .counts) (p .lengths) (p .marks) (setNewBlocks t ks (p .counts) ws) in
-    record { bits = 1 ∷ r .bits; words = set (r .words) 3 (t + 1) }
+-- the header's bits, and the state after the packet
+unfoldable pub codeHeader : Contribution → (state : Words) → Coded
+codeHeader p state =
+    let layerNow = layer state in
+    let ks = blocks (bands state) in
+    let r = codeBlocks layerNow ks (p .counts) (p .lengths) (p .marks) (setNewBlocks layerNow ks (p .counts) state) in
+    record { bits = 1 ∷ r .bits; words = set (r .words) 3 (layerNow + 1) }
 
 -- ---- refusals 8 and 9, over all blocks
 
--- a segment of 2^31 bytes or more
-unfoldable pub segmentTooLong : List ℕ → List ℕ → List ℕ → Bool
-segmentTooLong [] ls ms = false
-segmentTooLong (c ∷ cs) ls ms =
-    any (λ s. leb (2 ^ 31) (s .bytes)) (segmentsOf (take c ls) (take c ms)) || segmentTooLong cs (drop c ls) (drop c ms)
+unfoldable pub segmentTooLong : (counts lengths : Words) (marks : Bytes) → Bool
+segmentTooLong [] lens marks = false
+segmentTooLong (c ∷ cs) lens marks =
+    any (λ s. leb (2 ^ 31) (s .bytes)) (segmentsOf (take c lens) (take c marks)) || segmentTooLong cs (drop c lens) (drop c marks)
 
--- a length field wider than 32 bits
-unfoldable pub fieldTooWide : List ℕ → List Block → List ℕ → List ℕ → List ℕ → Bool
-fieldTooWide ws [] cs ls ms = false
-fieldTooWide ws (k ∷ ks) [] ls ms = false
-fieldTooWide ws (k ∷ ks) (c ∷ cs) ls ms =
-    let segments = segmentsOf (take c ls) (take c ms) in
-    let before = lengthBitsBefore ws k in
-    any (λ s. ltb 32 (width (before + increment before segments) (s .passes))) segments || fieldTooWide ws ks cs (drop c ls) (drop c ms)
+unfoldable pub fieldTooWide : (state : Words) → List Block → (counts lengths : Words) (marks : Bytes) → Bool
+fieldTooWide state [] cs lens marks = false
+fieldTooWide state (k ∷ ks) [] lens marks = false
+fieldTooWide state (k ∷ ks) (c ∷ cs) lens marks =
+    let segments = segmentsOf (take c lens) (take c marks) in
+    let before = lengthBitsBefore state k in
+    any (λ s. ltb 32 (width (before + increment before segments) (s .passes))) segments
+    || fieldTooWide state ks cs (drop c lens) (drop c marks)
