@@ -9,7 +9,5 @@ pub mod Layout
 pub mod FirstWords
 pub mod FreshState
 pub mod SetLeaf
-pub mod WordCounts
-pub mod StateAfter
 pub mod Accepted
 pub mod LeastZeroPlanes

@@ -224,6 +224,8 @@ write-rows =
     ∷ loads-writer (wrote 998 32) ∷ all-wrong 23 3
     ∷ writing 23 0 (165 ∷ []) (2 ^ 31 ∷ copies 164 0) (copies 164 0) 0 3 []
     ∷ writing 23 0 (165 ∷ []) (2 ^ 31 ∷ copies 165 0) (copies 165 0) 0 3 []
+    ∷ writing 23 0 (165 ∷ []) (2 ^ 31 ∷ copies 163 0) (copies 165 0) 0 3 []
+    ∷ writing 23 0 (165 ∷ []) (2 ^ 31 ∷ copies 164 0) (copies 166 0) 0 3 []
     ∷ writing 23 0 (165 ∷ 0 ∷ []) (2 ^ 31 ∷ copies 164 0) (copies 165 0) 0 3 []
     ∷ writing 23 0 [] [] [] 0 3 []
     -- 7
@@ -249,6 +251,11 @@ write-rows =
     node 0 1 1 ++ block 1 32 0 0 ++ block 1 3 0 0)
     ∷ writing 39 0 (2 ∷ 1 ∷ []) (1 ∷ 1 ∷ 2 ^ 31 ∷ []) (0 ∷ 0 ∷ 0 ∷ []) 0 8 []
     ∷ writing 39 0 (2 ∷ 1 ∷ []) (1 ∷ 1 ∷ (2 ^ 31 - 1) ∷ []) (0 ∷ 0 ∷ 0 ∷ []) 0 9 []
+    -- the segments of two blocks are two: 2^30 bytes each aren't 8
+    ∷ writing 39 0 (1 ∷ 1 ∷ []) (2 ^ 30 ∷ 2 ^ 30 ∷ []) (0 ∷ 0 ∷ []) 0 10 []
+    -- 9 by the increment: 31 bits for the first segment, and two more for the four passes of the second
+    ∷ writing 39 0 (0 ∷ 5 ∷ []) ((2 ^ 31 - 1) ∷ copies 4 0) (1 ∷ copies 4 0) 0 9 []
+    ∷ writing 39 0 (0 ∷ 4 ∷ []) ((2 ^ 31 - 1) ∷ copies 3 0) (1 ∷ copies 3 0) 0 10 []
     ∷ [])
     -- a header too long to be built with its body: 2^31 - 1 bytes take 31 bits
     ∷ one

@@ -22,7 +22,7 @@ pub record FirstWords (r : ℕ) (bs : List Band) (s t : ℕ) (ws : List ℕ) : T
   pub unused : unusedBandsZero ws ≡ true
 
 -- all but the layer
-abbrev pub SameBut3 : List ℕ → List ℕ → Type 0
+abbrev SameBut3 : List ℕ → List ℕ → Type 0
 SameBut3 ws vs = (j : ℕ) → j < 13 → j ≢ 3 → getD vs j 0 ≡ getD ws j 0
 
 pub same-bands : (ws vs : List ℕ) → SameBut3 ws vs → (bands vs ≡ bands ws) × (unusedBandsZero vs ≡ unusedBandsZero ws)

@@ -10,26 +10,26 @@ use native.Mathlib.Omega.{arith}
 use lib.ListN.{length, getD, set, length-set}
 use lib.Seq.{getD-set-same, getD-set-other}
 use lib.Dec.{ltb, leb, eqb}
-use borrow.Author.Tests.{eqb-true, eqb-false, leb-true, le-leb, not-true, not-false}
+use borrow.Author.Tests.{eqb-true, eqb-false, leb-true, ne-eqb, le-leb, not-true, not-false}
 use Rattle.t800.specs.declared.Band.{Band}
 use Rattle.t800.specs.declared.Markers.{Markers}
 use Rattle.t800.specs.Base.{every, wiped}
 use Rattle.t800.specs.Bits.{bioAt, getBit}
 use Rattle.t800.specs.Segments.{isLimit}
 use Rattle.t800.specs.State.{notYetIncluded, notYetPlanes, writer, reader, role, bandCount, style, layer, bands, blocksIn}
 use Rattle.t800.specs.State.{bandNodes, bandLength, stateLength, passesSoFar, lengthBits, segmentLimit, segmentPasses}
 use Rattle.t800.specs.Ranges.{badShape, badStyle, bandTooDeep, unusedBandsZero, nodeInRange, blockInRange, bandInRange}
 use Rattle.t800.specs.Ranges.{bandsInRange, validState}
 use Rattle.t800.specs.Reports.{recordWidth}
 use Rattle.t800.specs.WriteHeader.{Contribution, codeHeader}
 use Rattle.t800.specs.ReadHeader.{HeaderRead, readHeader}
 use Rattle.t800.specs.MarkerSegments.{MarkerRead, readMarker, readSop}
 use Rattle.t800.specs.Packet.{measureRefusal, writeRefusal, WriteResult, write, readRefusal, ReadResult, readAbsent}
-use Rattle.t800.specs.Packet.{readPresent, read}
+use Rattle.t800.specs.Packet.{readResult, refusedAnswer, readPresent, read}
 use Rattle.t800.proofs.Laws.Tests.{either, either-by, if-true, if-false, and-left, and-right, not-refused}
 use Rattle.t800.proofs.Laws.Layout.{end-after}
 use Rattle.t800.proofs.Laws.FirstWords.{same-bands}
-use Rattle.t800.proofs.Laws.WordCounts.{blocksCoded, header-coded, header-read}
+use Rattle.t800_laws.proofs.Laws.WordCounts.{blocksCoded, header-coded, header-read}
 
 -- ---- what a call that gives no 5 says of its state
 
@@ -295,6 +295,16 @@ module _ (ws scratch : List ℕ) (m : Markers) (src reports records : List ℕ) 
       })
       (either-by P (eqb (header start .refusal) 0) _ _ (λ t e z. absurd (omega (arith, z)))
       (λ n e. absurd (eqb-false (header start .refusal) 0 n e))))
+
+  -- 5, 6 and 3 leave every lent list; 9, 12 and 13 wipe all but the state
+  pub refused-before-reading : why ≢ 0 → result ≡ readResult ws scratch reports records (refusedAnswer why)
+  unfolding read
+  refused-before-reading h = rw (ne-eqb why 0 h)
+
+  pub refused-in-header : why ≡ 0 → firstBit (readSop m src .skip) ≢ 0 → header (readSop m src .skip) .refusal ≢ 0
+      → result ≡ readResult ws (wiped scratch) (wiped reports) (wiped records) (refusedAnswer (header (readSop m src .skip) .refusal))
+  unfolding read
+  refused-in-header e b h = rw (e, ne-eqb (firstBit (readSop m src .skip)) 0 b, ne-eqb (header (readSop m src .skip) .refusal) 0 h)
 
   -- a first bit 0 is an absent packet
   pub first-bit-0 : why ≡ 0 → firstBit (readSop m src .skip) ≡ 0 → (result .answer .refusal ≡ 0) × (result .answer .present ≡ 0)
