@@ -321,16 +321,20 @@ read-rows =
 
 -- ---- the ranges of refusal 5: each state has one word out of range and is looked at by a call that has nothing else wrong
 
--- a state of n blocks, by a read of a present packet in which none is included, and by a write of such a packet
-abbrev looks-reader : ℕ → ℕ → List ℕ → List Step
-looks-reader why n ws = loads-reader ws ∷ reading (length ws) (4 * n) 0 (0x80 ∷ []) why ∷ []
+-- a state of n blocks by the role of a reader, 2, or a writer, 1: a read of the packet 80, which is present and in which no block is
+-- included, or a write of it, gives 5
+abbrev looks : ℕ → ℕ → List ℕ → List Step
+looks role n ws =
+    let reads5 : List Step = loads-reader ws ∷ reading (length ws) (4 * n) 0 (0x80 ∷ []) 5 ∷ [] in
+    let writes5 : List Step = loads-writer ws ∷ writing (length ws) 0 (copies n 0) [] [] 20 5 [] ∷ [] in
+    cond (eqb role 2) reads5 writes5
 
-abbrev looks-writer : ℕ → ℕ → List ℕ → List Step
-looks-writer why n ws = loads-writer ws ∷ writing (length ws) 0 (copies n 0) [] [] 20 why [] ∷ []
-
--- by the role of a reader, 2, or of a writer, 1
-abbrev looks : ℕ → ℕ → ℕ → List ℕ → List Step
-looks role why n ws = cond (eqb role 2) (looks-reader why n ws) (looks-writer why n ws)
+-- or is accepted
+abbrev accepts : ℕ → ℕ → List ℕ → List Step
+accepts role n ws =
+    let got : List Step = loads-reader ws ∷ get (length ws) n (0x80 ∷ []) (told 1 1 0) (copies (4 * n) 0) [] ∷ [] in
+    let made : List Step = loads-writer ws ∷ puts (length ws) (copies n 0) [] [] (0x80 ∷ []) ∷ [] in
+    cond (eqb role 2) got made
 
 abbrev steps-of : (List ℕ → List Step) → List (List ℕ) → List Step
 steps-of f [] = []
@@ -375,9 +379,14 @@ two-in-third role n k =
 -- v in place of the words that stand at these places of that band, each state alone; its words begin at 13, 23 or 33
 abbrev in-each-band : ℕ → List ℕ → List ℕ → ℕ → List ℕ → List Step
 in-each-band role n k v places =
-    steps-of (looks role 5 2) (spoilt (two-in-first role n k) v 13 places)
-    ++ steps-of (looks role 5 3) (spoilt (two-in-second role n k) v 23 places)
-    ++ steps-of (looks role 5 4) (spoilt (two-in-third role n k) v 33 places)
+    steps-of (looks role 2) (spoilt (two-in-first role n k) v 13 places)
+    ++ steps-of (looks role 3) (spoilt (two-in-second role n k) v 23 places)
+    ++ steps-of (looks role 4) (spoilt (two-in-third role n k) v 33 places)
+
+-- those states as they are
+abbrev each-accepted : ℕ → List ℕ → List ℕ → List Step
+each-accepted role n k = accepts role 2 (two-in-first role n k) ++ accepts role 3 (two-in-second role n k) ++ accepts role 4
+    (two-in-third role n k)
 
 -- the largest words of a node, and of a block with passes, by limit and passes of its segment
 abbrev full-node : List ℕ
@@ -389,7 +398,7 @@ full-block limit used = block 164 32 limit used
 -- the states of one role that give 5: first words
 abbrev first-words-out : ℕ → List Step
 first-words-out role =
-    steps-of (looks role 5 0)
+    steps-of (looks role 0)
     ( -- role, band count, style, next layer
     bare 0 1 0 0 (copies 9 0) ∷ bare 3 1 0 0 (copies 9 0) ∷ bare (3 - role) 1 0 0 (copies 9 0)
     ∷ bare role 0 0 0 (copies 9 0) ∷ bare role 4 0 0 (copies 9 0)
@@ -436,40 +445,43 @@ range-rows =
     ++ in-each-band 2 full-node (full-block 109 109) 110 (21 ∷ 25 ∷ [])
     ++ in-each-band 1 full-node (full-block 0 0) 109 (20 ∷ 24 ∷ [])
     ++ in-each-band 1 full-node (full-block 0 0) 1 (21 ∷ 25 ∷ []))
-    -- one block: the limits that a style doesn't give; passes at layer 0; a word too few, a word too many, another geometry
+    -- one block: limits that a style doesn't give; passes at layer 0; a word too few, a word too many, another geometry
     ∷ one
-    (steps-of (looks 2 5 1)
+    (steps-of (looks 2 1)
     (words 2 0 1 (node 0 1 0) (node 0 1 0) (block 1 3 1 1) ∷ words 2 0 1 (node 0 1 0) (node 0 1 0) (block 1 3 2 1)
     ∷ words 2 1 1 (node 0 1 0) (node 0 1 0) (block 1 3 109 1) ∷ words 2 1 1 (node 0 1 0) (node 0 1 0) (block 1 3 3 1)
     ∷ words 2 4 1 (node 0 1 0) (node 0 1 0) (block 1 3 109 1) ∷ words 2 5 1 (node 0 1 0) (node 0 1 0) (block 1 3 10 1)
     ∷ words 2 5 1 (node 0 1 0) (node 0 1 0) (block 1 3 2 1) ∷ words 2 4 1 (node 0 1 0) (node 0 1 0) (block 1 3 1 2)
     ∷ words 2 0 0 (node 0 1 0) (node 0 1 0) (block 1 3 109 1)
     ∷ words 2 0 0 (node 999 0 0) (node 999 0 0) (copies 3 0) ∷ words 2 0 0 (node 999 0 0) (node 999 0 0) (copies 5 0)
-    ∷ set (words 2 0 0 (node 999 0 0) (node 999 0 0) (block 0 0 0 0)) 4 2
-    ∷ []))
-    -- the largest words that are in range; what follows is the packet 80, in which no block is included
-    ∷ one
-    (loads-reader (one-used 2) ∷ get 13 0 (0x80 ∷ []) (told 1 1 0) [] []
-    ∷ loads-reader (two-used 2) ∷ get 13 0 (0x80 ∷ []) (told 1 1 0) [] []
-    ∷ loads-reader (three-used 2) ∷ get 13 0 (0x80 ∷ []) (told 1 1 0) [] []
-    ∷ loads-reader (two-in-first 2 full-node (full-block 109 109)) ∷ get 39 2 (0x80 ∷ []) (told 1 1 0) (copies 8 0) []
-    ∷ loads-reader (two-in-second 2 full-node (full-block 109 109)) ∷ get 49 3 (0x80 ∷ []) (told 1 1 0) (copies 12 0) []
-    ∷ loads-reader (two-in-third 2 full-node (full-block 109 109)) ∷ get 59 4 (0x80 ∷ []) (told 1 1 0) (copies 16 0) []
-    ∷ loads-reader (words 2 63 998 (node 999 999 1) (node 999 999 1) (block 0 0 0 0)) ∷ get 23 1 (0x80 ∷ []) (told 1 1 0) (copies 4 0) []
-    ∷ loads-reader (words 2 0 2 (node 0 1 1) (node 0 1 1) (block 328 3 109 1)) ∷ get 23 1 (0x80 ∷ []) (told 1 1 0) (copies 4 0) []
-    ∷ loads-reader (words 2 1 2 (node 0 1 1) (node 0 1 1) (block 328 32 10 10)) ∷ get 23 1 (0x80 ∷ []) (told 1 1 0) (copies 4 0) []
-    ∷ loads-reader (words 2 1 2 (node 0 1 1) (node 0 1 1) (block 328 32 2 2)) ∷ get 23 1 (0x80 ∷ []) (told 1 1 0) (copies 4 0) []
-    ∷ loads-reader (words 2 1 2 (node 0 1 1) (node 0 1 1) (block 328 32 1 1)) ∷ get 23 1 (0x80 ∷ []) (told 1 1 0) (copies 4 0) []
-    ∷ loads-reader (words 2 5 2 (node 0 1 1) (node 0 1 1) (block 328 32 1 1)) ∷ get 23 1 (0x80 ∷ []) (told 1 1 0) (copies 4 0) []
-    ∷ loads-writer (one-used 1) ∷ puts 13 [] [] [] (0x80 ∷ [])
-    ∷ loads-writer (two-used 1) ∷ puts 13 [] [] [] (0x80 ∷ [])
-    ∷ loads-writer (three-used 1) ∷ puts 13 [] [] [] (0x80 ∷ [])
-    ∷ loads-writer (two-in-first 1 full-node (full-block 0 0)) ∷ puts 39 (copies 2 0) [] [] (0x80 ∷ [])
-    ∷ loads-writer (two-in-second 1 full-node (full-block 0 0)) ∷ puts 49 (copies 3 0) [] [] (0x80 ∷ [])
-    ∷ loads-writer (two-in-third 1 full-node (full-block 0 0)) ∷ puts 59 (copies 4 0) [] [] (0x80 ∷ [])
-    ∷ loads-writer (words 1 63 998 (node 999 999 1) (node 999 999 1) (block 0 0 0 0)) ∷ puts 23 (0 ∷ []) [] [] (0x80 ∷ [])
-    ∷ loads-writer (words 1 0 2 (node 0 1 1) (node 0 1 1) (block 328 3 0 0)) ∷ puts 23 (0 ∷ []) [] [] (0x80 ∷ [])
+    ∷ set (unread 0) 4 2
     ∷ [])
+    ++ steps-of (looks 1 1)
+    (words 1 0 0 (node 0 1 1) (node 0 1 1) (block 1 3 0 0)
+    ∷ words 1 0 0 (node 999 0 0) (node 999 0 0) (copies 3 0) ∷ words 1 0 0 (node 999 0 0) (node 999 0 0) (copies 5 0)
+    ∷ set (words 1 0 0 (node 999 0 0) (node 999 0 0) (block 0 0 0 0)) 4 2
+    ∷ []))
+    -- in range: what the states above have besides, each limit that a style gives, and the largest words
+    ∷ one
+    (steps-of (accepts 2 0) (bare 2 1 0 0 (copies 9 0) ∷ one-used 2 ∷ two-used 2 ∷ three-used 2 ∷ [])
+    ++ each-accepted 2 full-node (block 0 0 0 0) ++ each-accepted 2 full-node (full-block 109 109) ++ each-accepted 2 full-node
+    (full-block 109 1)
+    ++ steps-of (accepts 2 1)
+    (words 2 63 998 (node 999 999 1) (node 999 999 1) (block 0 0 0 0)
+    ∷ words 2 0 2 (node 0 1 1) (node 0 1 1) (block 328 3 109 1)
+    ∷ words 2 1 2 (node 0 1 1) (node 0 1 1) (block 328 32 10 10)
+    ∷ words 2 1 2 (node 0 1 1) (node 0 1 1) (block 328 32 2 2)
+    ∷ words 2 1 2 (node 0 1 1) (node 0 1 1) (block 328 32 1 1)
+    ∷ words 2 4 2 (node 0 1 1) (node 0 1 1) (block 328 32 1 1)
+    ∷ words 2 5 2 (node 0 1 1) (node 0 1 1) (block 328 32 1 1)
+    ∷ []))
+    ∷ one
+    (steps-of (accepts 1 0) (bare 1 1 0 0 (copies 9 0) ∷ one-used 1 ∷ two-used 1 ∷ three-used 1 ∷ [])
+    ++ each-accepted 1 full-node (block 0 0 0 0) ++ each-accepted 1 full-node (full-block 0 0)
+    ++ steps-of (accepts 1 1)
+    (words 1 63 998 (node 999 999 1) (node 999 999 1) (block 0 0 0 0)
+    ∷ words 1 0 2 (node 0 1 1) (node 0 1 1) (block 328 3 0 0)
+    ∷ []))
     ∷ []
 
 -- ---- markers, in a precinct without blocks: its header is one bit
