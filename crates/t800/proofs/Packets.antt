@@ -561,6 +561,12 @@ marker-rows =
 
 -- ---- the slips that lie near, and other corners
 
+-- a reader of two blocks in a row: zero planes 0 in the first leaf, below a root of value v
+abbrev odd-planes : ℕ → List ℕ
+odd-planes v =
+    2 ∷ 1 ∷ 0 ∷ 0 ∷ 2 ∷ 1 ∷ 5 ∷ copies 6 0 ++ node 999 0 0 ++ node 999 0 0 ++ node 999 0 0 ++ node 0 0 0 ++ node 999 0 0 ++ node v 0 0 ++
+    copies 8 0
+
 pub slip-rows : List Row
 slip-rows =
     -- zero planes counted from the threshold, one too many: 3 zero planes are three 0 and a 1
@@ -643,10 +649,12 @@ slip-rows =
     ∷ loads-reader (words 2 0 0 (node 0 0 1) (node 0 0 1) (block 0 0 0 0)) ∷ get 23 1 (0x94 ∷ []) (told 1 1 1) (1 ∷ 0 ∷ 5 ∷ 1 ∷ [])
     (0 ∷ 1 ∷ 1 ∷ 5 ∷ [])
     ∷ [])
-    -- zero planes read with one threshold for all: of a root that isn't known, over a leaf that is, one bit is read and not four
+    -- zero planes read with one threshold for all, or with the root's value: of a root whose value isn't known, or is 3 and not yet read,
+    -- over a leaf whose value is 0, one bit is read and not four or three
     ∷ precinct 2 0 (5 ∷ 5 ∷ [])
-    (loads-reader (2 ∷ 1 ∷ 0 ∷ 0 ∷ 2 ∷ 1 ∷ 5 ∷ copies 6 0 ++ node 999 0 0 ++ node 999 0 0 ++ node 999 0 0 ++ node 0 0 0 ++ node 999
-    0 0 ++ node 999 0 0 ++ copies 8 0)
+    (loads-reader (odd-planes 999)
+    ∷ get 39 2 (0xe2 ∷ 0x80 ∷ []) (told 1 2 1) (1 ∷ 0 ∷ 5 ∷ 1 ∷ 0 ∷ 0 ∷ 0 ∷ 0 ∷ []) (0 ∷ 1 ∷ 1 ∷ 5 ∷ [])
+    ∷ loads-reader (odd-planes 3)
     ∷ get 39 2 (0xe2 ∷ 0x80 ∷ []) (told 1 2 1) (1 ∷ 0 ∷ 5 ∷ 1 ∷ 0 ∷ 0 ∷ 0 ∷ 0 ∷ []) (0 ∷ 1 ∷ 1 ∷ 5 ∷ [])
     ∷ [])
     -- zero planes written with the threshold 999: of a leaf whose value is 999, one 0 from low 998 on, and no 1
