@@ -649,6 +649,15 @@ slip-rows =
     ∷ loads-reader (words 2 0 0 (node 0 0 1) (node 0 0 1) (block 0 0 0 0)) ∷ get 23 1 (0x94 ∷ []) (told 1 1 1) (1 ∷ 0 ∷ 5 ∷ 1 ∷ [])
     (0 ∷ 1 ∷ 1 ∷ 5 ∷ [])
     ∷ [])
+    -- three passes after nine with limits 10, 2, 1: one fills the open segment, two the next
+    ∷ precinct 1 1 (5 ∷ [])
+    (loads-reader (words 2 1 1 (node 0 1 0) (node 0 1 0) (block 9 3 10 9))
+    ∷ get 23 1 (0xf0 ∷ 0x48 ∷ []) (told 1 2 2) (2 ∷ 0 ∷ 0 ∷ 3 ∷ []) (0 ∷ 0 ∷ 1 ∷ 1 ∷ 0 ∷ 1 ∷ 2 ∷ 2 ∷ [])
+    ∷ holds-reader (words 2 1 2 (node 0 1 0) (node 0 1 0) (block 12 3 2 2))
+    ∷ loads-writer (words 1 1 1 (node 0 1 1) (node 0 1 1) (block 9 3 0 0))
+    ∷ puts 23 (3 ∷ []) (1 ∷ 1 ∷ 1 ∷ []) (1 ∷ 0 ∷ 0 ∷ []) (0xf0 ∷ 0x48 ∷ [])
+    ∷ holds-writer (words 1 1 2 (node 0 1 1) (node 0 1 1) (block 12 3 0 0))
+    ∷ [])
     -- zero planes read with one threshold for all, or with the root's value: of a root whose value isn't known, or is 3 and not yet read,
     -- over a leaf whose value is 0, one bit is read and not four or three
     ∷ precinct 2 0 (5 ∷ 5 ∷ [])
