@@ -658,6 +658,32 @@ slip-rows =
     ∷ puts 23 (3 ∷ []) (1 ∷ 1 ∷ 1 ∷ []) (1 ∷ 0 ∷ 0 ∷ []) (0xf0 ∷ 0x48 ∷ [])
     ∷ holds-writer (words 1 1 2 (node 0 1 1) (node 0 1 1) (block 12 3 0 0))
     ∷ [])
+    -- trees of three levels, three by two blocks and two by three: blocks come in different layers with different zero planes
+    ∷ record {
+      given = band 3 2 5 ∷ [];
+      planes = 3 ∷ 5 ∷ 1 ∷ 4 ∷ 2 ∷ 0 ∷ [];
+      style = 0;
+      steps =
+          puts 91 (0 ∷ 1 ∷ 0 ∷ 0 ∷ 0 ∷ 1 ∷ []) (5 ∷ 1 ∷ []) (0 ∷ 0 ∷ []) (0xef ∷ 0x2c ∷ 0x42 ∷ 0x84 ∷ [])
+          ∷ get 91 6 (0xef ∷ 0x2c ∷ 0x42 ∷ 0x84 ∷ []) (told 1 4 2) (0 ∷ 0 ∷ 0 ∷ 0 ∷ 1 ∷ 0 ∷ 5 ∷ 1 ∷ 0 ∷ 0 ∷ 0 ∷ 0 ∷ 0 ∷ 0 ∷ 0 ∷ 0 ∷ 0 ∷ 0 ∷ 0 ∷ 0 ∷ 1 ∷ 5 ∷ 0 ∷ 1 ∷ []) (1 ∷ 1 ∷ 1 ∷ 5 ∷ 5 ∷ 1 ∷ 1 ∷ 1 ∷ [])
+          ∷ puts 91 (1 ∷ 2 ∷ 0 ∷ 1 ∷ 0 ∷ 1 ∷ []) (3 ∷ 4 ∷ 4 ∷ 9 ∷ 0 ∷ []) (0 ∷ 0 ∷ 0 ∷ 0 ∷ 0 ∷ []) (0xc8 ∷ 0xf2 ∷ 0x15 ∷ 0x4a ∷ 0x00 ∷ [])
+          ∷ get 91 6 (0xc8 ∷ 0xf2 ∷ 0x15 ∷ 0x4a ∷ 0x00 ∷ []) (told 1 5 4) (1 ∷ 2 ∷ 3 ∷ 1 ∷ 2 ∷ 0 ∷ 0 ∷ 2 ∷ 0 ∷ 0 ∷ 0 ∷ 0 ∷ 1 ∷ 1 ∷ 4 ∷ 1 ∷ 0 ∷ 0 ∷ 0 ∷ 0 ∷ 2 ∷ 0 ∷ 0 ∷ 1 ∷ []) (0 ∷ 1 ∷ 1 ∷ 3 ∷ 1 ∷ 0 ∷ 2 ∷ 8 ∷ 3 ∷ 1 ∷ 1 ∷ 9 ∷ 5 ∷ 0 ∷ 1 ∷ 0 ∷ [])
+          ∷ [];
+    }
+    ∷ record {
+      given = band 2 3 5 ∷ [];
+      planes = 3 ∷ 5 ∷ 1 ∷ 4 ∷ 2 ∷ 0 ∷ [];
+      style = 0;
+      steps =
+          puts 91 (0 ∷ 1 ∷ 0 ∷ 1 ∷ 1 ∷ 0 ∷ []) (5 ∷ 1 ∷ 8 ∷ []) (0 ∷ 0 ∷ 0 ∷ []) (0xef ∷ 0x2a ∷ 0x87 ∷ 0x1a ∷ 0x80 ∷ [])
+          ∷ get 91 6 (0xef ∷ 0x2a ∷ 0x87 ∷ 0x1a ∷ 0x80 ∷ []) (told 1 5 3) (0 ∷ 0 ∷ 0 ∷ 0 ∷ 1 ∷ 0 ∷ 5 ∷ 1 ∷ 0 ∷ 0 ∷ 0 ∷ 0 ∷ 1 ∷ 1 ∷ 4 ∷ 1 ∷ 1 ∷ 3 ∷ 2 ∷ 1 ∷ 0 ∷ 0 ∷ 0 ∷ 0 ∷ []) (1 ∷ 1 ∷ 1 ∷ 5 ∷ 3 ∷ 1 ∷ 1 ∷ 1 ∷ 4 ∷ 1 ∷ 1 ∷ 8 ∷ [])
+          ∷ [];
+    }
+    -- 999 zero planes where a header says none, from low 997 on
+    ∷ one
+    (loads-reader (words 2 0 0 (node 0 0 0) (node 999 997 0) (block 0 0 0 0))
+    ∷ get 23 1 (0x85 ∷ []) (told 1 1 1) (1 ∷ 999 ∷ (2 ^ 32 + 5 - 999) ∷ 1 ∷ []) (0 ∷ 1 ∷ 1 ∷ 5 ∷ [])
+    ∷ [])
     -- zero planes read with one threshold for all, or with the root's value: of a root whose value isn't known, or is 3 and not yet read,
     -- over a leaf whose value is 0, one bit is read and not four or three
     ∷ precinct 2 0 (5 ∷ 5 ∷ [])
