@@ -105,7 +105,10 @@ a-to-l =
     ∷ one (both 16 511 (0xfe ∷ 0xad ∷ 0xff ∷ 0x00 ∷ []))
     ∷ one (get 23 1 (0xfe ∷ 0xad ∷ 0xff ∷ []) (no 12) [] [] ∷ [])
     -- F, G, H
-    ∷ one (puts 23 (0 ∷ []) [] [] (0x80 ∷ []) ∷ get 23 1 (0x80 ∷ []) (told 1 1 0) (copies 4 0) [] ∷ [])
+    ∷ one
+    (puts 23 (0 ∷ []) [] [] (0x80 ∷ []) ∷ holds-writer (words 1 0 1 (node 999 1 0) (node 0 0 0) (block 0 0 0 0))
+    ∷ get 23 1 (0x80 ∷ []) (told 1 1 0) (copies 4 0) [] ∷ holds-reader (words 2 0 1 (node 999 1 0) (node 999 0 0) (block 0 0 0 0))
+    ∷ [])
     ∷ one (get 23 1 [] (told 0 0 0) (copies 4 0) [] ∷ holds-reader (unread 1) ∷ [])
     ∷ one (get 23 1 (0x00 ∷ []) (told 0 1 0) (copies 4 0) [] ∷ holds-reader (unread 1) ∷ [])
     -- I: A with both markers, number 65,537
@@ -679,7 +682,7 @@ slip-rows =
           ∷ get 91 6 (0xef ∷ 0x2a ∷ 0x87 ∷ 0x1a ∷ 0x80 ∷ []) (told 1 5 3) (0 ∷ 0 ∷ 0 ∷ 0 ∷ 1 ∷ 0 ∷ 5 ∷ 1 ∷ 0 ∷ 0 ∷ 0 ∷ 0 ∷ 1 ∷ 1 ∷ 4 ∷ 1 ∷ 1 ∷ 3 ∷ 2 ∷ 1 ∷ 0 ∷ 0 ∷ 0 ∷ 0 ∷ []) (1 ∷ 1 ∷ 1 ∷ 5 ∷ 3 ∷ 1 ∷ 1 ∷ 1 ∷ 4 ∷ 1 ∷ 1 ∷ 8 ∷ [])
           ∷ [];
     }
-    -- 999 zero planes where a header says none, from low 997 on
+    -- 999 zero planes: from low 997 on two bits 0 and no 1
     ∷ one
     (loads-reader (words 2 0 0 (node 0 0 0) (node 999 997 0) (block 0 0 0 0))
     ∷ get 23 1 (0x85 ∷ []) (told 1 1 1) (1 ∷ 999 ∷ (2 ^ 32 + 5 - 999) ∷ 1 ∷ []) (0 ∷ 1 ∷ 1 ∷ 5 ∷ [])

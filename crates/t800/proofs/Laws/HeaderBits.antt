@@ -64,7 +64,7 @@ CodedBits c = AreBits (c .bits)
 pub bits-inclusion : (t : ℕ) (k : Block) (c : ℕ) (ws : List ℕ) → CodedBits (codeInclusion t k c ws)
 unfolding codeInclusion
 bits-inclusion t k c ws =
-    either CodedBits (isNew ws k) _ _ (bits-path (k .inclTree) (t + 1) (reverse (k .path)) 0 ws)
+    either CodedBits (isNew ws k) _ _ (bits-path (k .inclTree) _ (reverse (k .path)) 0 ws)
     (one-bit (cond (ltb 0 c) 1 0) (either (λ (x : ℕ). x < 2) (ltb 0 c) 1 0 (omega arith) (omega arith)))
 
 pub bits-planes : (k : Block) (ws : List ℕ) → CodedBits (codeZeroPlanes k ws)
