@@ -4,7 +4,8 @@ use mathlib.Core.Path.{_≡_, refl}
 use Prim.Native.Nat.{ℕ, _+_, _-_, _*_, _^_}
 use mathlib.Core.Bool.{true, false, cond}
 use mathlib.Core.List.{List, [], _∷_, _++_}
-use lib.ListN.{length, replicate}
+use lib.ListN.{length, replicate, set}
+use lib.Dec.{eqb}
 use Rattle.t800.specs.declared.Band.{Band}
 use Rattle.t800.specs.declared.Markers.{Markers}
 use Rattle.t800.specs.WriteHeader.{contribution}
@@ -68,6 +69,30 @@ both n bytes front =
     ∷ get 23 1 front (told 1 (length front) 1) (1 ∷ 0 ∷ 5 ∷ n ∷ []) (0 ∷ 1 ∷ n ∷ bytes ∷ [])
     ∷ []
 
+-- ---- states of the one block, by role, style, layer and the words of inclusion node, zero-plane node and block
+
+abbrev words : ℕ → ℕ → ℕ → List ℕ → List ℕ → List ℕ → List ℕ
+words role style layer incl zero block = role ∷ 1 ∷ style ∷ layer ∷ 1 ∷ 1 ∷ 5 ∷ copies 6 0 ++ incl ++ zero ++ block
+
+-- three words, four words
+abbrev node : ℕ → ℕ → ℕ → List ℕ
+node v l k = v ∷ l ∷ k ∷ []
+
+abbrev block : ℕ → ℕ → ℕ → ℕ → List ℕ
+block passes bits limit used = passes ∷ bits ∷ limit ∷ used ∷ []
+
+-- a reader that has read nothing but absent packets
+abbrev unread : ℕ → List ℕ
+unread layer = words 2 0 layer (node 999 0 0) (node 999 0 0) (block 0 0 0 0)
+
+-- a writer and a reader that have one pass of the block so far, with so many length bits
+abbrev wrote : ℕ → ℕ → List ℕ
+wrote layer bits = words 1 0 layer (node 0 1 1) (node 0 1 1) (block 1 bits 0 0)
+
+abbrev read-one : ℕ → ℕ → ℕ → List ℕ
+read-one style layer bits =
+    words 2 style layer (node 0 1 0) (node 0 1 0) (block 1 bits (cond (termAll style) 1 (cond (bypass style) 10 109)) 1)
+
 -- ---- A to L
 
 pub a-to-l : List Row
@@ -80,9 +105,12 @@ a-to-l =
     ∷ one (both 16 511 (0xfe ∷ 0xad ∷ 0xff ∷ 0x00 ∷ []))
     ∷ one (get 23 1 (0xfe ∷ 0xad ∷ 0xff ∷ []) (no 12) [] [] ∷ [])
     -- F, G, H
-    ∷ one (puts 23 (0 ∷ []) [] [] (0x80 ∷ []) ∷ get 23 1 (0x80 ∷ []) (told 1 1 0) (copies 4 0) [] ∷ [])
-    ∷ one (get 23 1 [] (told 0 0 0) (copies 4 0) [] ∷ [])
-    ∷ one (get 23 1 (0x00 ∷ []) (told 0 1 0) (copies 4 0) [] ∷ [])
+    ∷ one
+    (puts 23 (0 ∷ []) [] [] (0x80 ∷ []) ∷ holds-writer (words 1 0 1 (node 999 1 0) (node 0 0 0) (block 0 0 0 0))
+    ∷ get 23 1 (0x80 ∷ []) (told 1 1 0) (copies 4 0) [] ∷ holds-reader (words 2 0 1 (node 999 1 0) (node 999 0 0) (block 0 0 0 0))
+    ∷ [])
+    ∷ one (get 23 1 [] (told 0 0 0) (copies 4 0) [] ∷ holds-reader (unread 1) ∷ [])
+    ∷ one (get 23 1 (0x00 ∷ []) (told 0 1 0) (copies 4 0) [] ∷ holds-reader (unread 1) ∷ [])
     -- I: A with both markers, number 65,537
     ∷ one
     (writes
@@ -175,26 +203,6 @@ start-rows =
     ∷ [])
     ∷ []
 
--- ---- states of the one block, by role, style, layer and the words of inclusion node, zero-plane node and block
-
-abbrev words : ℕ → ℕ → ℕ → List ℕ → List ℕ → List ℕ → List ℕ
-words role style layer incl zero block = role ∷ 1 ∷ style ∷ layer ∷ 1 ∷ 1 ∷ 5 ∷ copies 6 0 ++ incl ++ zero ++ block
-
--- three words, four words
-abbrev node : ℕ → ℕ → ℕ → List ℕ
-node v l k = v ∷ l ∷ k ∷ []
-
-abbrev block : ℕ → ℕ → ℕ → ℕ → List ℕ
-block passes bits limit used = passes ∷ bits ∷ limit ∷ used ∷ []
-
--- a writer and a reader that have one pass of the block so far, with so many length bits
-abbrev wrote : ℕ → ℕ → List ℕ
-wrote layer bits = words 1 0 layer (node 0 1 1) (node 0 1 1) (block 1 bits 0 0)
-
-abbrev read-one : ℕ → ℕ → ℕ → List ℕ
-read-one style layer bits =
-    words 2 style layer (node 0 1 0) (node 0 1 0) (block 1 bits (cond (termAll style) 1 (cond (bypass style) 10 109)) 1)
-
 -- ---- the refusals of writing and measuring, each where every later one could be given too
 
 abbrev writing : ℕ → ℕ → List ℕ → List ℕ → List ℕ → ℕ → ℕ → List ℕ → Step
@@ -219,6 +227,8 @@ write-rows =
     ∷ loads-writer (wrote 998 32) ∷ all-wrong 23 3
     ∷ writing 23 0 (165 ∷ []) (2 ^ 31 ∷ copies 164 0) (copies 164 0) 0 3 []
     ∷ writing 23 0 (165 ∷ []) (2 ^ 31 ∷ copies 165 0) (copies 165 0) 0 3 []
+    ∷ writing 23 0 (165 ∷ []) (2 ^ 31 ∷ copies 163 0) (copies 165 0) 0 3 []
+    ∷ writing 23 0 (165 ∷ []) (2 ^ 31 ∷ copies 164 0) (copies 166 0) 0 3 []
     ∷ writing 23 0 (165 ∷ 0 ∷ []) (2 ^ 31 ∷ copies 164 0) (copies 165 0) 0 3 []
     ∷ writing 23 0 [] [] [] 0 3 []
     -- 7
@@ -244,6 +254,11 @@ write-rows =
     node 0 1 1 ++ block 1 32 0 0 ++ block 1 3 0 0)
     ∷ writing 39 0 (2 ∷ 1 ∷ []) (1 ∷ 1 ∷ 2 ^ 31 ∷ []) (0 ∷ 0 ∷ 0 ∷ []) 0 8 []
     ∷ writing 39 0 (2 ∷ 1 ∷ []) (1 ∷ 1 ∷ (2 ^ 31 - 1) ∷ []) (0 ∷ 0 ∷ 0 ∷ []) 0 9 []
+    -- the segments of two blocks are two: 2^30 bytes each aren't 8
+    ∷ writing 39 0 (1 ∷ 1 ∷ []) (2 ^ 30 ∷ 2 ^ 30 ∷ []) (0 ∷ 0 ∷ []) 0 10 []
+    -- 9 by the increment: 31 bits for the first segment, and two more for the four passes of the second
+    ∷ writing 39 0 (0 ∷ 5 ∷ []) ((2 ^ 31 - 1) ∷ copies 4 0) (1 ∷ copies 4 0) 0 9 []
+    ∷ writing 39 0 (0 ∷ 4 ∷ []) ((2 ^ 31 - 1) ∷ copies 3 0) (1 ∷ copies 3 0) 0 10 []
     ∷ [])
     -- a header too long to be built with its body: 2^31 - 1 bytes take 31 bits
     ∷ one
@@ -307,73 +322,253 @@ read-rows =
     ∷ [])
     ∷ []
 
--- ---- the ranges of refusal 5: each state is looked at by a call that has nothing else wrong
+-- ---- the ranges of refusal 5: each state has one word out of range and is looked at by a call that has nothing else wrong
 
--- a header of a present packet in which the block isn't included
-abbrev looks-reader : ℕ → List ℕ → List Step
-looks-reader why ws = loads-reader ws ∷ reading (length ws) 4 0 (0x80 ∷ []) why ∷ []
+-- a state of n blocks by the role of a reader, 2, or a writer, 1: a read of the packet 80, which is present and in which no block is
+-- included, or a write of it, gives 5
+abbrev looks : ℕ → ℕ → List ℕ → List Step
+looks role n ws =
+    let reads5 : List Step = loads-reader ws ∷ reading (length ws) (4 * n) 0 (0x80 ∷ []) 5 ∷ [] in
+    let writes5 : List Step = loads-writer ws ∷ writing (length ws) 0 (copies n 0) [] [] 20 5 [] ∷ [] in
+    cond (eqb role 2) reads5 writes5
 
-abbrev looks-writer : ℕ → List ℕ → List Step
-looks-writer why ws = loads-writer ws ∷ writing (length ws) 0 (0 ∷ []) [] [] 20 why [] ∷ []
+-- or is accepted
+abbrev accepts : ℕ → ℕ → List ℕ → List Step
+accepts role n ws =
+    let got : List Step = loads-reader ws ∷ get (length ws) n (0x80 ∷ []) (told 1 1 0) (copies (4 * n) 0) [] ∷ [] in
+    let made : List Step = loads-writer ws ∷ puts (length ws) (copies n 0) [] [] (0x80 ∷ []) ∷ [] in
+    cond (eqb role 2) got made
 
 abbrev steps-of : (List ℕ → List Step) → List (List ℕ) → List Step
 steps-of f [] = []
 steps-of f (ws ∷ l) = f ws ++ steps-of f l
 
--- header words of a reader of one block, in the order of the state
-abbrev head : ℕ → ℕ → ℕ → ℕ → ℕ → ℕ → ℕ → List ℕ
-head role count style layer across down planes = role ∷ count ∷ style ∷ layer ∷ across ∷ down ∷ planes ∷ []
+-- v in place of the word that stands `off` words after each of these places
+abbrev spoilt : List ℕ → ℕ → ℕ → List ℕ → List (List ℕ)
+spoilt ws v off [] = []
+spoilt ws v off (p ∷ ps) = set ws (p + off) v ∷ spoilt ws v off ps
 
-abbrev fresh : List ℕ → List ℕ → List ℕ
-fresh h unused = h ++ unused ++ node 999 0 0 ++ node 999 0 0 ++ block 0 0 0 0
+-- a state without blocks: role, band count, style, next layer and the words of three bands
+abbrev bare : ℕ → ℕ → ℕ → ℕ → List ℕ → List ℕ
+bare role count style layer bands = role ∷ count ∷ style ∷ layer ∷ bands
+
+-- sides and planes as large as they may be, in bands without blocks
+abbrev largest : List ℕ
+largest = 64 ∷ 0 ∷ 998 ∷ 0 ∷ 64 ∷ 998 ∷ 0 ∷ 0 ∷ 998 ∷ []
+
+-- one, two and three bands at the last layer, with the largest style
+abbrev one-used : ℕ → List ℕ
+one-used role = bare role 1 63 998 (64 ∷ 0 ∷ 998 ∷ copies 6 0)
+
+abbrev two-used : ℕ → List ℕ
+two-used role = bare role 2 63 998 (64 ∷ 0 ∷ 998 ∷ 0 ∷ 64 ∷ 998 ∷ copies 3 0)
+
+abbrev three-used : ℕ → List ℕ
+three-used role = bare role 3 63 998 largest
+
+-- states of three bands at layer 1, whose nodes are n and whose blocks are k: two blocks in a row in the first, second or third band, one
+-- in those before it and none in those after it
+abbrev two-in-first : ℕ → List ℕ → List ℕ → List ℕ
+two-in-first role n k = role ∷ 3 ∷ 0 ∷ 1 ∷ 2 ∷ 1 ∷ 5 ∷ copies 6 0 ++ n ++ n ++ n ++ n ++ n ++ n ++ k ++ k
+
+abbrev two-in-second : ℕ → List ℕ → List ℕ → List ℕ
+two-in-second role n k =
+    role ∷ 3 ∷ 0 ∷ 1 ∷ 1 ∷ 1 ∷ 5 ∷ 2 ∷ 1 ∷ 5 ∷ copies 3 0 ++ n ++ n ++ k ++ n ++ n ++ n ++ n ++ n ++ n ++ k ++ k
+
+abbrev two-in-third : ℕ → List ℕ → List ℕ → List ℕ
+two-in-third role n k =
+    role ∷ 3 ∷ 0 ∷ 1 ∷ 1 ∷ 1 ∷ 5 ∷ 1 ∷ 1 ∷ 5 ∷ 2 ∷ 1 ∷ 5 ∷ n ++ n ++ k ++ n ++ n ++ k ++ n ++ n ++ n ++ n ++ n ++ n ++ k ++ k
+
+-- v in place of the words that stand at these places of that band, each state alone; its words begin at 13, 23 or 33
+abbrev in-each-band : ℕ → List ℕ → List ℕ → ℕ → List ℕ → List Step
+in-each-band role n k v places =
+    steps-of (looks role 2) (spoilt (two-in-first role n k) v 13 places)
+    ++ steps-of (looks role 3) (spoilt (two-in-second role n k) v 23 places)
+    ++ steps-of (looks role 4) (spoilt (two-in-third role n k) v 33 places)
+
+-- those states as they are
+abbrev each-accepted : ℕ → List ℕ → List ℕ → List Step
+each-accepted role n k = accepts role 2 (two-in-first role n k) ++ accepts role 3 (two-in-second role n k) ++ accepts role 4
+    (two-in-third role n k)
+
+-- the largest words of a node, and of a block with passes, by limit and passes of its segment
+abbrev full-node : List ℕ
+full-node = node 999 999 1
+
+abbrev full-block : ℕ → ℕ → List ℕ
+full-block limit used = block 164 32 limit used
+
+-- the states of one role that give 5: first words
+abbrev first-words-out : ℕ → List Step
+first-words-out role =
+    steps-of (looks role 0)
+    ( -- role, band count, style, next layer
+    bare 0 1 0 0 (copies 9 0) ∷ bare 3 1 0 0 (copies 9 0) ∷ bare (3 - role) 1 0 0 (copies 9 0)
+    ∷ bare role 0 0 0 (copies 9 0) ∷ bare role 4 0 0 (copies 9 0)
+    ∷ bare role 1 64 0 (copies 9 0) ∷ bare role 1 256 0 (copies 9 0)
+    ∷ bare role 1 0 1000 (copies 9 0)
+    -- across and down of each band; its planes
+    ∷ set (three-used role) 4 65 ∷ set (set (three-used role) 7 65) 8 0 ∷ set (three-used role) 10 65
+    ∷ set (set (three-used role) 4 0) 5 65 ∷ set (three-used role) 8 65 ∷ set (three-used role) 11 65
+    ∷ spoilt (three-used role) 999 6 (0 ∷ 3 ∷ 6 ∷ [])
+    -- words of bands that aren't used
+    ++ spoilt (one-used role) 1 0 (7 ∷ 8 ∷ 9 ∷ 10 ∷ 11 ∷ 12 ∷ []) ++ spoilt (two-used role) 1 0 (10 ∷ 11 ∷ 12 ∷ [])
+    -- lengths: none, first words cut short, a word too few, a word too many
+    ++ [] ∷ (role ∷ 1 ∷ []) ∷ bare role 1 0 0 (copies 8 0) ∷ bare role 1 0 0 (copies 10 0) ∷ [])
+
+-- value, low and known of first and last node of both trees
+abbrev nodes-out : ℕ → List Step
+nodes-out role =
+    in-each-band role full-node (block 0 0 0 0) 1000 (0 ∷ 6 ∷ 9 ∷ 15 ∷ 1 ∷ 7 ∷ 10 ∷ 16 ∷ [])
+    ++ in-each-band role full-node (block 0 0 0 0) 2 (2 ∷ 8 ∷ 11 ∷ 17 ∷ [])
+
+-- Of first and last block: length bits, limit or passes of a segment though it has no passes; and of blocks that do, with limit and passes
+-- of a segment as the role asks, more than 164 passes, and length bits 0, 2 and 33.
+abbrev blocks-out : ℕ → ℕ → List Step
+blocks-out role limit =
+    in-each-band role full-node (block 0 0 0 0) 3 (19 ∷ 23 ∷ [])
+    ++ in-each-band role full-node (block 0 0 0 0) 109 (20 ∷ 24 ∷ []) ++ in-each-band role full-node (block 0 0 0 0) 1 (21 ∷ 25 ∷ [])
+    ++ in-each-band role full-node (full-block limit limit) 165 (18 ∷ 22 ∷ [])
+    ++ in-each-band role full-node (full-block limit limit) 0 (19 ∷ 23 ∷ [])
+    ++ in-each-band role full-node (full-block limit limit) 2 (19 ∷ 23 ∷ [])
+    ++ in-each-band role full-node (full-block limit limit) 33 (19 ∷ 23 ∷ [])
 
 pub range-rows : List Row
 range-rows =
-    one
-    (steps-of (looks-reader 5)
-    ( -- header words
-    fresh (head 0 1 0 0 1 1 5) (copies 6 0) ∷ fresh (head 3 1 0 0 1 1 5) (copies 6 0)
-    ∷ fresh (head 2 0 0 0 1 1 5) (copies 6 0) ∷ fresh (head 2 4 0 0 1 1 5) (copies 6 0)
-    ∷ fresh (head 2 1 64 0 1 1 5) (copies 6 0) ∷ fresh (head 2 1 256 0 1 1 5) (copies 6 0)
-    ∷ fresh (head 2 1 0 1000 1 1 5) (copies 6 0)
-    ∷ fresh (head 2 1 0 0 65 1 5) (copies 6 0) ∷ fresh (head 2 1 0 0 1 65 5) (copies 6 0) ∷ fresh (head 2 1 0 0 1 1 999) (copies 6 0)
-    ∷ fresh (head 2 1 0 0 1 1 5) (1 ∷ copies 5 0) ∷ fresh (head 2 1 0 0 1 1 5) (copies 5 0 ++ 1 ∷ [])
-    -- lengths: none, a header cut short, a word too few, a word too many, another geometry
-    ∷ [] ∷ (2 ∷ 1 ∷ []) ∷ (head 2 1 0 0 1 1 5 ++ copies 15 0) ∷ (fresh (head 2 1 0 0 1 1 5) (copies 6 0) ++ 0 ∷ []) ∷ fresh
-    (head 2 1 0 0 2 1 5) (copies 6 0)
-    -- nodes
-    ∷ words 2 0 1 (node 1000 0 0) (node 999 0 0) (block 0 0 0 0) ∷ words 2 0 1 (node 999 1000 0) (node 999 0 0) (block 0 0 0 0) ∷
-    words 2 0 1 (node 999 0 2) (node 999 0 0) (block 0 0 0 0)
-    ∷ words 2 0 1 (node 999 0 0) (node 1000 0 0) (block 0 0 0 0) ∷ words 2 0 1 (node 999 0 0) (node 999 1000 0) (block 0 0 0 0) ∷
-    words 2 0 1 (node 999 0 0) (node 999 0 2) (block 0 0 0 0)
-    -- blocks: passes above 164 × layer; length bits
-    ∷ words 2 0 0 (node 0 1 0) (node 0 1 0) (block 1 3 109 1) ∷ words 2 0 1 (node 0 1 0) (node 0 1 0) (block 165 3 109 1)
-    ∷ words 2 0 1 (node 0 1 0) (node 0 1 0) (block 0 3 0 0) ∷ words 2 0 1 (node 0 1 0) (node 0 1 0) (block 1 0 109 1) ∷ words 2 0 1
-    (node 0 1 0) (node 0 1 0) (block 1 2 109 1) ∷ words 2 0 1 (node 0 1 0) (node 0 1 0) (block 1 33 109 1)
-    -- limit and passes of the segment: none with passes, some without; a limit that the style doesn't give; none or too many passes
-    ∷ words 2 0 1 (node 0 1 0) (node 0 1 0) (block 1 3 0 0) ∷ words 2 0 1 (node 0 1 0) (node 0 1 0) (block 0 0 109 1)
-    ∷ words 2 0 1 (node 0 1 0) (node 0 1 0) (block 1 3 10 1) ∷ words 2 1 1 (node 0 1 0) (node 0 1 0) (block 1 3 109 1) ∷ words 2 1 1
-    (node 0 1 0) (node 0 1 0) (block 1 3 3 1) ∷ words 2 5 1 (node 0 1 0) (node 0 1 0) (block 1 3 2 1)
-    ∷ words 2 0 1 (node 0 1 0) (node 0 1 0) (block 1 3 109 0) ∷ words 2 0 1 (node 0 1 0) (node 0 1 0) (block 1 3 109 110) ∷ words 2
-    4 1 (node 0 1 0) (node 0 1 0) (block 1 3 1 2)
+    one (first-words-out 2)
+    ∷ one (first-words-out 1)
+    ∷ one (nodes-out 2)
+    ∷ one (nodes-out 1)
+    ∷ one (blocks-out 2 109)
+    ∷ one (blocks-out 1 0)
+    -- limit and passes of the segment of a block with passes: no limit, a wrong limit, no passes, too many; in a writer, any
+    ∷ one
+    (in-each-band 2 full-node (full-block 109 109) 0 (20 ∷ 24 ∷ 21 ∷ 25 ∷ [])
+    ++ in-each-band 2 full-node (full-block 109 1) 10 (20 ∷ 24 ∷ [])
+    ++ in-each-band 2 full-node (full-block 109 109) 110 (21 ∷ 25 ∷ [])
+    ++ in-each-band 1 full-node (full-block 0 0) 109 (20 ∷ 24 ∷ [])
+    ++ in-each-band 1 full-node (full-block 0 0) 1 (21 ∷ 25 ∷ []))
+    -- one block: limits that a style doesn't give; passes at layer 0; a word too few, a word too many, another geometry
+    ∷ one
+    (steps-of (looks 2 1)
+    (words 2 0 1 (node 0 1 0) (node 0 1 0) (block 1 3 1 1) ∷ words 2 0 1 (node 0 1 0) (node 0 1 0) (block 1 3 2 1)
+    ∷ words 2 1 1 (node 0 1 0) (node 0 1 0) (block 1 3 109 1) ∷ words 2 1 1 (node 0 1 0) (node 0 1 0) (block 1 3 3 1)
+    ∷ words 2 4 1 (node 0 1 0) (node 0 1 0) (block 1 3 109 1) ∷ words 2 5 1 (node 0 1 0) (node 0 1 0) (block 1 3 10 1)
+    ∷ words 2 5 1 (node 0 1 0) (node 0 1 0) (block 1 3 2 1) ∷ words 2 4 1 (node 0 1 0) (node 0 1 0) (block 1 3 1 2)
+    ∷ words 2 0 0 (node 0 1 0) (node 0 1 0) (block 1 3 109 1)
+    ∷ words 2 0 0 (node 999 0 0) (node 999 0 0) (copies 3 0) ∷ words 2 0 0 (node 999 0 0) (node 999 0 0) (copies 5 0)
+    ∷ set (unread 0) 4 2
+    ∷ [])
+    ++ steps-of (looks 1 1)
+    (words 1 0 0 (node 0 1 1) (node 0 1 1) (block 1 3 0 0)
+    ∷ words 1 0 0 (node 999 0 0) (node 999 0 0) (copies 3 0) ∷ words 1 0 0 (node 999 0 0) (node 999 0 0) (copies 5 0)
+    ∷ set (words 1 0 0 (node 999 0 0) (node 999 0 0) (block 0 0 0 0)) 4 2
+    ∷ []))
+    -- in range: what the states above have besides, each limit that a style gives, and the largest words
+    ∷ one
+    (steps-of (accepts 2 0) (bare 2 1 0 0 (copies 9 0) ∷ one-used 2 ∷ two-used 2 ∷ three-used 2 ∷ [])
+    ++ each-accepted 2 full-node (block 0 0 0 0) ++ each-accepted 2 full-node (full-block 109 109) ++ each-accepted 2 full-node
+    (full-block 109 1)
+    ++ steps-of (accepts 2 1)
+    (words 2 63 998 (node 999 999 1) (node 999 999 1) (block 0 0 0 0)
+    ∷ words 2 0 2 (node 0 1 1) (node 0 1 1) (block 328 3 109 1)
+    ∷ words 2 1 2 (node 0 1 1) (node 0 1 1) (block 328 32 10 10)
+    ∷ words 2 1 2 (node 0 1 1) (node 0 1 1) (block 328 32 2 2)
+    ∷ words 2 1 2 (node 0 1 1) (node 0 1 1) (block 328 32 1 1)
+    ∷ words 2 4 2 (node 0 1 1) (node 0 1 1) (block 328 32 1 1)
+    ∷ words 2 5 2 (node 0 1 1) (node 0 1 1) (block 328 32 1 1)
     ∷ []))
     ∷ one
-    (steps-of (looks-writer 5)
-    (words 1 0 1 (node 0 1 1) (node 0 1 1) (block 1 3 109 1)
-    ∷ words 1 0 1 (node 0 1 1) (node 0 1 1) (block 1 3 0 1)
-    ∷ words 1 0 1 (node 0 1 1) (node 0 1 1) (block 1 3 109 0)
+    (steps-of (accepts 1 0) (bare 1 1 0 0 (copies 9 0) ∷ one-used 1 ∷ two-used 1 ∷ three-used 1 ∷ [])
+    ++ each-accepted 1 full-node (block 0 0 0 0) ++ each-accepted 1 full-node (full-block 0 0)
+    ++ steps-of (accepts 1 1)
+    (words 1 63 998 (node 999 999 1) (node 999 999 1) (block 0 0 0 0)
+    ∷ words 1 0 2 (node 0 1 1) (node 0 1 1) (block 328 3 0 0)
     ∷ []))
-    -- the largest words that are in range; what follows is the packet 80, in which the block isn't included
+    ∷ []
+
+-- ---- markers, in a precinct without blocks: its header is one bit
+
+abbrev sop-only : Markers
+sop-only = record { sop = true; eph = false }
+
+abbrev eph-only : Markers
+eph-only = record { sop = false; eph = true }
+
+-- a read with these markers: present, bytes taken, SOP mark, EPH mark
+abbrev scans : Markers → List ℕ → ℕ → ℕ → ℕ → ℕ → Step
+scans m src present taken sop eph =
+    reads (record { markers = m; input = src; scratch = 13; reports = 0; records = 0 })
+    (0 ∷ present ∷ taken ∷ 0 ∷ sop ∷ eph ∷ []) [] []
+
+abbrev stamps : Markers → ℕ → List ℕ → Step
+stamps m number bytes =
+    writes (record { contribution = contribution [] [] []; markers = m; number = number; scratch = 13; body = 0; output = 9 }) 0 bytes
+
+pub marker-rows : List Row
+marker-rows =
+    record {
+      given = band 0 0 5 ∷ [];
+      planes = [];
+      style = 0;
+      steps =
+          -- no, one or both markers; the low 16 bits of the number
+          stamps plain 0x12345678 (0x80 ∷ [])
+          ∷ stamps sop-only 0x12345678 (0xff ∷ 0x91 ∷ 0x00 ∷ 0x04 ∷ 0x56 ∷ 0x78 ∷ 0x80 ∷ [])
+          ∷ stamps eph-only 0x12345678 (0x80 ∷ 0xff ∷ 0x92 ∷ [])
+          ∷ stamps marked 0x12345678 (0xff ∷ 0x91 ∷ 0x00 ∷ 0x04 ∷ 0x56 ∷ 0x78 ∷ 0x80 ∷ 0xff ∷ 0x92 ∷ [])
+          ∷ [];
+    }
+    ∷ record {
+      given = band 0 0 5 ∷ [];
+      planes = [];
+      style = 0;
+      steps =
+          -- SOP with 6 bytes left and more, whatever its last four are; with 0 to 5 bytes left, where what is there is the header
+          scans sop-only (0xff ∷ 0x91 ∷ 0x00 ∷ 0x04 ∷ 0x00 ∷ 0x00 ∷ []) 0 6 0 0
+          ∷ scans sop-only (0xff ∷ 0x91 ∷ 0x07 ∷ 0x07 ∷ 0x07 ∷ 0x07 ∷ 0x80 ∷ []) 1 7 0 0
+          ∷ scans sop-only [] 0 0 1 0
+          ∷ reads (record { markers = sop-only; input = 0xff ∷ []; scratch = 13; reports = 0; records = 0 }) (no 12) [] []
+          ∷ scans sop-only (0xff ∷ 0x91 ∷ []) 1 2 1 0
+          ∷ scans sop-only (0xff ∷ 0x91 ∷ 0x00 ∷ []) 1 2 1 0
+          ∷ scans sop-only (0xff ∷ 0x91 ∷ 0x00 ∷ 0x04 ∷ []) 1 2 1 0
+          ∷ scans sop-only (0xff ∷ 0x91 ∷ 0x00 ∷ 0x04 ∷ 0x00 ∷ []) 1 2 1 0
+          -- another second byte, another first byte, a marker that isn't used
+          ∷ scans sop-only (0xff ∷ 0x92 ∷ 0x00 ∷ 0x04 ∷ 0x00 ∷ 0x00 ∷ []) 1 2 2 0
+          ∷ scans sop-only (0xfe ∷ 0x91 ∷ 0x00 ∷ 0x04 ∷ 0x00 ∷ 0x00 ∷ []) 1 1 2 0
+          ∷ scans eph-only (0xff ∷ 0x91 ∷ 0x00 ∷ 0x04 ∷ 0x00 ∷ 0x00 ∷ []) 1 2 0 2
+          -- EPH with 2 bytes left, after a header's byte FF too; with 0 and 1 bytes left
+          ∷ scans eph-only (0x80 ∷ 0xff ∷ 0x92 ∷ []) 1 3 0 0
+          ∷ scans eph-only (0xff ∷ 0x7f ∷ 0xff ∷ 0x92 ∷ []) 1 4 0 0
+          ∷ scans eph-only (0x80 ∷ []) 1 1 0 1
+          ∷ scans eph-only (0x80 ∷ 0xff ∷ []) 1 1 0 1
+          -- another second byte, another first byte, a marker that isn't used
+          ∷ scans eph-only (0x80 ∷ 0xff ∷ 0x91 ∷ []) 1 1 0 2
+          ∷ scans eph-only (0x80 ∷ 0xfe ∷ 0x92 ∷ []) 1 1 0 2
+          ∷ scans sop-only (0x80 ∷ 0xff ∷ 0x92 ∷ []) 1 1 1 0
+          -- both marks: SOP's first; of an absent packet too
+          ∷ scans marked (0x80 ∷ 0x07 ∷ 0x07 ∷ []) 1 1 1 2
+          ∷ scans marked (0x00 ∷ 0x07 ∷ 0x07 ∷ []) 0 1 1 2
+          ∷ scans marked (0x00 ∷ []) 0 1 1 1
+          ∷ scans marked (0xff ∷ 0x91 ∷ 0x00 ∷ 0x04 ∷ 0x00 ∷ 0x00 ∷ 0x00 ∷ 0xff ∷ []) 0 7 0 1
+          ∷ [];
+    }
+    -- an absent packet moves the next layer, and no other word
     ∷ one
-    (loads-reader (words 2 63 998 (node 999 999 1) (node 999 999 1) (block 0 0 0 0)) ∷ get 23 1 (0x80 ∷ []) (told 1 1 0) (copies 4 0) []
-    ∷ loads-reader (words 2 0 2 (node 0 1 1) (node 0 1 1) (block 328 32 109 109)) ∷ get 23 1 (0x80 ∷ []) (told 1 1 0) (copies 4 0) []
-    ∷ loads-reader (words 2 1 2 (node 0 1 1) (node 0 1 1) (block 328 32 2 2)) ∷ get 23 1 (0x80 ∷ []) (told 1 1 0) (copies 4 0) []
-    ∷ loads-writer (words 1 63 998 (node 999 999 1) (node 999 999 1) (block 0 0 0 0)) ∷ puts 23 (0 ∷ []) [] [] (0x80 ∷ [])
-    ∷ loads-writer (words 1 0 2 (node 0 1 1) (node 0 1 1) (block 328 32 0 0)) ∷ puts 23 (0 ∷ []) [] [] (0x80 ∷ [])
+    (loads-reader (read-one 0 998 32)
+    ∷ reads (record { markers = marked; input = 0x00 ∷ 0x07 ∷ 0x07 ∷ []; scratch = 23; reports = 4; records = 4 })
+    (0 ∷ 0 ∷ 1 ∷ 0 ∷ 1 ∷ 2 ∷ []) (copies 4 0) []
+    ∷ holds-reader (read-one 0 999 32)
     ∷ [])
     ∷ []
 
 -- ---- the slips that lie near, and other corners
+
+-- a reader of two blocks in a row: zero planes 0 in the first leaf, below a root of value v
+abbrev odd-planes : ℕ → List ℕ
+odd-planes v =
+    2 ∷ 1 ∷ 0 ∷ 0 ∷ 2 ∷ 1 ∷ 5 ∷ copies 6 0 ++ node 999 0 0 ++ node 999 0 0 ++ node 999 0 0 ++ node 0 0 0 ++ node 999 0 0 ++ node v 0 0 ++
+    copies 8 0
 
 pub slip-rows : List Row
 slip-rows =
@@ -457,11 +652,53 @@ slip-rows =
     ∷ loads-reader (words 2 0 0 (node 0 0 1) (node 0 0 1) (block 0 0 0 0)) ∷ get 23 1 (0x94 ∷ []) (told 1 1 1) (1 ∷ 0 ∷ 5 ∷ 1 ∷ [])
     (0 ∷ 1 ∷ 1 ∷ 5 ∷ [])
     ∷ [])
-    -- zero planes read with one threshold for all: of a root that isn't known, over a leaf that is, one bit is read and not four
+    -- three passes after nine with limits 10, 2, 1: one fills the open segment, two the next
+    ∷ precinct 1 1 (5 ∷ [])
+    (loads-reader (words 2 1 1 (node 0 1 0) (node 0 1 0) (block 9 3 10 9))
+    ∷ get 23 1 (0xf0 ∷ 0x48 ∷ []) (told 1 2 2) (2 ∷ 0 ∷ 0 ∷ 3 ∷ []) (0 ∷ 0 ∷ 1 ∷ 1 ∷ 0 ∷ 1 ∷ 2 ∷ 2 ∷ [])
+    ∷ holds-reader (words 2 1 2 (node 0 1 0) (node 0 1 0) (block 12 3 2 2))
+    ∷ loads-writer (words 1 1 1 (node 0 1 1) (node 0 1 1) (block 9 3 0 0))
+    ∷ puts 23 (3 ∷ []) (1 ∷ 1 ∷ 1 ∷ []) (1 ∷ 0 ∷ 0 ∷ []) (0xf0 ∷ 0x48 ∷ [])
+    ∷ holds-writer (words 1 1 2 (node 0 1 1) (node 0 1 1) (block 12 3 0 0))
+    ∷ [])
+    -- trees of three levels, three by two blocks and two by three: blocks come in different layers with different zero planes
+    ∷ record {
+      given = band 3 2 5 ∷ [];
+      planes = 3 ∷ 5 ∷ 1 ∷ 4 ∷ 2 ∷ 0 ∷ [];
+      style = 0;
+      steps =
+          puts 91 (0 ∷ 1 ∷ 0 ∷ 0 ∷ 0 ∷ 1 ∷ []) (5 ∷ 1 ∷ []) (0 ∷ 0 ∷ []) (0xef ∷ 0x2c ∷ 0x42 ∷ 0x84 ∷ [])
+          ∷ get 91 6 (0xef ∷ 0x2c ∷ 0x42 ∷ 0x84 ∷ []) (told 1 4 2) (0 ∷ 0 ∷ 0 ∷ 0 ∷ 1 ∷ 0 ∷ 5 ∷ 1 ∷ 0 ∷ 0 ∷ 0 ∷ 0 ∷ 0 ∷ 0 ∷ 0 ∷ 0 ∷ 0 ∷ 0 ∷ 0 ∷ 0 ∷ 1 ∷ 5 ∷ 0 ∷ 1 ∷ []) (1 ∷ 1 ∷ 1 ∷ 5 ∷ 5 ∷ 1 ∷ 1 ∷ 1 ∷ [])
+          ∷ puts 91 (1 ∷ 2 ∷ 0 ∷ 1 ∷ 0 ∷ 1 ∷ []) (3 ∷ 4 ∷ 4 ∷ 9 ∷ 0 ∷ []) (0 ∷ 0 ∷ 0 ∷ 0 ∷ 0 ∷ []) (0xc8 ∷ 0xf2 ∷ 0x15 ∷ 0x4a ∷ 0x00 ∷ [])
+          ∷ get 91 6 (0xc8 ∷ 0xf2 ∷ 0x15 ∷ 0x4a ∷ 0x00 ∷ []) (told 1 5 4) (1 ∷ 2 ∷ 3 ∷ 1 ∷ 2 ∷ 0 ∷ 0 ∷ 2 ∷ 0 ∷ 0 ∷ 0 ∷ 0 ∷ 1 ∷ 1 ∷ 4 ∷ 1 ∷ 0 ∷ 0 ∷ 0 ∷ 0 ∷ 2 ∷ 0 ∷ 0 ∷ 1 ∷ []) (0 ∷ 1 ∷ 1 ∷ 3 ∷ 1 ∷ 0 ∷ 2 ∷ 8 ∷ 3 ∷ 1 ∷ 1 ∷ 9 ∷ 5 ∷ 0 ∷ 1 ∷ 0 ∷ [])
+          ∷ [];
+    }
+    ∷ record {
+      given = band 2 3 5 ∷ [];
+      planes = 3 ∷ 5 ∷ 1 ∷ 4 ∷ 2 ∷ 0 ∷ [];
+      style = 0;
+      steps =
+          puts 91 (0 ∷ 1 ∷ 0 ∷ 1 ∷ 1 ∷ 0 ∷ []) (5 ∷ 1 ∷ 8 ∷ []) (0 ∷ 0 ∷ 0 ∷ []) (0xef ∷ 0x2a ∷ 0x87 ∷ 0x1a ∷ 0x80 ∷ [])
+          ∷ get 91 6 (0xef ∷ 0x2a ∷ 0x87 ∷ 0x1a ∷ 0x80 ∷ []) (told 1 5 3) (0 ∷ 0 ∷ 0 ∷ 0 ∷ 1 ∷ 0 ∷ 5 ∷ 1 ∷ 0 ∷ 0 ∷ 0 ∷ 0 ∷ 1 ∷ 1 ∷ 4 ∷ 1 ∷ 1 ∷ 3 ∷ 2 ∷ 1 ∷ 0 ∷ 0 ∷ 0 ∷ 0 ∷ []) (1 ∷ 1 ∷ 1 ∷ 5 ∷ 3 ∷ 1 ∷ 1 ∷ 1 ∷ 4 ∷ 1 ∷ 1 ∷ 8 ∷ [])
+          ∷ [];
+    }
+    -- 999 zero planes: from low 997 on two bits 0 and no 1
+    ∷ one
+    (loads-reader (words 2 0 0 (node 0 0 0) (node 999 997 0) (block 0 0 0 0))
+    ∷ get 23 1 (0x85 ∷ []) (told 1 1 1) (1 ∷ 999 ∷ (2 ^ 32 + 5 - 999) ∷ 1 ∷ []) (0 ∷ 1 ∷ 1 ∷ 5 ∷ [])
+    ∷ [])
+    -- zero planes read with one threshold for all, or with the root's value: of a root whose value isn't known, or is 3 and not yet read,
+    -- over a leaf whose value is 0, one bit is read and not four or three
     ∷ precinct 2 0 (5 ∷ 5 ∷ [])
-    (loads-reader (2 ∷ 1 ∷ 0 ∷ 0 ∷ 2 ∷ 1 ∷ 5 ∷ copies 6 0 ++ node 999 0 0 ++ node 999 0 0 ++ node 999 0 0 ++ node 0 0 0 ++ node 999
-    0 0 ++ node 999 0 0 ++ copies 8 0)
+    (loads-reader (odd-planes 999)
     ∷ get 39 2 (0xe2 ∷ 0x80 ∷ []) (told 1 2 1) (1 ∷ 0 ∷ 5 ∷ 1 ∷ 0 ∷ 0 ∷ 0 ∷ 0 ∷ []) (0 ∷ 1 ∷ 1 ∷ 5 ∷ [])
+    ∷ loads-reader (odd-planes 3)
+    ∷ get 39 2 (0xe2 ∷ 0x80 ∷ []) (told 1 2 1) (1 ∷ 0 ∷ 5 ∷ 1 ∷ 0 ∷ 0 ∷ 0 ∷ 0 ∷ []) (0 ∷ 1 ∷ 1 ∷ 5 ∷ [])
+    ∷ [])
+    -- zero planes written with the threshold 999: of a leaf whose value is 999, one 0 from low 998 on, and no 1
+    ∷ one
+    (loads-writer (words 1 0 0 (node 0 0 1) (node 999 998 0) (block 0 0 0 0)) ∷ puts 23 (1 ∷ []) (5 ∷ []) (0 ∷ []) (0x8a ∷ [])
+    ∷ holds-writer (words 1 0 1 (node 0 0 1) (node 999 999 0) (block 1 3 0 0))
     ∷ [])
     -- a precinct without blocks
     ∷ record {
@@ -473,10 +710,10 @@ slip-rows =
     ∷ []
 
 pub rows : List Row
-rows = a-to-l ++ start-rows ++ write-rows ++ read-rows ++ range-rows ++ slip-rows
+rows = a-to-l ++ start-rows ++ write-rows ++ read-rows ++ range-rows ++ marker-rows ++ slip-rows
 
 -- ---- the statement: no row fails
 
 pub all-rows-hold : failing 0 rows ≡ []
-unfolding rows a-to-l start-rows write-rows read-rows range-rows slip-rows failing rowHolds
+unfolding rows a-to-l start-rows write-rows read-rows range-rows marker-rows slip-rows failing rowHolds
 all-rows-hold = refl

@@ -25,7 +25,7 @@ pub record FirstWords (r : ℕ) (bs : List Band) (s t : ℕ) (ws : List ℕ) : T
 abbrev SameBut3 : List ℕ → List ℕ → Type 0
 SameBut3 ws vs = (j : ℕ) → j < 13 → j ≢ 3 → getD vs j 0 ≡ getD ws j 0
 
-same-bands : (ws vs : List ℕ) → SameBut3 ws vs → (bands vs ≡ bands ws) × (unusedBandsZero vs ≡ unusedBandsZero ws)
+pub same-bands : (ws vs : List ℕ) → SameBut3 ws vs → (bands vs ≡ bands ws) × (unusedBandsZero vs ≡ unusedBandsZero ws)
 unfolding bands bandAt unusedBandsZero every
 same-bands ws vs e =
     rw (

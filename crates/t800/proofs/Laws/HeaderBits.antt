@@ -9,7 +9,7 @@ use Rattle.t800.specs.Bits.{bitsOf}
 use Rattle.t800.specs.TagTree.{Coded, lowAfter, nodeBits, codePath}
 use Rattle.t800.specs.PassCount.{passBits}
 use Rattle.t800.specs.Segments.{Segment, segmentsOf, width, increment, commaBits, lengthFields}
-use Rattle.t800.specs.State.{Block, notYetPlanes}
+use Rattle.t800.specs.State.{Block}
 use Rattle.t800.specs.WriteHeader.{isNew, lengthBitsBefore, codeInclusion, codeZeroPlanes, codePasses, codeBlock, codeBlocks}
 use Rattle.t800.proofs.Laws.Tests.{either}
 use Rattle.t800.proofs.Laws.Pack.{AreBits}
@@ -64,12 +64,12 @@ CodedBits c = AreBits (c .bits)
 pub bits-inclusion : (t : ℕ) (k : Block) (c : ℕ) (ws : List ℕ) → CodedBits (codeInclusion t k c ws)
 unfolding codeInclusion
 bits-inclusion t k c ws =
-    either CodedBits (isNew ws k) _ _ (bits-path (k .inclTree) (t + 1) (reverse (k .path)) 0 ws)
+    either CodedBits (isNew ws k) _ _ (bits-path (k .inclTree) _ (reverse (k .path)) 0 ws)
     (one-bit (cond (ltb 0 c) 1 0) (either (λ (x : ℕ). x < 2) (ltb 0 c) 1 0 (omega arith) (omega arith)))
 
 pub bits-planes : (k : Block) (ws : List ℕ) → CodedBits (codeZeroPlanes k ws)
 unfolding codeZeroPlanes
-bits-planes k ws = either CodedBits (isNew ws k) _ _ (bits-path (k .zeroTree) notYetPlanes (reverse (k .path)) 0 ws) tt
+bits-planes k ws = either CodedBits (isNew ws k) _ _ (bits-path (k .zeroTree) _ (reverse (k .path)) 0 ws) tt
 
 pub bits-counted : (k : Block) (c : ℕ) (segs : List Segment) (ws : List ℕ) → CodedBits (codePasses k c segs ws)
 unfolding codePasses commaBits

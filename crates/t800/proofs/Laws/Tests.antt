@@ -1,7 +1,7 @@
 -- Tests on numbers and the branches that they choose, beside those of `borrow.Author.Tests`; and what stands at a place of a list.
 use mathlib.Core.Path.{_≡_, refl, sym, _∙_}
 use mathlib.Core.Logic.{_≢_}
-use mathlib.Core.Bool.{Bool, true, false, not, cond, _||_, true≢false}
+use mathlib.Core.Bool.{Bool, true, false, not, cond, _&&_, _||_, true≢false}
 use mathlib.Core.List.{List, [], _∷_}
 use Prim.Native.Nat.{ℕ, suc, _≤_, _<_}
 use native.Mathlib.Decide.{ℕ-discrete}
@@ -42,6 +42,11 @@ pub either {ℓ} : {A : Type ℓ} (P : A → Type 0) (b : Bool) (x y : A) → P 
 either P true x y p q = p
 either P false x y p q = q
 
+-- and what holds of each where its test came out so
+pub either-by {ℓ} : {A : Type ℓ} (P : A → Type 0) (b : Bool) (x y : A) → (b ≡ true → P x) → (b ≡ false → P y) → P (cond b x y)
+either-by P true x y p q = p refl
+either-by P false x y p q = q refl
+
 -- ---- cases on two numbers
 
 pub on-eq {ℓ} : {X : Type ℓ} (m n : ℕ) → (m ≡ n → X) → (m ≢ n → X) → X
@@ -66,6 +71,14 @@ or-left false b h = refl
 pub or-right : (a b : Bool) → (a || b) ≡ false → b ≡ false
 or-right true b h = absurd (true≢false h)
 or-right false b h = h
+
+pub and-left : (a b : Bool) → (a && b) ≡ true → a ≡ true
+and-left true b h = refl
+and-left false b h = h
+
+pub and-right : (a b : Bool) → (a && b) ≡ true → b ≡ true
+and-right true b h = h
+and-right false b h = absurd (true≢false (sym h))
 
 -- the number n is given where b holds, else x; if that is 0, b doesn't hold
 pub not-refused : (b : Bool) (n x : ℕ) → n ≢ 0 → cond b n x ≡ 0 → (b ≡ false) × (x ≡ 0)
