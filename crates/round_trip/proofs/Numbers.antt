@@ -26,6 +26,7 @@ use Rattle.t800.specs.Packet.{readRefusal, headerChecks, firstBit, headerOf, re
 use Rattle.t800.specs.Interface.{StartCall, startOf, WriteCall, measureOf, writeOf, ReadCall, readOf, Calls, Interface}
 use Rattle.t800.specs.Numbers.{NoneHolds, NumberIs, startChecksOf, measureChecksOf, writeChecksOf, readChecksOf, Numbers}
 use Rattle.t800.proofs.Laws.Tests.{if-true, if-false, if-eq, if-ne, either, on-eq}
+use Rattle.t800_laws.proofs.Laws.StateAfter.{refused-write-leaves-state, refused-read-leaves-state}
 use Rattle.t800.proofs.Laws.Checks.{NotAmong, not-first, on-bool, first-append}
 
 -- ---- the first check that holds
@@ -125,10 +126,8 @@ module _ (ws : List ℕ) (c : WriteCall) where
   write-number = write-why
 
   write-stays : writeOf ws c .answer .refusal ≢ 0 → writeOf ws c .state ≡ ws
-  unfolding write
-  write-stays h =
-      ap (λ (z : WriteResult). z .state) (if-ne writeWhy 0 _ _ (λ e. h (write-why ∙ e)))
-      ∙ either (λ (z : WriteResult). z .state ≡ ws) (eqb writeWhy 11) _ _ refl refl
+  write-stays =
+      refused-write-leaves-state ws (c .scratch) (c .contribution) (c .body) (c .markers) (c .number) (c .output)
 
 -- ---- reading
 
@@ -255,17 +254,7 @@ module _ (ws : List ℕ) (c : ReadCall) where
       ∙ sym (first-append (headerChecks present (header .refusal)) (readListChecks ws (c .scratch) (c .reports)) (omega arith))
 
   read-stays : readOf ws c .answer .refusal ≢ 0 → readOf ws c .state ≡ ws
-  unfolding read readAbsent readPresent
-  read-stays h = kept (not (eqb early 0)) (eqb first 0) (eqb (header .refusal) 0) _ _ _ _ h refl refl refl refl
-    where
-      kept : (refused absent done : Bool) (a b c d : ReadResult)
-          → cond refused a (cond absent b (cond done c d)) .answer .refusal ≢ 0 → a .state ≡ ws → b .answer .refusal ≡ 0
-          → c .answer .refusal ≡ 0 → d .state ≡ ws
-          → cond refused a (cond absent b (cond done c d)) .state ≡ ws
-      kept true absent done a b c d n p q s t = p
-      kept false true done a b c d n p q s t = absurd (n q)
-      kept false false true a b c d n p q s t = absurd (n s)
-      kept false false false a b c d n p q s t = t
+  read-stays = refused-read-leaves-state ws (c .scratch) (c .markers) (c .input) (c .reports) (c .records)
 
 -- ---- of one kind of call in an interface
 

@@ -1,6 +1,6 @@
 -- The calls of crate t2 as an interface: each contract in its src/lib.rt is t800's equation, and no list is added.
 use mathlib.Core.Path.{_≡_}
-use mathlib.Core.Bool.{true, false, true≢false}
+use mathlib.Core.Bool.{true, true≢false}
 use Prim.Native.Nat.{ℕ}
 use native.Mathlib.Omega.{arith}
 use Rattle.t800.specs.Base.{Words}

@@ -14,15 +14,15 @@ use Rattle.t800.specs.State.{writer, reader, blocks, stateLength}
 use Rattle.t800.specs.Ranges.{badShape, badStyle, bandTooDeep, blockTooDeep, validState}
 use Rattle.t800.specs.Start.{freshState, setZeroPlanes, StartResult, startRefusal, start}
 use Rattle.t800.specs.Packet.{WriteResult, ReadResult}
-use Rattle.t800.specs.Book.{BlockEntry, newBook, addCounts, terminatedAsStyle}
+use Rattle.t800.specs.Book.{BlockEntry, addCounts, terminatedAsStyle}
 use Rattle.t800.specs.Interface.{StartCall, WriteCall, writeOf, ReadCall, readOf, Interface}
 use Rattle.t800.specs.RoundTrip as made
 use Rattle.t800.specs.RoundTrip.{Owed, ReadsPacket, GivesEntry, WriterMade, measured, written, ReaderMade, refusedMade, packetMade}
-use Rattle.t800.specs.RoundTrip.{Follows, Accepted, styleOf, bookOf, RoundTrip, WriterInRange}
+use Rattle.t800.specs.RoundTrip.{Follows, Accepted, bookOf, RoundTrip, WriterInRange}
 use Rattle.t800.proofs.Laws.Tests.{if-true, if-false}
 use Rattle.t800.proofs.Laws.Checks.{on-bool}
 use Rattle.t800.proofs.Laws.Accepted.{start-accepted}
-use Rattle.round_trip.proofs.Trip.Lists.{WriterCall, measuring, writing, accepted, stateAfter, owedFor, owed, allTerminatedAsStyle}
+use Rattle.round_trip.proofs.Trip.Lists.{WriterCall, writing, accepted, stateAfter, owedFor, owed, allTerminatedAsStyle}
 use Rattle.round_trip.proofs.Trip.Lists.{ReaderCall, refusedRead, packetRead, ReadsAsOwed}
 use Rattle.round_trip.proofs.Trip.WriterInRange.{calls-in-range}
 use Rattle.round_trip.proofs.Trip.RoundTrip.{all-packets-read}

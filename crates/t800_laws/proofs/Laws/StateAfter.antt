@@ -24,7 +24,7 @@ use Rattle.t800.specs.Reports.{recordWidth}
 use Rattle.t800.specs.WriteHeader.{Contribution, codeHeader}
 use Rattle.t800.specs.ReadHeader.{HeaderRead, readHeader}
 use Rattle.t800.specs.MarkerSegments.{MarkerRead, readMarker, readSop}
-use Rattle.t800.specs.Packet.{measureRefusal, writeRefusal, WriteResult, write, readRefusal, ReadResult, readAbsent}
+use Rattle.t800.specs.Packet.{writeRefusal, WriteResult, write, readRefusal, ReadResult, readAbsent}
 use Rattle.t800.specs.Packet.{readResult, refusedAnswer, readPresent, read}
 use Rattle.t800.proofs.Laws.Tests.{either, either-by, if-true, if-false, and-left, and-right, not-refused}
 use Rattle.t800.proofs.Laws.Layout.{end-after}
@@ -85,11 +85,6 @@ module _ (r : ℕ) (ws : List ℕ) (n : ℕ) (h : validState r ws n ≡ true) wh
   has-first-words = rw valid-length (end-after 13 (bands ws))
 
 -- a measuring or writing call, and a read, whose state gives neither 5 nor 6
-measured-in-range : (ws scratch : List ℕ) (p : Contribution) → measureRefusal ws scratch p ≡ 0
-    → validState writer ws (length scratch) ≡ true
-unfolding measureRefusal
-measured-in-range ws scratch p e = not-false (validState writer ws (length scratch)) (not-refused _ 5 _ (omega arith) e .0)
-
 read-in-range : (ws scratch reports : List ℕ) → readRefusal ws scratch reports ≡ 0
     → (validState reader ws (length scratch) ≡ true) × (layer ws ≢ notYetIncluded)
 unfolding readRefusal
@@ -195,9 +190,7 @@ module _ (ws scratch : List ℕ) (p : Contribution) (body : List ℕ) (m : Marke
   writing-in-range : writeRefusal ws scratch p body m number output ≡ 0 → validState writer ws (length scratch) ≡ true
   unfolding writeRefusal
   writing-in-range e =
-      let why : ℕ = measureRefusal ws scratch p in
-      either-by (λ (z : ℕ). z ≡ 0 → validState writer ws (length scratch) ≡ true) (not (eqb why 0)) _ _
-      (λ t z. measured-in-range ws scratch p z) (λ t z. measured-in-range ws scratch p (eqb-true why 0 (not-false (eqb why 0) t))) e
+      not-false (validState writer ws (length scratch)) (not-refused (not (validState writer ws (length scratch))) 5 _ (omega arith) e .0)
 
   pub accepted-write-next-layer : wrote .answer .refusal ≡ 0 → layer (wrote .state) ≡ layer ws + 1
   unfolding write codeHeader
