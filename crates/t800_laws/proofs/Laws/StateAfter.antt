@@ -84,7 +84,7 @@ module _ (r : ℕ) (ws : List ℕ) (n : ℕ) (h : validState r ws n ≡ true) wh
   unfolding stateLength
   has-first-words = rw valid-length (end-after 13 (bands ws))
 
--- a measuring or writing call, and a read, whose state gives neither 5 nor 6
+-- a read whose state gives neither 5 nor 6
 read-in-range : (ws scratch reports : List ℕ) → readRefusal ws scratch reports ≡ 0
     → (validState reader ws (length scratch) ≡ true) × (layer ws ≢ notYetIncluded)
 unfolding readRefusal
