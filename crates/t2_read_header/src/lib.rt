@@ -9,10 +9,8 @@ ghost use Rattle.t2_read_segments.specs.Reading.{reading, BitsIn};
 ghost use Rattle.t2_read_header.specs.Header.{ReadsHeader};
 use t2_read_segments::Run;
 use t800::Bio;
+use t800::Refusal;
 ghost use Rattle.t800.specs.Reports.{reportWidth};
-
-// The refusal at a header's end.
-pub const HEADER_END: u32 = 12;
 
 // Of the state in `words`, after the first bit.
 pub fn opj_t2_read_packet_header(
@@ -43,5 +41,5 @@ pub fn opj_t2_read_packet_header(
     if end.ok {
         return run;
     }
-    t2_read_segments::refuse(run, HEADER_END)
+    t2_read_segments::refuse(run, Refusal::HEADER_END)
 }

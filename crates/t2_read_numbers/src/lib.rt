@@ -5,17 +5,19 @@ ghost use lib.Dec.{eqb};
 ghost use Rattle.t800.specs.Packet.{readResult};
 ghost use Rattle.t2_read_numbers.specs.Reading.{wrongListNumber, readNumbers, toFill};
 use t800::Markers;
+use t800::RECORD_WIDTH;
 use t800::ReadAnswer;
+use t800::Refusal;
 ghost use Rattle.t800.specs.Reports.{recordWidth};
 
 // Four words for each record.
 fn four_each(words: usize, room: usize) -> bool
     ensures { λ r. ⌜ r ≡ eqb words (recordWidth * room) ⌝ }
 {
-    if words / 4 != room {
+    if words / RECORD_WIDTH != room {
         return false;
     }
-    words % 4 == 0
+    words % RECORD_WIDTH == 0
 }
 
 // 5 and 6 are looked for before the list's 3.
@@ -23,12 +25,12 @@ fn wrong_list(state: &[u32], scratch: &[u32]) -> u32
     ensures { λ r. ⌜ r ≡ wrongListNumber (now (state .entry)) (now (scratch .entry)) ⌝ }
 {
     if !tcd_state::valid_state(tcd_style::READER, state, scratch.len()) {
-        return t2_read_refusals::BAD_STATE;
+        return Refusal::STATE;
     }
     if state[3] == tcd_style::NOT_YET_INCLUDED {
-        return t2_read_refusals::NO_MORE_LAYERS;
+        return Refusal::LAYERS;
     }
-    t2_read_refusals::WRONG_LIST
+    Refusal::LIST
 }
 
 // The read into numbers, which must be four for each record that there is room for.
