@@ -3,6 +3,7 @@ ghost use mathlib.Core.Path.{_≡_};
 ghost use lib.ListN.{length};
 ghost use Rattle.t800.specs.Base.{wiped};
 ghost use Rattle.lists.specs.Rows.{putRow, putReport, putRecord};
+use t800::RECORD_WIDTH;
 
 // ---- copies
 
@@ -50,11 +51,12 @@ pub fn wipe_bytes(bytes: &mut [u8])
 
 // ---- reports and records
 
+// A row of reports or of records: both have RECORD_WIDTH words.
 fn put_row(rows: &mut [u32], n: usize, a: u32, b: u32, c: u32, d: u32)
     ensures { λ _. ⌜ now (rows .exit) ≡ putRow (now (rows .entry)) n a b c d ⌝ }
 {
-    if n < rows.len() / 4 {
-        let at = 4 * n;
+    if n < rows.len() / RECORD_WIDTH {
+        let at = RECORD_WIDTH * n;
         rows[at] = a;
         rows[at + 1] = b;
         rows[at + 2] = c;

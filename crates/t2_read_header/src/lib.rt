@@ -9,12 +9,12 @@ ghost use Rattle.t2_read_segments.specs.Reading.{reading, BitsIn};
 ghost use Rattle.t2_read_header.specs.Header.{ReadsHeader};
 use t2_read_segments::Run;
 use t800::Bio;
+use t800::Refusal;
 ghost use Rattle.t800.specs.Reports.{reportWidth};
 
-// The refusal at a header's end.
-pub const HEADER_END: u32 = 12;
-
-// Of the state in `words`, after the first bit.
+// Of the state in `words`, after the first bit. Where the header is refused, the contract gives the number and that the place of the bits
+// is in reach of the input, and leaves open what the three lists hold, how many records there are and where in reach that place is: a refused
+// header carries its number alone (P5 of docs/DECISIONS.md), and the call wipes the lists (SCOPE S5).
 pub fn opj_t2_read_packet_header(
     words: &mut [u32],
     reports: &mut [u32],
@@ -43,5 +43,5 @@ pub fn opj_t2_read_packet_header(
     if end.ok {
         return run;
     }
-    t2_read_segments::refuse(run, HEADER_END)
+    t2_read_segments::refuse(run, Refusal::HEADER_END)
 }

@@ -7,16 +7,18 @@ ghost use Rattle.t800.specs.Reports.{recordWidth};
 ghost use Rattle.t800.specs.Exports.{workRefusal};
 ghost use Rattle.t2_read_numbers.specs.Reading.{readNumbers, toFill};
 use t800::Markers;
+use t800::RECORD_WIDTH;
 use t800::ReadAnswer;
+use t800::Refusal;
 
 // Four words for each record.
 fn four_each(words: usize, room: usize) -> bool
     ensures { λ r. ⌜ r ≡ eqb words (recordWidth * room) ⌝ }
 {
-    if words / 4 != room {
+    if words / RECORD_WIDTH != room {
         return false;
     }
-    words % 4 == 0
+    words % RECORD_WIDTH == 0
 }
 
 // 5 and 6 are looked for before the list's 3.
@@ -24,12 +26,12 @@ fn work_refusal(state: &[u32], scratch: &[u32]) -> u32
     ensures { λ r. ⌜ r ≡ workRefusal (now (state .entry)) (now (scratch .entry)) ⌝ }
 {
     if !tcd_state::valid_state(tcd_style::READER, state, scratch.len()) {
-        return t2_read_refusals::BAD_STATE;
+        return Refusal::STATE;
     }
     if state[3] == tcd_style::NOT_YET_INCLUDED {
-        return t2_read_refusals::NO_MORE_LAYERS;
+        return Refusal::LAYERS;
     }
-    t2_read_refusals::WRONG_LIST
+    Refusal::LIST
 }
 
 // The read into the work list, which must have four words for each record that there is room for.

@@ -6,12 +6,9 @@ ghost use Rattle.tcd_places.specs.Places.{blockAt};
 ghost use Rattle.t2_read_segments.specs.Segments.{limitAfter, currentSegment};
 ghost use Rattle.t2_read_segments.specs.Reading.{reading, WithAnyReports, nextSegment, nextSegments, SegmentFits};
 use t800::Bio;
+use t800::RECORD_WIDTH;
+use t800::Refusal;
 use tcd_style::Style;
-
-// Refusals that reading gives at a segment.
-pub const FIELD_TOO_WIDE: u32 = 9;
-
-pub const TOO_FEW_RECORDS: u32 = 13;
 
 // The segment that a block's next passes go into: 1 if they open it, its limit, the passes that it has.
 pub struct Segment {
@@ -91,12 +88,12 @@ fn read_segment(
 {
     let width = t2_segments::field_width(words[at + 1] as u64, n);
     let count = r.count;
-    let room = records.len() / 4;
+    let room = records.len() / RECORD_WIDTH;
     if 32 < width {
-        return refuse(r, FIELD_TOO_WIDE);
+        return refuse(r, Refusal::WIDTH);
     }
     if room <= count {
-        return refuse(r, TOO_FEW_RECORDS);
+        return refuse(r, Refusal::RECORDS);
     }
     let len = bio_read::opj_bio_read(src, r.bio, width as u32);
     words[at + 2] = s.limit;

@@ -2,7 +2,9 @@
 ghost use mathlib.Core.Path.{_≡_};
 ghost use Prim.Native.Nat.{_≤_, _+_, _*_};
 ghost use lib.ListN.{set, getD};
+ghost use Rattle.t800.specs.Reports.{recordWidth};
 ghost use Rattle.t2_records.specs.Segments.{segmentAt, filled};
+use t800::RECORD_WIDTH;
 use t800::Segment;
 
 // A record is stored where there is room for it.
@@ -17,10 +19,10 @@ pub fn put_segment(records: &mut [Segment], at: usize, s: Segment)
 // Word k of record i, and 0 past the end.
 fn word(words: &[u32], i: usize, k: usize) -> u32
     requires { ⌜ k ≤ 3 ⌝ }
-    ensures { λ r. ⌜ r ≡ getD (now (words .entry)) (i * 4 + k) 0 ⌝ }
+    ensures { λ r. ⌜ r ≡ getD (now (words .entry)) (i * recordWidth + k) 0 ⌝ }
 {
     if i < words.len() {
-        let at = i * 4 + k;
+        let at = i * RECORD_WIDTH + k;
         if at < words.len() {
             return words[at];
         }

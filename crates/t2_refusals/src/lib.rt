@@ -8,6 +8,7 @@ ghost use Rattle.t800.specs.Ranges.{validState};
 ghost use Rattle.t800.specs.Packet.{wrongLists};
 ghost use Rattle.t800.specs.WriteHeader.{contribution};
 ghost use Rattle.t2_refusals.specs.Refusals.{contributionRefusal, measureRefusalFor};
+use t800::Refusal;
 
 // ---- the lists (3)
 
@@ -37,10 +38,10 @@ fn contribution_refusal(state: &[u32], counts: &[u32], lengths: &[u32], marks: &
     let n = state[1] as usize;
     let blocks = tcd_layout::num_blocks(bands, n);
     if wrong_lists(blocks, counts, lengths, marks) {
-        return 3;
+        return Refusal::LIST;
     }
     if tcd_shape::any_over(counts, 164) {
-        return 7;
+        return Refusal::PASSES;
     }
     t2_widths::segments_refusal(state, bands, n, counts, lengths, marks)
 }
@@ -57,10 +58,10 @@ pub fn measure_refusal(
         (contribution (now (counts .entry)) (now (lengths .entry)) (now (marks .entry))) ⌝ }
 {
     if !tcd_state::valid_state(tcd_style::WRITER, state, scratch_len) {
-        return 5;
+        return Refusal::STATE;
     }
     if state[3] == tcd_style::NOT_YET_INCLUDED {
-        return 6;
+        return Refusal::LAYERS;
     }
     contribution_refusal(state, counts, lengths, marks)
 }

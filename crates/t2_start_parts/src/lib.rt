@@ -12,6 +12,7 @@ ghost use Rattle.t800.specs.Start.{freshNodes, freshBlocks, freshBands, bandWor
 ghost use Rattle.tcd_layout.specs.Geometry.{noBand, AllUpTo64};
 ghost use Rattle.t2_start_parts.specs.Parts.{planesWanted};
 use t800::Band;
+use t800::Refusal;
 use tcd_style::NOT_YET_INCLUDED;
 use tcd_style::NOT_YET_PLANES;
 use tcd_style::Style;
@@ -64,19 +65,19 @@ pub fn refusal(
     ensures { λ r. ⌜ r ≡ startRefusal role count bands style (now (planes .entry)) (now (state .entry)) ⌝ }
 {
     if tcd_shape::bad_shape(count, bands) {
-        return 1;
+        return Refusal::SHAPE;
     }
     let bits = style as u32;
     let refused = Style { bits }.is_refused();
     if refused {
-        return 2;
+        return Refusal::STYLE;
     }
     let n = count as usize;
     if wrong_list(role, bands, n, planes, state) {
-        return 3;
+        return Refusal::LIST;
     }
     if too_deep(bands, n, planes) {
-        return 4;
+        return Refusal::PLANES;
     }
     0
 }

@@ -10,6 +10,7 @@ ghost use Rattle.t800.specs.WriteHeader.{segmentTooLong, fieldTooWide};
 ghost use Rattle.tcd_layout.specs.Geometry.{SidesUpTo64, AllUpTo64};
 ghost use Rattle.t2_widths.specs.Widths.{PassesLeft, wideFrom, segmentsRefusal};
 use t800::Band;
+use t800::Refusal;
 
 // ---- all blocks' segments (8)
 
@@ -151,10 +152,10 @@ pub fn segments_refusal(
         return 0;
     }
     if segment_too_long(counts, lengths, marks) {
-        return 8;
+        return Refusal::LENGTH;
     }
     if field_too_wide(state, bands, n, counts, lengths, marks) {
-        return 9;
+        return Refusal::WIDTH;
     }
     0
 }

@@ -3,6 +3,7 @@ ghost use mathlib.Core.Path.{_≡_};
 ghost use Rattle.t800.specs.Packet.{write};
 ghost use Rattle.t800.specs.WriteHeader.{contribution};
 use t800::Markers;
+use t800::Refusal;
 use t800::WriteAnswer;
 
 pub fn write(
@@ -30,7 +31,7 @@ pub fn write(
     }
     if body.len() as u64 != t2_narrow::total(lengths) {
         return WriteAnswer {
-            refusal: 10,
+            refusal: Refusal::BODY,
             bytes: 0,
         };
     }
@@ -40,7 +41,7 @@ pub fn write(
         lists::wipe(scratch);
         lists::wipe_bytes(output);
         return WriteAnswer {
-            refusal: 11,
+            refusal: Refusal::SPACE,
             bytes: 0,
         };
     }

@@ -1,22 +1,21 @@
 -- `t2_block_widths::any_field_too_wide` meets its contract.
-use Prim.Native.Nat.{_-_, _≤_, ℕ}
+use Prim.Native.Nat.{ℕ, _-_}
 use borrow.Author.Tests.{lt-ltb, le-ltb}
 use lib.Dec.{ltb}
-use lib.ListN.{length, drop}
-use mathlib.Core.List.{List}
-use mathlib.Core.Path.{_≡_, _∙_, ap, refl, sym}
+use lib.ListN.{length}
+use mathlib.Core.Bool.{Bool}
+use mathlib.Core.Path.{_∙_, ap, refl, sym}
 use native.Mathlib.Omega.{arith}
-use Rattle.t800.specs.Base.{any}
-use Rattle.t800.specs.Segments.{Segment, segmentsOf, width}
-use Rattle.tcd_shape.proofs.Laws.AnyOf.{any-here, any-later}
-use Rattle.t2_segments.specs.Segments.{anyTooWide}
-use Rattle.t2_segments.proofs.Laws.Segments.{next-segment, no-segment-left}
+use Rattle.t800.specs.Segments.{Segment, width}
+use Rattle.t2_block_widths.proofs.Laws.{NoneBefore, Turn, turn, none-left}
 use Rattle.t2_block_widths.proofs.any_field_too_wide.Statement.{statement}
 use Rattle.t2_block_widths.proofs.any_field_too_wide.Tie as tie
 
+abbrev tooWide : ℕ → Segment → Bool
+tooWide length-bits s = ltb 32 (width length-bits (s .passes))
+
 abbrev Inv-loop : tie.InvT-loop
-Inv-loop lengths marks length-bits at₀ at = (at ≤ length lengths)
-    × (anyTooWide length-bits (segmentsOf (drop at lengths) (drop at marks)) ≡ anyTooWide length-bits (segmentsOf lengths marks))
+Inv-loop lengths marks length-bits at₀ at = NoneBefore (tooWide length-bits) lengths marks at
 
 abbrev μ-loop : tie.MeasureT-loop
 μ-loop lengths marks length-bits at₀ at = length lengths - at
@@ -24,57 +23,32 @@ abbrev μ-loop : tie.MeasureT-loop
 loop-holds : tie.Need-loop-holds Inv-loop μ-loop
 loop-holds c = (omega arith, refl)
 
+at-segment : (c : tie.After-segment-at Inv-loop μ-loop)
+    → let s = c .before .before .before .before .before in
+    Turn (tooWide (s .args .length-bits)) (s .args .lengths .now) (s .args .marks .now)
+    (c .before .before .loop .at) (c .segment-at .result .passes) (c .segment-at .result .bytes)
+at-segment c = turn (tooWide _) _ _ _ _ _ (omega arith) (omega arith) (c .before .before .loop .inv) (c .segment-at .ensures)
+
 returns : tie.Need-returns Inv-loop μ-loop
 returns c =
-    let s = c .before .before .before .before .before .before .before in
-    let l = c .before .before .before .before .loop in
-    let n = next-segment (s .args .lengths .now) (s .args .marks .now) (l .at) _ _ (omega arith) (omega arith)
-    (c .before .before .segment-at .ensures) in
-    sym (any-here (λ (z : Segment). ltb 32 (width (s .args .length-bits) (z .passes))) _ _ _ (n .is)
-    (ap (λ (k : ℕ). ltb 32 k) (sym (c .before .field-width .ensures)) ∙ lt-ltb _ _ (c .if1 .taken))) ∙ l .inv .1
+    at-segment (c .before .before) .met (ap (λ (k : ℕ). ltb 32 k) (sym (c .before .field-width .ensures)) ∙ lt-ltb _ _ (c .if1 .taken))
 
 cast-at : tie.Need-cast-at Inv-loop μ-loop
-cast-at c =
-    let s = c .before .before .before .before .before .before .before .before in
-    let l = c .before .before .before .before .before .loop in
-    let n = next-segment (s .args .lengths .now) (s .args .marks .now) (l .at) _ _ (omega arith) (omega arith)
-    (c .before .before .before .segment-at .ensures) in
-    omega (arith, n .enough)
+cast-at c = omega (arith, at-segment (c .before .before .before) .enough)
 
 add-at : tie.Need-add-at Inv-loop μ-loop
-add-at c =
-    let s = c .before .before .before .before .before .before .before .before in
-    let l = c .before .before .before .before .before .loop in
-    let n = next-segment (s .args .lengths .now) (s .args .marks .now) (l .at) _ _ (omega arith) (omega arith)
-    (c .before .before .before .segment-at .ensures) in
-    omega (arith, n .enough)
+add-at c = omega (arith, at-segment (c .before .before .before) .enough)
 
 loop-less : tie.Need-loop-less Inv-loop μ-loop
-loop-less c =
-    let s = c .before .before .before .before .before .before .before .before in
-    let l = c .before .before .before .before .before .loop in
-    let n = next-segment (s .args .lengths .now) (s .args .marks .now) (l .at) _ _ (omega arith) (omega arith)
-    (c .before .before .before .segment-at .ensures) in
-    omega (arith, n .enough, n .some)
+loop-less c = let t = at-segment (c .before .before .before) in omega (arith, t .enough, t .some)
 
 loop-again : tie.Need-loop-again Inv-loop μ-loop
 loop-again c =
-    let s = c .before .before .before .before .before .before .before .before in
-    let l = c .before .before .before .before .before .loop in
-    let n = next-segment (s .args .lengths .now) (s .args .marks .now) (l .at) _ _ (omega arith) (omega arith)
-    (c .before .before .before .segment-at .ensures) in (
-      n .enough,
-      sym (any-later (λ (z : Segment). ltb 32 (width (s .args .length-bits) (z .passes))) _ _ _ (n .is)
-          (ap (λ (k : ℕ). ltb 32 k) (sym (c .before .before .field-width .ensures)) ∙ le-ltb _ _ (c .before .if1 .left))) ∙ l .inv .1,
-    )
+    at-segment (c .before .before .before) .not-met
+    (ap (λ (k : ℕ). ltb 32 k) (sym (c .before .before .field-width .ensures)) ∙ le-ltb _ _ (c .before .if1 .left))
 
 returns-2 : tie.Need-returns-2 Inv-loop μ-loop
-unfolding any
-returns-2 c =
-    let s = c .before .before .before .before in
-    let l = c .before .loop in
-    sym (ap (λ (z : List Segment). anyTooWide (s .args .length-bits) z)
-    (no-segment-left (s .args .lengths .now) (s .args .marks .now) (l .at) (omega arith))) ∙ l .inv .1
+returns-2 c = none-left (tooWide _) _ _ _ (omega arith) (c .before .loop .inv)
 
 pub any-field-too-wide-spec : {M : Type 1} → statement M
 any-field-too-wide-spec =

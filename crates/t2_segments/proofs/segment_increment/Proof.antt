@@ -6,7 +6,7 @@ use mathlib.Core.Path.{_≡_}
 use native.Mathlib.Omega.{arith}
 use Rattle.t800.specs.Segments.{segmentsOf, increment}
 use Rattle.t2_segments.specs.Segments.{anyTooLong}
-use Rattle.t2_segments.proofs.Laws.Segments.{next-segment, no-segment-left, increment-turn, first-not-long}
+use Rattle.t2_segments.proofs.Laws.Segments.{Next, next-segment, no-segment-left, increment-turn, first-not-long}
 use Rattle.t2_segments.proofs.segment_increment.Statement.{statement}
 use Rattle.t2_segments.proofs.segment_increment.Tie as tie
 
@@ -21,45 +21,29 @@ abbrev μ-loop : tie.MeasureT-loop
 loop-holds : tie.Need-loop-holds Inv-loop μ-loop
 loop-holds c = let s = c .before .before in (omega arith, omega arith, s .pre .1)
 
+next : (c : tie.After-segment-at Inv-loop μ-loop)
+    → let s = c .before .before .before .before .before in
+    Next (s .args .lengths .now) (s .args .marks .now)
+    (c .before .before .loop .at) (c .segment-at .result .passes) (c .segment-at .result .bytes)
+next c = next-segment _ _ _ _ _ (omega arith) (omega arith) (c .segment-at .ensures)
+
 cast-bytes : tie.Need-cast-bytes Inv-loop μ-loop
-cast-bytes c =
-    let s = c .before .before .before .before .before .before in
-    let l = c .before .before .before .loop in
-    let n = next-segment (s .args .lengths .now) (s .args .marks .now) (l .at) _ _ (omega arith) (omega arith)
-    (c .before .segment-at .ensures) in
-    let k = first-not-long _ _ _ (n .is) (l .inv .2) in
-    omega (arith, k .0)
+cast-bytes c = omega (arith, first-not-long _ _ _ (next (c .before) .is) (c .before .before .before .loop .inv .2) .0)
 
 cast-at : tie.Need-cast-at Inv-loop μ-loop
-cast-at c =
-    let s = c .before .before .before .before .before .before .before .before .before in
-    let l = c .before .before .before .before .before .before .loop in
-    let n = next-segment (s .args .lengths .now) (s .args .marks .now) (l .at) _ _ (omega arith) (omega arith)
-    (c .before .before .before .before .segment-at .ensures) in
-    omega (arith, n .enough)
+cast-at c = omega (arith, next (c .before .before .before .before) .enough)
 
 add-at : tie.Need-add-at Inv-loop μ-loop
-add-at c =
-    let s = c .before .before .before .before .before .before .before .before .before in
-    let l = c .before .before .before .before .before .before .loop in
-    let n = next-segment (s .args .lengths .now) (s .args .marks .now) (l .at) _ _ (omega arith) (omega arith)
-    (c .before .before .before .before .segment-at .ensures) in
-    omega (arith, n .enough)
+add-at c = omega (arith, next (c .before .before .before .before) .enough)
 
 loop-less : tie.Need-loop-less Inv-loop μ-loop
-loop-less c =
-    let s = c .before .before .before .before .before .before .before .before .before in
-    let l = c .before .before .before .before .before .before .loop in
-    let n = next-segment (s .args .lengths .now) (s .args .marks .now) (l .at) _ _ (omega arith) (omega arith)
-    (c .before .before .before .before .segment-at .ensures) in
-    omega (arith, n .enough, n .some)
+loop-less c = let n = next (c .before .before .before .before) in omega (arith, n .enough, n .some)
 
 loop-again : tie.Need-loop-again Inv-loop μ-loop
 loop-again c =
     let s = c .before .before .before .before .before .before .before .before .before in
     let l = c .before .before .before .before .before .before .loop in
-    let n = next-segment (s .args .lengths .now) (s .args .marks .now) (l .at) _ _ (omega arith) (omega arith)
-    (c .before .before .before .before .segment-at .ensures) in (
+    let n = next (c .before .before .before .before) in (
       n .enough,
       omega (
         arith,

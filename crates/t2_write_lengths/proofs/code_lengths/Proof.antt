@@ -11,7 +11,7 @@ use Rattle.t800.specs.Segments.{Segment, segmentsOf, lengthFields}
 use Rattle.bio_bytes.specs.Writing.{Output, output, putBits, FreeBitsClear}
 use Rattle.bio_write.proofs.Laws.FreeBits.{putBits-clear}
 use Rattle.t2_segments.specs.Segments.{anyTooLong, anyTooWide, segment}
-use Rattle.t2_segments.proofs.Laws.Segments.{next-segment, no-segment-left, first-not-long, first-not-wide}
+use Rattle.t2_segments.proofs.Laws.Segments.{Next, next-segment, no-segment-left, first-not-long, first-not-wide}
 use Rattle.t2_write_lengths.proofs.Laws.Fields.{fields-turn}
 use Rattle.t2_write_lengths.proofs.code_lengths.Statement.{statement}
 use Rattle.t2_write_lengths.proofs.code_lengths.Tie as tie
@@ -38,48 +38,39 @@ segment-at-requires c κs =
     let s = c .before .before .before .before .before in
     ((sym (s .pre .1 .marked), omega (arith, s .pre .1 .few)), l .inv .2)
 
+next : (c : tie.After-segment-at Inv-loop μ-loop)
+    → let s = c .before .before .before .before .before .before in
+    Next (s .args .lengths .now) (s .args .marks .now)
+    (c .before .before .loop .i) (c .segment-at .result .passes) (c .segment-at .result .bytes)
+next c =
+    let s = c .before .before .before .before .before .before in
+    next-segment _ _ _ _ _ (sym (s .pre .1 .marked)) (omega arith) (c .segment-at .ensures)
+
 cast-bytes : tie.Need-cast-bytes Inv-loop μ-loop
-cast-bytes c =
-    let l = c .before .before .before .loop in
-    let s = c .before .before .before .before .before .before .before in
-    let n = next-segment (s .args .lengths .now) (s .args .marks .now) (l .i) _ _ (sym (s .pre .1 .marked)) (omega arith)
-    (c .before .segment-at .ensures) in
-    omega (arith, first-not-long _ _ _ (n .is) (l .inv .3) .0)
+cast-bytes c = omega (arith, first-not-long _ _ _ (next (c .before) .is) (c .before .before .before .loop .inv .3) .0)
 
 field-width-requires : tie.Need-field-width-requires Inv-loop μ-loop
 field-width-requires c κs = omega (arith, c .before .before .before .before .before .before .before .fits .lenbits)
 
+narrow : (c : tie.After-field-width Inv-loop μ-loop) → c .field-width .result ≤ 32
+narrow c =
+    let l = c .before .before .before .before .loop in
+    let s = c .before .before .before .before .before .before .before .before in
+    omega (arith, c .field-width .ensures, first-not-wide (s .args .lenbits) _ _ _ (next (c .before .before) .is) (l .inv .4) .0)
+
 cast-opj-bio-write : tie.Need-cast-opj-bio-write Inv-loop μ-loop
-cast-opj-bio-write c =
-    let l = c .before .before .before .before .before .loop in
-    let s = c .before .before .before .before .before .before .before .before .before in
-    let n = next-segment (s .args .lengths .now) (s .args .marks .now) (l .i) _ _ (sym (s .pre .1 .marked)) (omega arith)
-    (c .before .before .before .segment-at .ensures) in
-    omega (arith, c .before .field-width .ensures, first-not-wide (s .args .lenbits) _ _ _ (n .is) (l .inv .4) .0)
+cast-opj-bio-write c = omega (arith, narrow (c .before))
 
 opj-bio-write-requires : tie.Need-opj-bio-write-requires Inv-loop μ-loop
-opj-bio-write-requires c κs =
-    let l = c .before .before .before .before .before .loop in
-    let s = c .before .before .before .before .before .before .before .before .before in
-    let n = next-segment (s .args .lengths .now) (s .args .marks .now) (l .i) _ _ (sym (s .pre .1 .marked)) (omega arith)
-    (c .before .before .before .segment-at .ensures) in
-    (l .inv .0, omega (arith, c .before .field-width .ensures, first-not-wide (s .args .lenbits) _ _ _ (n .is) (l .inv .4) .0))
+opj-bio-write-requires c κs = (c .before .before .before .before .before .loop .inv .0, narrow (c .before))
 
 add-i : tie.Need-add-i Inv-loop μ-loop
 add-i c =
-    let l = c .before .before .before .before .before .before .before .before .before .loop in
     let s = c .before .before .before .before .before .before .before .before .before .before .before .before .before in
-    let n = next-segment (s .args .lengths .now) (s .args .marks .now) (l .i) _ _ (sym (s .pre .1 .marked)) (omega arith)
-    (c .before .before .before .before .before .before .before .segment-at .ensures) in
-    omega (arith, n .enough, s .pre .1 .few)
+    omega (arith, next (c .before .before .before .before .before .before .before) .enough, s .pre .1 .few)
 
 loop-less : tie.Need-loop-less Inv-loop μ-loop
-loop-less c =
-    let l = c .before .before .before .before .before .before .before .before .before .loop in
-    let s = c .before .before .before .before .before .before .before .before .before .before .before .before .before in
-    let n = next-segment (s .args .lengths .now) (s .args .marks .now) (l .i) _ _ (sym (s .pre .1 .marked)) (omega arith)
-    (c .before .before .before .before .before .before .before .segment-at .ensures) in
-    omega (arith, n .some)
+loop-less c = omega (arith, next (c .before .before .before .before .before .before .before) .some)
 
 loop-again : tie.Need-loop-again Inv-loop μ-loop
 loop-again c =
@@ -88,8 +79,7 @@ loop-again c =
     let o = output (l .out) (l .bio) in
     let r = c .before .before .before .opj-bio-write in
     let g = c .before .before .before .before .before .before .before .segment-at .result in
-    let n = next-segment (s .args .lengths .now) (s .args .marks .now) (l .i) _ _ (sym (s .pre .1 .marked)) (omega arith)
-    (c .before .before .before .before .before .before .before .segment-at .ensures) in (
+    let n = next (c .before .before .before .before .before .before .before) in (
       subst FreeBitsClear (sym (ap (λ (x : Output). x .bio) (r .ensures))) (putBits-clear o _ (l .inv .0)),
       r .kept .0 ∙ l .inv .1,
       n .enough,
