@@ -68,13 +68,13 @@ pub fn to_fill(a: ReadAnswer, room: usize) -> usize
     if a.refusal == 0 {
         return a.segments as usize;
     }
-    if a.refusal == 9 {
+    if a.refusal == Refusal::WIDTH {
         return room;
     }
-    if a.refusal == 12 {
+    if a.refusal == Refusal::HEADER_END {
         return room;
     }
-    if a.refusal == 13 {
+    if a.refusal == Refusal::RECORDS {
         return room;
     }
     0
