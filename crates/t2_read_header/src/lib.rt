@@ -13,8 +13,8 @@ use t800::Refusal;
 ghost use Rattle.t800.specs.Reports.{reportWidth};
 
 // Of the state in `words`, after the first bit. Where the header is refused, the contract gives the number and that the place of the bits
-// is in reach of the input, and leaves open what the three lists hold, how many records there are and where in reach that place is: a refused
-// header carries its number alone (P5 of docs/DECISIONS.md), and the call wipes the lists (SCOPE S5).
+// is in reach of the input, and leaves open what the three lists hold, how many records there are and where in reach that place is: a
+// refused header carries its number alone (P5 of docs/DECISIONS.md), and the call wipes the lists (SCOPE S5).
 pub fn opj_t2_read_packet_header(
     words: &mut [u32],
     reports: &mut [u32],

@@ -30,9 +30,9 @@ stateChecks role state scratchLength =
 -- ---- measuring
 
 -- pass counts not as many as the blocks, pass lengths or marks not as many as the counts add up to
-unfoldable pub wrongLists : Contribution → (blocks : ℕ) → Bool
-wrongLists p blocks =
-    not (eqb (length (p .counts)) blocks)
+unfoldable pub wrongLists : Contribution → (numBlocks : ℕ) → Bool
+wrongLists p numBlocks =
+    not (eqb (length (p .counts)) numBlocks)
     || not (eqb (length (p .lengths)) (sum (p .counts)))
     || not (eqb (length (p .marks)) (sum (p .counts)))
 
@@ -177,7 +177,8 @@ readPresent state m src records sop r =
     let eph = readEph m src at in
     let after = set (r .words) 3 (layer state + 1) in
     record {
-      answer = record { refusal = 0; present = 1; taken = at + eph .skip; segments = length (r .records); sop = sop .mark; eph = eph .mark };
+      answer = record
+          { refusal = 0; present = 1; taken = at + eph .skip; segments = length (r .records); sop = sop .mark; eph = eph .mark };
       state = after;
       scratch = after;
       reports = reportWords (r .reports);

@@ -1,5 +1,5 @@
--- The statement of demand 3 (SCOPE S15), over whole lists of calls of any interface that meets the definitions. Premises, for accepted packets
--- and their reads: the termination rule, records enough, and every other list of the length that is asked.
+-- The statement of demand 3 (SCOPE S15), over whole lists of calls of any interface that meets the definitions. Premises, for accepted
+-- packets and their reads: the termination rule, records enough, and every other list of the length that is asked.
 use mathlib.Core.Path.{_≡_}
 use Prim.Native.Nat.{ℕ, _-_, _*_, _≤_, _<_}
 use mathlib.Core.Bool.{Bool, true, cond, _&&_}

@@ -38,7 +38,8 @@ same-start role n g h style planes lent e p q =
     let why = firstOf
     (check shapeRefusal (badShape n bs || short)
     ∷ check styleRefusal (badStyle style)
-    ∷ check listRefusal (not (eqb (length lent) (stateLength bs)) || not (eqb (length planes) (cond (eqb role writer) (length (blocks bs)) 0)))
+    ∷ check listRefusal
+    (not (eqb (length lent) (stateLength bs)) || not (eqb (length planes) (cond (eqb role writer) (length (blocks bs)) 0)))
     ∷ check planesRefusal (bandTooDeep bs || blockTooDeep (blocks bs) planes)
     ∷ []) in
     record { answer = why; state = cond (eqb why 0) (setZeroPlanes (blocks bs) planes (freshState role style bs)) lent } in
@@ -200,9 +201,12 @@ module _ (I : Interface) where
         let c : StartCall = I .starts reader .args r in
         let lent : List ℕ = I .starts reader .found r in
         let k = start-by reader r er in
-        let A = start-accepted reader (c .count) (c .bands) (c .style) (c .planes) lent (sym (ap (λ (z : StartResult). z .answer) k) ∙ er) in
+        let A = start-accepted reader (c .count) (c .bands) (c .style) (c .planes) lent
+        (sym (ap (λ (z : StartResult). z .answer) k) ∙ er) in
         let B = start-accepted writer n given style (I .starts writer .args w .planes) (I .starts writer .found w) writer-accepts in
-        k ∙ ap (λ (z : List ℕ). start reader (c .count) (c .bands) (c .style) z lent) (reader-without-planes (c .planes) _ (A .planes-length))
+        k
+        ∙ ap (λ (z : List ℕ). start reader (c .count) (c .bands) (c .style) z lent)
+        (reader-without-planes (c .planes) _ (A .planes-length))
         ∙ (λ i. start reader (counts i) (c .bands) (styles i) [] lent)
         ∙ same-start reader n (c .bands) given style [] lent (ap (λ (z : ℕ). take z (c .bands)) (sym counts) ∙ bands)
         (subst (λ (z : ℕ). z ≤ length (c .bands)) counts (A .enough)) (B .enough)
