@@ -3,7 +3,6 @@ ghost use mathlib.Core.Path.{_≡_};
 ghost use Rattle.t800.specs.State.{writer, reader};
 ghost use Rattle.t800.specs.WriteHeader.{contribution};
 ghost use Rattle.t800.specs.Exports.{stateLengthOf, startCall, measureCall, writeCall, wordsOf, readCall, describeCall};
-use t800::Markers;
 use t800::Segment;
 
 // ---- starts
@@ -28,11 +27,7 @@ pub extern "C" fn tonkelvi_start_writer(
     ensures { λ r. ⌜ record { answer = r; state = now (state .exit) }
         ≡ startCall writer count (now (bands .entry)) style (now (planes .entry)) (now (state .entry)) ⌝ }
 {
-    if bands.len() != 9 {
-        return 3;
-    }
-    let given = tonkelvi_parts::bands_in(bands);
-    t2::start_writer(count, given, style, planes, state)
+    tonkelvi_starts::start_writer(count, bands, style, planes, state)
 }
 
 // Gives 0 or a refusal; the planes are to be an empty list.
@@ -47,11 +42,7 @@ pub extern "C" fn tonkelvi_start_reader(
     ensures { λ r. ⌜ record { answer = r; state = now (state .exit) }
         ≡ startCall reader count (now (bands .entry)) style (now (planes .entry)) (now (state .entry)) ⌝ }
 {
-    if bands.len() != 9 {
-        return 3;
-    }
-    let given = tonkelvi_parts::bands_in(bands);
-    t2::start_reader(count, given, style, planes, state)
+    tonkelvi_starts::start_reader(count, bands, style, planes, state)
 }
 
 // ---- packets
@@ -73,12 +64,7 @@ pub extern "C" fn tonkelvi_measure(
         (contribution (now (counts .entry)) (now (lengths .entry)) (now (marks .entry))) (record { sop = sop; eph = eph })
         (now (answer .entry)) ⌝ }
 {
-    if answer.len() != 2 {
-        return 3;
-    }
-    let r = t2::measure(state, scratch, counts, lengths, marks, Markers { sop, eph });
-    tonkelvi_parts::put_two(answer, r.header, r.body);
-    r.refusal
+    tonkelvi_packets::measure(state, scratch, counts, lengths, marks, sop, eph, answer)
 }
 
 // Answers the packet's bytes.
@@ -108,22 +94,19 @@ pub extern "C" fn tonkelvi_write(
         (contribution (now (counts .entry)) (now (lengths .entry)) (now (marks .entry))) (now (body .entry))
         (record { sop = sop; eph = eph }) number (now (output .entry)) (now (answer .entry)) ⌝ }
 {
-    if answer.len() != 1 {
-        return 3;
-    }
-    let r = t2::write(
+    tonkelvi_packets::write(
         state,
         scratch,
         counts,
         lengths,
         marks,
         body,
-        Markers { sop, eph },
+        sop,
+        eph,
         number,
         output,
-    );
-    tonkelvi_parts::put_one(answer, r.bytes);
-    r.refusal
+        answer,
+    )
 }
 
 // Answers present, bytes taken, segments, SOP mark, EPH mark.

@@ -1,4 +1,4 @@
--- Bands from nine words, the lent list of answer words, and the calls with lists of the right length or another.
+-- Bands from nine words, the lent list of answer words, and what a state is.
 use Prim.Native.Nat.{ℕ, _+_, _*_, _<_, _≤_}
 use native.Mathlib.Omega.{arith}
 use mathlib.Core.Bool.{Bool, true, false, _||_}
@@ -8,16 +8,9 @@ use mathlib.Core.List.{List, [], _∷_}
 use lib.ListN.{length, length-set, getD, set, take}
 use borrow.Author.Tests.{eq-eqb, ne-eqb}
 use Rattle.t800.specs.declared.Band.{Band}
-use Rattle.t800.specs.declared.Markers.{Markers}
-use Rattle.t800.specs.declared.MeasureAnswer.{MeasureAnswer}
-use Rattle.t800.specs.declared.WriteAnswer.{WriteAnswer}
 use Rattle.t800.specs.State.{writer, reader, bandCount, role, layer, bands, blocks, stateLength}
 use Rattle.t800.specs.Ranges.{badShape, validState}
-use Rattle.t800.specs.Start.{StartResult, start}
-use Rattle.t800.specs.WriteHeader.{Contribution}
-use Rattle.t800.specs.Packet.{measure, write}
-use Rattle.t800.specs.Exports.{bandIn, bandsIn, stateLengthOf, startCall, measureExit, measureCall, writeExit, writeCall}
-use Rattle.t800.specs.Exports.{anyState, describeCall}
+use Rattle.t800.specs.Exports.{bandIn, bandsIn, stateLengthOf, anyState, describeCall}
 use Rattle.tcd_layout.specs.Geometry.{AllUpTo64}
 use Rattle.tcd_state.proofs.Laws.ValidStates.{valid-state, long-enough}
 
@@ -105,39 +98,3 @@ module _ (ws : List ℕ) where
           ≡ r ∷ y ∷ k ∷ [] → record { refusal = 0; answer = l } ≡ describeCall ws answer
       unfolding describeCall
       described l r y k e er ey ek g = rw (eq-eqb (length answer) 3 three, e, g, er, ey, ek)
-
--- ---- the calls
-
-module _ (r n : ℕ) (bands : List ℕ) (style : ℕ) (planes lent : List ℕ) where
-  pub start-unlisted : length bands ≢ 9 → record { answer = 3; state = lent } ≡ startCall r n bands style planes lent
-  unfolding startCall
-  start-unlisted h = rw (ne-eqb (length bands) 9 h)
-
-  pub start-listed : (x : StartResult) (bs : List Band) → length bands ≡ 9 → x ≡ start r n bs style planes lent → bs ≡ bandsIn bands → x
-      ≡ startCall r n bands style planes lent
-  unfolding startCall
-  start-listed x bs h e f = rw (eq-eqb (length bands) 9 h) (e ∙ ap (λ (ds : List Band). start r n ds style planes lent) f)
-
-module _ (ws scratch : List ℕ) (p : Contribution) (m : Markers) (answer : List ℕ) where
-  pub measure-unlisted : length answer ≢ 2 → record { refusal = 3; scratch = scratch; answer = answer } ≡ measureCall ws scratch p m answer
-  unfolding measureCall
-  measure-unlisted h = rw (ne-eqb (length answer) 2 h)
-
-  pub measure-listed : (r : MeasureAnswer) (s l : List ℕ) → length answer ≡ 2 → record { answer = r; scratch = s }
-      ≡ measure ws scratch p m → l ≡ r .header ∷ r .body ∷ []
-      → record { refusal = r .refusal; scratch = s; answer = l } ≡ measureCall ws scratch p m answer
-  unfolding measureCall
-  measure-listed r s l h e g = rw (eq-eqb (length answer) 2 h, g) (ap measureExit e)
-
-module _ (ws scratch : List ℕ) (p : Contribution) (body : List ℕ) (m : Markers) (number : ℕ) (output answer : List ℕ) where
-  pub write-unlisted : length answer ≢ 1 → record { refusal = 3; state = ws; scratch = scratch; output = output; answer = answer }
-      ≡ writeCall ws scratch p body m number output answer
-  unfolding writeCall
-  write-unlisted h = rw (ne-eqb (length answer) 1 h)
-
-  pub write-listed : (r : WriteAnswer) (vs s o l : List ℕ) → length answer ≡ 1
-      → record { answer = r; state = vs; scratch = s; output = o } ≡ write ws scratch p body m number output → l ≡ r .bytes ∷ []
-      → record { refusal = r .refusal; state = vs; scratch = s; output = o; answer = l }
-      ≡ writeCall ws scratch p body m number output answer
-  unfolding writeCall
-  write-listed r vs s o l h e g = rw (eq-eqb (length answer) 1 h, g) (ap writeExit e)

@@ -201,6 +201,7 @@ impl Pair {
         let with_crate =
             (number == 0 || number == 11) && crate_writes(&before, layer, body, markers, packet, (number, state, &buffers.1), &text);
         self.count(Call::Write, number, with_crate);
+        self.left(number, state, &text);
         let bytes = if number == 0 { buffers.2[0] as usize } else { 0 };
         buffers.1.truncate(bytes);
         (number, buffers.1)
@@ -252,7 +253,15 @@ impl Pair {
         let told = (number, &state[..], &buffers.1[..], lent.as_flattened(), &buffers.3[..]);
         let with_crate = matches!(number, 0 | 9 | 12) && crate_reads(&before, src, markers, told, &text);
         self.count(Call::Read, number, with_crate);
+        self.left(number, state, &text);
         (number, buffers.3)
+    }
+
+    /// The state that an accepted call leaves is in range.
+    fn left(&mut self, number: u32, state: &[u32], text: &dyn Fn() -> String) {
+        if number == 0 {
+            same("numbers of the state left", &self.describe(state, 3).0, &0, text);
+        }
     }
 
     /// What a state is, with an answer of so many words.

@@ -43,6 +43,16 @@ fn states() {
     trial(&[0, 5, 6, 8, 9, 10, 11, 12, 13], |t| t.states(200_000));
 }
 
+/// A state told in range, out of range, and with an answer of another length.
+#[test]
+fn states_described() {
+    let mut trials = Trials::new(2);
+    trials.states(20_000);
+    for number in [0, 3, 5] {
+        assert!(trials.pair.counts.by_number[Call::Describe as usize][number] > 0, "no call gave {number}");
+    }
+}
+
 #[test]
 fn lists() {
     trial(&[0, 3, 5, 7, 10, 11, 13], |t| t.lists(100_000));

@@ -1,9 +1,9 @@
--- `tonkelvi::tonkelvi_write` meets its contract.
+-- `tonkelvi_packets::write` meets its contract.
 use borrow.Author.Needs.{needs}
 use Rattle.t800.specs.WriteHeader.{contribution}
-use Rattle.tonkelvi_parts.proofs.Laws.{write-unlisted, write-listed}
-use Rattle.tonkelvi.proofs.tonkelvi_write.Statement.{statement}
-use Rattle.tonkelvi.proofs.tonkelvi_write.Tie as tie
+use Rattle.tonkelvi_packets.proofs.Laws.{write-unlisted, write-listed}
+use Rattle.tonkelvi_packets.proofs.write.Statement.{statement}
+use Rattle.tonkelvi_packets.proofs.write.Tie as tie
 
 returns : tie.Need-returns
 returns c =
@@ -24,8 +24,8 @@ returns-2 c =
     (f .result) _ _ _ _ (c .before .before .before .before .before .before .before .before .before .before .before .before .before
     .before .if1 .left) (f .ensures) (c .before .before .put-one .ensures)
 
-pub tonkelvi-write-spec : {M : Type 1} → statement M
-tonkelvi-write-spec =
+pub write-spec : {M : Type 1} → statement M
+write-spec =
     tie.close
     (tie.spec
     returns

@@ -1,9 +1,9 @@
--- `tonkelvi::tonkelvi_measure` meets its contract.
+-- `tonkelvi_packets::measure` meets its contract.
 use borrow.Author.Needs.{needs}
 use Rattle.t800.specs.WriteHeader.{contribution}
-use Rattle.tonkelvi_parts.proofs.Laws.{measure-unlisted, measure-listed}
-use Rattle.tonkelvi.proofs.tonkelvi_measure.Statement.{statement}
-use Rattle.tonkelvi.proofs.tonkelvi_measure.Tie as tie
+use Rattle.tonkelvi_packets.proofs.Laws.{measure-unlisted, measure-listed}
+use Rattle.tonkelvi_packets.proofs.measure.Statement.{statement}
+use Rattle.tonkelvi_packets.proofs.measure.Tie as tie
 
 returns : tie.Need-returns
 returns c =
@@ -21,7 +21,7 @@ returns-2 c =
     (f .result) _ _ (c .before .before .before .before .before .before .before .before .if1 .left) (f .ensures)
     (c .before .before .put-two .ensures)
 
-pub tonkelvi-measure-spec : {M : Type 1} → statement M
-tonkelvi-measure-spec =
+pub measure-spec : {M : Type 1} → statement M
+measure-spec =
     tie.close
     (tie.spec returns (λ c κs. search needs) (λ c κs. search needs) (λ c. search needs) (λ c. search needs) returns-2)
