@@ -705,6 +705,11 @@ slip-rows =
     (loads-writer (words 1 0 0 (node 0 0 1) (node 999 998 0) (block 0 0 0 0)) ∷ puts 23 (1 ∷ []) (5 ∷ []) (0 ∷ []) (0x8a ∷ [])
     ∷ holds-writer (words 1 0 1 (node 0 0 1) (node 999 999 0) (block 1 3 0 0))
     ∷ [])
+    -- setting a leaf ends at the first value that isn't above: a leaf of value 0 leaves the root's 999, and at layer 0 that is one 0
+    ∷ precinct 2 0 (5 ∷ 5 ∷ [])
+    (loads-writer (1 ∷ 1 ∷ 0 ∷ 0 ∷ 2 ∷ 1 ∷ 5 ∷ copies 6 0 ++ node 0 0 0 ++ node 999 0 0 ++ node 999 0 0 ++ copies 9 0 ++ copies 8 0)
+    ∷ puts 39 (1 ∷ 0 ∷ []) (5 ∷ []) (0 ∷ []) (0xb2 ∷ 0x80 ∷ [])
+    ∷ [])
     -- a precinct without blocks
     ∷ record {
       given = band 0 0 5 ∷ [];

@@ -33,56 +33,36 @@ use Rattle.t800_laws.proofs.Laws.WordCounts.{blocksCoded, header-coded,
 
 -- ---- what a call that gives no 5 says of its state
 
--- the two tests of a state in range that the laws below need: its length, and its words from the thirteenth on
-module _ (r : ℕ) (ws : List ℕ) (n : ℕ) (h : validState r ws n ≡ true) where
-  first-tests : Bool
-  first-tests =
-      eqb (role ws) r
-      && not (badShape (bandCount ws) (bands ws))
-      && not (badStyle (style ws))
-      && leb (layer ws) notYetIncluded
-      && not (bandTooDeep (bands ws))
-      && unusedBandsZero ws
+-- a state in range: its next layer, its length, that of the scratch, and the words of its bands
+record InRange (ws : List ℕ) (n : ℕ) : Type 0 where
+  up-to-last : layer ws ≤ notYetIncluded
+  long : length ws ≡ stateLength (bands ws)
+  scratch-as-long : n ≡ length ws
+  bands-in : bandsInRange ws 13 (bands ws) ≡ true
 
-  valid-length : length ws ≡ stateLength (bands ws)
-  unfolding validState first-tests
-  valid-length =
-      let g : Bool = eqb (length ws) (stateLength (bands ws)) in
-      eqb-true (length ws) (stateLength (bands ws))
-      (and-right first-tests g
-      (and-left (first-tests && g) (eqb n (length ws))
-      (and-left (first-tests && g && eqb n (length ws)) (bandsInRange ws 13 (bands ws)) h)))
+tested : (r : ℕ) (ws : List ℕ) (n : ℕ) → validState r ws n ≡ true → InRange ws n
+unfolding validState
+tested r ws n h =
+    let a : Bool = eqb (role ws) r && not (badShape (bandCount ws) (bands ws)) && not (badStyle (style ws)) in
+    let b : Bool = leb (layer ws) notYetIncluded in
+    let c : Bool = not (bandTooDeep (bands ws)) in
+    let d : Bool = unusedBandsZero ws in
+    let e : Bool = eqb (length ws) (stateLength (bands ws)) in
+    let f : Bool = eqb n (length ws) in
+    let g : Bool = bandsInRange ws 13 (bands ws) in
+    let h₁ = and-left (a && b && c && d && e && f) g h in
+    let h₂ = and-left (a && b && c && d && e) f h₁ in
+    let h₃ = and-left (a && b && c) d (and-left (a && b && c && d) e h₂) in
+    record {
+      up-to-last = leb-true (layer ws) notYetIncluded (and-right a b (and-left (a && b) c h₃));
+      long = eqb-true (length ws) (stateLength (bands ws)) (and-right (a && b && c && d) e h₂);
+      scratch-as-long = eqb-true n (length ws) (and-right (a && b && c && d && e) f h₁);
+      bands-in = and-right (a && b && c && d && e && f) g h;
+    }
 
-  valid-scratch : n ≡ length ws
-  unfolding validState first-tests
-  valid-scratch =
-      let g : Bool = first-tests && eqb (length ws) (stateLength (bands ws)) in
-      eqb-true n (length ws)
-      (and-right g (eqb n (length ws)) (and-left (g && eqb n (length ws)) (bandsInRange ws 13 (bands ws)) h))
-
-  valid-bands : bandsInRange ws 13 (bands ws) ≡ true
-  unfolding validState first-tests
-  valid-bands =
-      and-right (first-tests && eqb (length ws) (stateLength (bands ws)) && eqb n (length ws)) (bandsInRange ws 13 (bands ws)) h
-
-  valid-layer : leb (layer ws) notYetIncluded ≡ true
-  unfolding validState
-  valid-layer =
-      let a : Bool = eqb (role ws) r && not (badShape (bandCount ws) (bands ws)) && not (badStyle (style ws)) in
-      let d : Bool = leb (layer ws) notYetIncluded in
-      let e : Bool = not (bandTooDeep (bands ws)) in
-      let f : Bool = unusedBandsZero ws in
-      let g : Bool = eqb (length ws) (stateLength (bands ws)) in
-      let k : Bool = eqb n (length ws) in
-      and-right a d
-      (and-left (a && d) e
-      (and-left (a && d && e) f
-      (and-left (a && d && e && f) g (and-left (a && d && e && f && g) k
-      (and-left (a && d && e && f && g && k) (bandsInRange ws 13 (bands ws)) h)))))
-
-  has-first-words : 13 ≤ length ws
-  unfolding stateLength
-  has-first-words = rw valid-length (end-after 13 (bands ws))
+has-first-words : (ws : List ℕ) (n : ℕ) → InRange ws n → 13 ≤ length ws
+unfolding stateLength
+has-first-words ws n h = rw (h .long) (end-after 13 (bands ws))
 
 -- a read whose state gives neither 5 nor 6
 read-in-range : (ws scratch reports : List ℕ) → readRefusal ws scratch reports ≡ 0
@@ -166,8 +146,9 @@ module _ (ws : List ℕ) (v : ℕ) (long : 13 ≤ length ws) (more : layer ws �
   unfolding validState
   stays-in-range r n h l =
       let same = same-bands ws moved (λ j g ne. other-words j ne) in
-      let bs = bands-stay 13 (bands ws) (omega arith) (valid-bands r ws n h) ∙ sym (valid-bands r ws n h) in
-      let ls = le-leb v notYetIncluded l ∙ sym (valid-layer r ws n h) in
+      let t = tested r ws n h in
+      let bs = bands-stay 13 (bands ws) (omega arith) (t .bands-in) ∙ sym (t .bands-in) in
+      let ls = le-leb v notYetIncluded l ∙ sym (le-leb (layer ws) notYetIncluded (t .up-to-last)) in
       rw (
         same .0,
         same .1,
@@ -198,7 +179,7 @@ module _ (ws scratch : List ℕ) (p : Contribution) (body : List ℕ) (m : Marke
       let why : ℕ = writeRefusal ws scratch p body m number output in
       let P : WriteResult → Type 0 = λ o. o .answer .refusal ≡ 0 → layer (o .state) ≡ layer ws + 1 in
       either-by P (eqb why 0) _ _
-      (λ t e. let long = has-first-words writer ws (length scratch) (writing-in-range (eqb-true why 0 t)) in
+      (λ t e. let long = has-first-words ws (length scratch) (tested writer ws (length scratch) (writing-in-range (eqb-true why 0 t))) in
       getD-set-same (blocksCoded p ws) 3 (layer ws + 1) 0 (omega (arith, header-coded p ws)))
       (λ f. either P (eqb why 11) _ _ (λ e. absurd (eqb-false why 0 f e)) (λ e. absurd (eqb-false why 0 f e)))
 
@@ -257,7 +238,7 @@ module _ (ws scratch : List ℕ) (m : Markers) (src reports records : List ℕ) 
       let P : ReadResult → Type 0 = λ o. o .answer .refusal ≡ 0 → layer (o .state) ≡ layer ws + 1 in
       let start : ℕ = readSop m src .skip in
       either-by P (not (eqb why 0)) _ _ (λ t e. absurd (not-given t e))
-      (λ f. let long = has-first-words reader ws (length scratch) (in-range-first f .0) in
+      (λ f. let long = has-first-words ws (length scratch) (tested reader ws (length scratch) (in-range-first f .0)) in
       either P (eqb (firstBit start) 0) _ _ (λ e. getD-set-same ws 3 (layer ws + 1) 0 (omega arith))
       (either-by P (eqb (header start .refusal) 0) _ _
       (λ t e. getD-set-same (header start .words) 3 (layer ws + 1) 0
@@ -271,15 +252,15 @@ module _ (ws scratch : List ℕ) (m : Markers) (src reports records : List ℕ) 
       let start : ℕ = readSop m src .skip in
       either-by P (not (eqb why 0)) _ _ (λ t e z. absurd (not-given t e))
       (λ f. let v = in-range-first f in
-      let long = has-first-words reader ws (length scratch) (v .0) in
-      let most = leb-true (layer ws) notYetIncluded (valid-layer reader ws (length scratch) (v .0)) in
-      let up : layer ws + 1 ≤ notYetIncluded = omega (arith, v .1, most) in
+      let t = tested reader ws (length scratch) (v .0) in
+      let long = has-first-words ws (length scratch) t in
+      let up : layer ws + 1 ≤ notYetIncluded = omega (arith, v .1, t .up-to-last) in
       either P (eqb (firstBit start) 0) _ _
       (λ e z. record {
         next-layer = layer-moved ws (layer ws + 1) long (omega arith);
         other-words-stay = other-words ws (layer ws + 1) long (omega arith);
         length-stays = length-set ws 3 (layer ws + 1);
-        in-range = rw (length-set ws 3 (layer ws + 1), sym (valid-scratch reader ws (length scratch) (v .0)))
+        in-range = rw (length-set ws 3 (layer ws + 1), sym (t .scratch-as-long))
             (stays-in-range ws (layer ws + 1) long (omega arith) reader (length scratch) (v .0) up);
         scratch-is-state = refl;
         reports-zero = refl;
