@@ -32,6 +32,6 @@ if [ $# = 0 ]; then
     opj_compress -i "$folder/frame.pgm" -o "$folder/lossy.j2k" -q 30,45 -I -p CPRL -b 32,32 > /dev/null
     set -- "$folder"
 fi
-need cargo cargo --version
+need_cargo
 (cd "$root/rust" && cargo build --offline --quiet --release -p tonkelvi-cli) >&2
 exec "$root/rust/target/release/tonkelvi" sheet "$@"

@@ -13,3 +13,17 @@ need() {
         { $sudo apt-get update -q > /dev/null && $sudo apt-get install -y -q "$package" > /dev/null; } || return
     "$@" > /dev/null 2>&1
 }
+
+# cargo 1.80 or newer, and its rustfmt; Debian 12 has them as cargo-web and rustfmt-web.
+need_cargo() {
+    need cargo is_new cargo 1.80 || need cargo-web is_new cargo 1.80
+}
+
+need_rustfmt() {
+    need rustfmt is_new rustfmt 1.7 || need rustfmt-web is_new rustfmt 1.7
+}
+
+# is_new COMMAND VERSION: whether the second word of COMMAND --version is VERSION or later.
+is_new() {
+    version=$("$1" --version | cut -d ' ' -f 2) && [ "$(printf '%s\n' "$2" "$version" | sort -V | head -n 1)" = "$2" ]
+}

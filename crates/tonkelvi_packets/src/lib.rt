@@ -3,6 +3,7 @@ ghost use mathlib.Core.Path.{_≡_};
 ghost use Rattle.t800.specs.WriteHeader.{contribution};
 ghost use Rattle.t800.specs.Exports.{measureCall, writeCall};
 use t800::Markers;
+use t800::Refusal;
 
 // Answers header and body bytes.
 pub fn measure(
@@ -21,7 +22,7 @@ pub fn measure(
         (now (answer .entry)) ⌝ }
 {
     if answer.len() != 2 {
-        return 3;
+        return Refusal::LIST;
     }
     let r = t2_measure::measure(state, scratch, counts, lengths, marks, Markers { sop, eph });
     tonkelvi_parts::put_two(answer, r.header, r.body);
@@ -55,7 +56,7 @@ pub fn write(
         (record { sop = sop; eph = eph }) number (now (output .entry)) (now (answer .entry)) ⌝ }
 {
     if answer.len() != 1 {
-        return 3;
+        return Refusal::LIST;
     }
     let r = t2_write::write(
         state,

@@ -7,6 +7,7 @@ ghost use lib.ListN.{length};
 ghost use Rattle.t800.specs.State.{bands, blocks};
 ghost use Rattle.t800.specs.Exports.{bandIn, bandsIn, stateLengthOf, anyState, describeCall};
 use t800::Band;
+use t800::Refusal;
 
 // ---- bands
 
@@ -109,11 +110,11 @@ pub fn describe(state: &[u32], answer: &mut [u64]) -> u32
     ensures { λ r. ⌜ record { refusal = r; answer = now (answer .exit) } ≡ describeCall (now (state .entry)) (now (answer .entry)) ⌝ }
 {
     if answer.len() != 3 {
-        return 3;
+        return Refusal::LIST;
     }
     if !any_state(state) {
         put_three(answer, 0, 0, 0);
-        return 5;
+        return Refusal::STATE;
     }
     let role = tcd_first_words::word(state, 0) as u64;
     let layer = tcd_first_words::word(state, 3) as u64;

@@ -4,6 +4,7 @@ ghost use Rattle.t800.specs.Packet.{readResult};
 ghost use Rattle.tonkelvi_read_parts.specs.Numbers.{numbersCall};
 use t800::Markers;
 use t800::ReadAnswer;
+use t800::Refusal;
 
 // The work list must have four words for each record that there is room for.
 pub fn read_words(
@@ -27,7 +28,7 @@ pub fn read_words(
 {
     if answer.len() != 5 {
         return ReadAnswer {
-            refusal: 3,
+            refusal: Refusal::LIST,
             present: 0,
             taken: 0,
             segments: 0,

@@ -242,7 +242,11 @@ module _ (ws scratch : List ℕ) (m : Markers) (src reports records : List ℕ) 
       either P (eqb (firstBit start) 0) _ _ (λ e. getD-set-same ws 3 (layer ws + 1) 0 (omega arith))
       (either-by P (eqb (header start .refusal) 0) _ _
       (λ t e. getD-set-same (header start .words) 3 (layer ws + 1) 0
-      (omega (arith, header-read src (length records / recordWidth) ws (getBit src (bioAt start) .bio) (eqb-true (header start .refusal) 0 t))))
+      (omega (
+        arith,
+        header-read src (length records / recordWidth) ws (getBit src (bioAt start) .bio)
+            (eqb-true (header start .refusal) 0 t),
+      )))
       (λ n e. absurd (eqb-false (header start .refusal) 0 n e))))
 
   pub absent-read : result .answer .refusal ≡ 0 → result .answer .present ≡ 0 → LeftByAbsent ws reports records result

@@ -13,7 +13,8 @@ returns-2 : tie.Need-returns-2
 returns-2 c =
     let a = c .before .before .before .before .before .before .before .before .before .args in
     out-of-range (a .state .now) (a .answer .now) (c .before .before .before .before .before .before .if1 .left) _
-    (sym (c .before .before .before .before .before .any-state .ensures) ∙ not-true _ (c .before .before .before .before .if2 .taken)) (c .before .before .put-three .ensures)
+    (sym (c .before .before .before .before .before .any-state .ensures) ∙ not-true _ (c .before .before .before .before .if2 .taken))
+    (c .before .before .put-three .ensures)
 
 num-blocks-requires : tie.Need-num-blocks-requires
 num-blocks-requires c κs = sym (c .before .before .before .any-state .ensures) ∙ not-false _ (c .before .before .if2 .left)
@@ -21,8 +22,11 @@ num-blocks-requires c κs = sym (c .before .before .before .any-state .ensures) 
 returns-3 : tie.Need-returns-3
 returns-3 c =
     let a = c .before .before .before .before .before .before .before .before .before .before .before .before .args in
-    described (a .state .now) (a .answer .now) (c .before .before .before .before .before .before .before .before .before .if1 .left) _ _ _ _
-    (sym (c .before .before .before .before .before .before .before .before .any-state .ensures) ∙ not-false _ (c .before .before .before .before .before .before .before .if2 .left)) (c .before .before .before .before .before .before .word .ensures) (c .before .before .before .before .before .word2 .ensures)
+    described (a .state .now) (a .answer .now)
+    (c .before .before .before .before .before .before .before .before .before .if1 .left) _ _ _ _
+    (sym (c .before .before .before .before .before .before .before .before .any-state .ensures) ∙ not-false _
+    (c .before .before .before .before .before .before .before .if2 .left))
+    (c .before .before .before .before .before .before .word .ensures) (c .before .before .before .before .before .word2 .ensures)
     (c .before .before .before .before .num-blocks .ensures) (c .before .before .put-three2 .ensures)
 
 pub describe-spec : {M : Type 1} → statement M

@@ -17,14 +17,16 @@ returns-2 c =
 
 state-length-requires : tie.Need-state-length-requires
 state-length-requires c κs =
-    let h = shape-not-refused (c .before .before .before .before .before .args .count) (c .before .before .bands-in .result) (sym (c .before .bad-shape .ensures) ∙ c .if2 .left) in
+    let h = shape-not-refused (c .before .before .before .before .before .args .count) (c .before .before .bands-in .result)
+    (sym (c .before .bad-shape .ensures) ∙ c .if2 .left) in
     (h .1, h .2)
 
 returns-3 : tie.Need-returns-3
 returns-3 c =
     let s = c .before .before .before .before .before .before .args in
     c .state-length .ensures
-    ∙ length-given (s .count) (s .bands .now) (c .before .before .before .before .if1 .left) _ (c .before .before .before .bands-in .ensures)
+    ∙ length-given (s .count) (s .bands .now) (c .before .before .before .before .if1 .left) _
+    (c .before .before .before .bands-in .ensures)
     (sym (c .before .before .bad-shape .ensures) ∙ c .before .if2 .left)
 
 pub state-length-of-spec : {M : Type 1} → statement M
