@@ -1,0 +1,44 @@
+#!/bin/sh
+# What must be believed, with its lines counted: the rows of the table in docs/PROOFS.md. With --check: whether that paper has these rows.
+set -eu
+cd "$(dirname "$0")/.."
+
+row() {
+    what=$1
+    where=$2
+    shift 2
+    echo "| $what | $where | $(cat "$@" | wc -l | tr -d ' ') |"
+}
+
+rows() {
+    specs=crates/t800/specs
+    row "the definitions" "t800/specs/, but for those below" \
+        $specs/Base.antt $specs/Refusals.antt $specs/Bits.antt $specs/TagTree.antt $specs/PassCount.antt $specs/Segments.antt \
+        $specs/State.antt $specs/Ranges.antt $specs/Start.antt $specs/Reports.antt $specs/WriteHeader.antt $specs/ReadHeader.antt \
+        $specs/MarkerSegments.antt $specs/Packet.antt $specs/Book.antt
+    row "what the exported calls add to them" "t800/specs/Exports.antt" $specs/Exports.antt
+    row "the structs and names that definitions and code share" "t800/src/lib.rt" crates/t800/src/lib.rt
+    row "the contracts of the calls" "src/lib.rt of t2_start, t2_measure, t2_write, t2_read_packet and tonkelvi; their code is proved" \
+        crates/t2_start/src/lib.rt crates/t2_measure/src/lib.rt crates/t2_write/src/lib.rt crates/t2_read_packet/src/lib.rt \
+        crates/tonkelvi/src/lib.rt
+    row "the statements of demands 1 and 3" "t800/specs/Interface.antt, Numbers.antt, RoundTrip.antt" \
+        $specs/Interface.antt $specs/Numbers.antt $specs/RoundTrip.antt
+    row "what the calls and the exported calls are as interfaces" "theorems/specs/; the record \`exports\` at the end of theorems/proofs/Exports.antt puts it together" \
+        crates/theorems/specs/Calls.antt crates/theorems/specs/Exports.antt
+    row "one layer" "t2_layer/specs/" crates/t2_layer/specs/Layer.antt
+    row "the declarations for C and Rust" "include/tonkelvi.h, rust/tonkelvi/src/words.rs; the tests call through both" \
+        include/tonkelvi.h rust/tonkelvi/src/words.rs
+}
+
+if [ "${1:-}" != --check ]; then
+    rows
+    exit
+fi
+rows | while IFS= read -r line; do
+    grep -qxF -- "$line" docs/PROOFS.md || { echo "docs/PROOFS.md lacks this row of tools/believed.sh: $line" >&2; exit 1; }
+done
+# Each module of the definitions is in one of the rows.
+for file in crates/t800/specs/*.antt crates/theorems/specs/*.antt crates/t2_layer/specs/*.antt; do
+    name=$(basename "$file")
+    [ "$name" = Lib.antt ] || grep -q "/$name" tools/believed.sh || { echo "$file is in no row of tools/believed.sh" >&2; exit 1; }
+done
