@@ -6,7 +6,7 @@ use mathlib.Core.List.{List, [], _∷_, _++_}
 use lib.ListN.{length, drop, replicate}
 use lib.Dec.{ltb}
 
--- a list of 32-bit words, of bytes, of bits
+-- a list of words, of bytes, of bits; a word has 32 bits, and 64 in an answer
 abbrev pub Words : Type 0
 Words = List ℕ
 

@@ -10,6 +10,7 @@ use Rattle.t800.specs.declared.Band.{Band}
 use Rattle.t800.specs.declared.Markers.{Markers}
 use Rattle.t800.specs.declared.ReadAnswer.{ReadAnswer}
 use Rattle.t800.specs.declared.Segment.{Segment}
+use Rattle.t800.specs.Base.{Words, Bytes}
 use Rattle.t800.specs.Refusals.{check, firstOf, listRefusal, stateRefusal}
 use Rattle.t800.specs.State.{writer, reader, role, layer, bands, blocks, stateLength}
 use Rattle.t800.specs.Ranges.{badShape, validState}
@@ -21,19 +22,19 @@ use Rattle.t800.specs.Packet.{stateChecks, MeasureResult, measure, Write
 -- ---- starts
 
 -- band i: across, down, planes
-unfoldable pub bandIn : (words : List ℕ) (i : ℕ) → Band
+unfoldable pub bandIn : (words : Words) (i : ℕ) → Band
 bandIn words i = record { across = getD words (3 * i) 0; down = getD words (3 * i + 1) 0; planes = getD words (3 * i + 2) 0 }
 
-abbrev pub bandsIn : (words : List ℕ) → List Band
+abbrev pub bandsIn : (words : Words) → List Band
 bandsIn words = bandIn words 0 ∷ bandIn words 1 ∷ bandIn words 2 ∷ []
 
 -- the length that a start asks of its state; 0 where it gives 1, or 3 for `bands`
-unfoldable pub stateLengthOf : (count : ℕ) (bands : List ℕ) → ℕ
+unfoldable pub stateLengthOf : (count : ℕ) (bands : Words) → ℕ
 stateLengthOf count bands =
     let used = take count (bandsIn bands) in
     cond (eqb (length bands) 9) (cond (badShape count used) 0 (stateLength used)) 0
 
-unfoldable pub startCall : (role : ℕ) (count : ℕ) (bands : List ℕ) (style : ℕ) (planes : List ℕ) (state : List ℕ) → StartResult
+unfoldable pub startCall : (role : ℕ) (count : ℕ) (bands : Words) (style : ℕ) (planes state : Words) → StartResult
 startCall role count bands style planes state =
     cond (eqb (length bands) 9) (start role count (bandsIn bands) style planes state) (record { answer = listRefusal; state = state })
 
@@ -42,13 +43,13 @@ startCall role count bands style planes state =
 -- The number that a call gives, and what its lists hold at exit: here and below.
 pub record MeasureExit : Type 0 where
   pub refusal : ℕ
-  pub scratch : List ℕ
-  pub answer : List ℕ
+  pub scratch : Words
+  pub answer : Words
 
 abbrev pub measureExit : (result : MeasureResult) → MeasureExit
 measureExit r = record { refusal = r .answer .refusal; scratch = r .scratch; answer = r .answer .header ∷ r .answer .body ∷ [] }
 
-unfoldable pub measureCall : (state : List ℕ) (scratch : List ℕ) (brought : Contribution) (markers : Markers) (answer : List ℕ)
+unfoldable pub measureCall : (state scratch : Words) (brought : Contribution) (markers : Markers) (answer : Words)
     → MeasureExit
 measureCall state scratch brought markers answer =
     cond (eqb (length answer) 2) (measureExit (measure state scratch brought markers))
@@ -58,10 +59,10 @@ measureCall state scratch brought markers answer =
 
 pub record WriteExit : Type 0 where
   pub refusal : ℕ
-  pub state : List ℕ
-  pub scratch : List ℕ
-  pub output : List ℕ
-  pub answer : List ℕ
+  pub state : Words
+  pub scratch : Words
+  pub output : Bytes
+  pub answer : Words
 
 abbrev pub writeExit : (result : WriteResult) → WriteExit
 writeExit r = record {
@@ -72,8 +73,8 @@ writeExit r = record {
   answer = r .answer .bytes ∷ [];
 }
 
-unfoldable pub writeCall : (state : List ℕ) (scratch : List ℕ) (brought : Contribution) (body : List ℕ) (markers : Markers)
-    (number : ℕ) (output : List ℕ) (answer : List ℕ) → WriteExit
+unfoldable pub writeCall : (state scratch : Words) (brought : Contribution) (body : Bytes) (markers : Markers)
+    (number : ℕ) (output : Bytes) (answer : Words) → WriteExit
 writeCall state scratch brought body markers number output answer =
     cond (eqb (length answer) 1) (writeExit (write state scratch brought body markers number output))
     (record { refusal = listRefusal; state = state; scratch = scratch; output = output; answer = answer })
@@ -81,24 +82,24 @@ writeCall state scratch brought body markers number output answer =
 -- ---- reading
 
 -- the words of the structs, in the order of `recordWords`; they determine the structs
-unfoldable pub wordsOf : (records : List Segment) → List ℕ
+unfoldable pub wordsOf : (records : List Segment) → Words
 wordsOf [] = []
 wordsOf (s ∷ ss) = s .block ∷ s .opens ∷ s .passes ∷ s .bytes ∷ wordsOf ss
 
 -- `records`: the structs' words
 pub record ReadExit : Type 0 where
   pub refusal : ℕ
-  pub state : List ℕ
-  pub scratch : List ℕ
-  pub reports : List ℕ
-  pub work : List ℕ
-  pub records : List ℕ
-  pub answer : List ℕ
+  pub state : Words
+  pub scratch : Words
+  pub reports : Words
+  pub work : Words
+  pub records : Words
+  pub answer : Words
 
-abbrev pub readWords : (answer : ReadAnswer) → List ℕ
+abbrev pub readWords : (answer : ReadAnswer) → Words
 readWords a = a .present ∷ a .taken ∷ a .segments ∷ a .sop ∷ a .eph ∷ []
 
-abbrev pub readExit : (result : ReadResult) (work : List ℕ) → ReadExit
+abbrev pub readExit : (result : ReadResult) (work : Words) → ReadExit
 readExit r work = record {
   refusal = r .answer .refusal;
   state = r .state;
@@ -110,12 +111,12 @@ readExit r work = record {
 }
 
 -- 3 for a work list that is not four words a struct, where neither 5 nor 6 comes before it
-unfoldable pub workRefusal : (state : List ℕ) (scratch : List ℕ) → ℕ
+unfoldable pub workRefusal : (state scratch : Words) → ℕ
 workRefusal state scratch = firstOf (stateChecks reader state (length scratch) ++ check listRefusal true ∷ [])
 
 -- Packet's `read` of the structs' words. The work list holds what the same read leaves in it.
-unfoldable pub readCall : (state : List ℕ) (scratch : List ℕ) (markers : Markers) (input : List ℕ) (reports : List ℕ) (work : List ℕ)
-    (records : List Segment) (answer : List ℕ) → ReadExit
+unfoldable pub readCall : (state scratch : Words) (markers : Markers) (input : Bytes) (reports work : Words)
+    (records : List Segment) (answer : Words) → ReadExit
 readCall state scratch markers input reports work records answer =
     let words = wordsOf records in
     let done = readExit (read state scratch markers input reports words) (read state scratch markers input reports work .records) in
@@ -135,14 +136,14 @@ readCall state scratch markers input reports work records answer =
 
 pub record DescribeExit : Type 0 where
   pub refusal : ℕ
-  pub answer : List ℕ
+  pub answer : Words
 
 -- a writer's or a reader's, in the ranges of refusal 5
-unfoldable pub anyState : (state : List ℕ) → Bool
+unfoldable pub anyState : (state : Words) → Bool
 anyState state = validState writer state (length state) || validState reader state (length state)
 
 -- role, next layer, number of blocks
-unfoldable pub describeCall : (state : List ℕ) (answer : List ℕ) → DescribeExit
+unfoldable pub describeCall : (state : Words) (answer : Words) → DescribeExit
 describeCall state answer =
     let told : DescribeExit = record { refusal = 0; answer = role state ∷ layer state ∷ length (blocks (bands state)) ∷ [] } in
     let outOfRange : DescribeExit = record { refusal = stateRefusal; answer = 0 ∷ 0 ∷ 0 ∷ [] } in
