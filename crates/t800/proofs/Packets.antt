@@ -366,30 +366,34 @@ two-used role = bare role 2 63 998 (64 ∷ 0 ∷ 998 ∷ 0 ∷ 64 ∷ 998 ∷ co
 abbrev three-used : ℕ → List ℕ
 three-used role = bare role 3 63 998 largest
 
--- states of three bands at layer 1, whose nodes are n and whose blocks are k: two blocks in a row in the first, second or third band, one
--- in those before it and none in those after it
-abbrev two-in-first : ℕ → List ℕ → List ℕ → List ℕ
-two-in-first role n k = role ∷ 3 ∷ 0 ∷ 1 ∷ 2 ∷ 1 ∷ 5 ∷ copies 6 0 ++ n ++ n ++ n ++ n ++ n ++ n ++ k ++ k
+-- three bands at layer 1, of which one has two blocks in a row and the others none; its nodes are n and its blocks k
+abbrev two-in : ℕ → List ℕ → List ℕ → List ℕ → List ℕ
+two-in role bands n k = role ∷ 3 ∷ 0 ∷ 1 ∷ bands ++ n ++ n ++ n ++ n ++ n ++ n ++ k ++ k
 
-abbrev two-in-second : ℕ → List ℕ → List ℕ → List ℕ
-two-in-second role n k =
-    role ∷ 3 ∷ 0 ∷ 1 ∷ 1 ∷ 1 ∷ 5 ∷ 2 ∷ 1 ∷ 5 ∷ copies 3 0 ++ n ++ n ++ k ++ n ++ n ++ n ++ n ++ n ++ n ++ k ++ k
+abbrev first-band : List ℕ
+first-band = 2 ∷ 1 ∷ 5 ∷ copies 6 0
 
-abbrev two-in-third : ℕ → List ℕ → List ℕ → List ℕ
-two-in-third role n k =
-    role ∷ 3 ∷ 0 ∷ 1 ∷ 1 ∷ 1 ∷ 5 ∷ 1 ∷ 1 ∷ 5 ∷ 2 ∷ 1 ∷ 5 ∷ n ++ n ++ k ++ n ++ n ++ k ++ n ++ n ++ n ++ n ++ n ++ n ++ k ++ k
+abbrev second-band : List ℕ
+second-band = copies 3 0 ++ 2 ∷ 1 ∷ 5 ∷ copies 3 0
 
--- v in place of the words that stand at these places of that band, each state alone; its words begin at 13, 23 or 33
+abbrev third-band : List ℕ
+third-band = copies 6 0 ++ 2 ∷ 1 ∷ 5 ∷ []
+
+-- v in place of the words at these places of that band, whose words begin at 13; one state for each place and each band
 abbrev in-each-band : ℕ → List ℕ → List ℕ → ℕ → List ℕ → List Step
 in-each-band role n k v places =
-    steps-of (looks role 2) (spoilt (two-in-first role n k) v 13 places)
-    ++ steps-of (looks role 3) (spoilt (two-in-second role n k) v 23 places)
-    ++ steps-of (looks role 4) (spoilt (two-in-third role n k) v 33 places)
+    steps-of (looks role 2) (spoilt (two-in role first-band n k) v 13 places)
+    ++ steps-of (looks role 2) (spoilt (two-in role second-band n k) v 13 places)
+    ++ steps-of (looks role 2) (spoilt (two-in role third-band n k) v 13 places)
 
 -- those states as they are
 abbrev each-accepted : ℕ → List ℕ → List ℕ → List Step
-each-accepted role n k = accepts role 2 (two-in-first role n k) ++ accepts role 3 (two-in-second role n k) ++ accepts role 4
-    (two-in-third role n k)
+each-accepted role n k =
+    steps-of (accepts role 2) (two-in role first-band n k ∷ two-in role second-band n k ∷ two-in role third-band n k ∷ [])
+
+-- three bands of one block, whose words begin at 13, 23 and 33
+abbrev one-in-each : ℕ → List ℕ → List ℕ → List ℕ
+one-in-each role n k = role ∷ 3 ∷ 0 ∷ 1 ∷ 1 ∷ 1 ∷ 5 ∷ 1 ∷ 1 ∷ 5 ∷ 1 ∷ 1 ∷ 5 ∷ n ++ n ++ k ++ n ++ n ++ k ++ n ++ n ++ k
 
 -- the largest words of a node, and of a block with passes, by limit and passes of its segment
 abbrev full-node : List ℕ
@@ -416,22 +420,29 @@ first-words-out role =
     -- lengths: none, first words cut short, a word too few, a word too many
     ++ [] ∷ (role ∷ 1 ∷ []) ∷ bare role 1 0 0 (copies 8 0) ∷ bare role 1 0 0 (copies 10 0) ∷ [])
 
--- value, low and known of first and last node of both trees
+-- of both trees the value of the first node, and value, low and known of the last
 abbrev nodes-out : ℕ → List Step
 nodes-out role =
-    in-each-band role full-node (block 0 0 0 0) 1000 (0 ∷ 6 ∷ 9 ∷ 15 ∷ 1 ∷ 7 ∷ 10 ∷ 16 ∷ [])
-    ++ in-each-band role full-node (block 0 0 0 0) 2 (2 ∷ 8 ∷ 11 ∷ 17 ∷ [])
+    in-each-band role full-node (block 0 0 0 0) 1000 (0 ∷ 9 ∷ 6 ∷ 7 ∷ 15 ∷ 16 ∷ [])
+    ++ in-each-band role full-node (block 0 0 0 0) 2 (8 ∷ 17 ∷ [])
 
--- Of first and last block: length bits, limit or passes of a segment though it has no passes; and of blocks that do, with limit and passes
--- of a segment as the role asks, more than 164 passes, and length bits 0, 2 and 33.
+-- Of a block without passes length bits, limit and passes of a segment. Of blocks with passes, whose segment is as the role asks, more
+-- than 164 passes and 33 length bits in the first and in the last; 0 and 2 length bits.
 abbrev blocks-out : ℕ → ℕ → List Step
 blocks-out role limit =
-    in-each-band role full-node (block 0 0 0 0) 3 (19 ∷ 23 ∷ [])
-    ++ in-each-band role full-node (block 0 0 0 0) 109 (20 ∷ 24 ∷ []) ++ in-each-band role full-node (block 0 0 0 0) 1 (21 ∷ 25 ∷ [])
+    in-each-band role full-node (block 0 0 0 0) 3 (23 ∷ [])
+    ++ in-each-band role full-node (block 0 0 0 0) 109 (24 ∷ []) ++ in-each-band role full-node (block 0 0 0 0) 1 (25 ∷ [])
     ++ in-each-band role full-node (full-block limit limit) 165 (18 ∷ 22 ∷ [])
-    ++ in-each-band role full-node (full-block limit limit) 0 (19 ∷ 23 ∷ [])
-    ++ in-each-band role full-node (full-block limit limit) 2 (19 ∷ 23 ∷ [])
     ++ in-each-band role full-node (full-block limit limit) 33 (19 ∷ 23 ∷ [])
+    ++ in-each-band role full-node (full-block limit limit) 0 (23 ∷ [])
+    ++ in-each-band role full-node (full-block limit limit) 2 (23 ∷ [])
+
+-- in bands one after another: a node of each tree, a block
+abbrev places-out : ℕ → ℕ → List Step
+places-out role limit =
+    steps-of (looks role 3)
+    (spoilt (one-in-each role full-node (full-block limit limit)) 1000 0 (13 ∷ 16 ∷ 23 ∷ 26 ∷ 33 ∷ 36 ∷ [])
+    ++ spoilt (one-in-each role full-node (full-block limit limit)) 165 0 (19 ∷ 29 ∷ 39 ∷ []))
 
 pub range-rows : List Row
 range-rows =
@@ -441,13 +452,15 @@ range-rows =
     ∷ one (nodes-out 1)
     ∷ one (blocks-out 2 109)
     ∷ one (blocks-out 1 0)
+    ∷ one (places-out 2 109)
+    ∷ one (places-out 1 0)
     -- limit and passes of the segment of a block with passes: no limit, a wrong limit, no passes, too many; in a writer, any
     ∷ one
-    (in-each-band 2 full-node (full-block 109 109) 0 (20 ∷ 24 ∷ 21 ∷ 25 ∷ [])
-    ++ in-each-band 2 full-node (full-block 109 1) 10 (20 ∷ 24 ∷ [])
-    ++ in-each-band 2 full-node (full-block 109 109) 110 (21 ∷ 25 ∷ [])
-    ++ in-each-band 1 full-node (full-block 0 0) 109 (20 ∷ 24 ∷ [])
-    ++ in-each-band 1 full-node (full-block 0 0) 1 (21 ∷ 25 ∷ []))
+    (in-each-band 2 full-node (full-block 109 109) 0 (24 ∷ 25 ∷ [])
+    ++ in-each-band 2 full-node (full-block 109 1) 10 (24 ∷ [])
+    ++ in-each-band 2 full-node (full-block 109 109) 110 (25 ∷ [])
+    ++ in-each-band 1 full-node (full-block 0 0) 109 (24 ∷ [])
+    ++ in-each-band 1 full-node (full-block 0 0) 1 (25 ∷ []))
     -- one block: limits that a style doesn't give; passes at layer 0; a word too few, a word too many, another geometry
     ∷ one
     (steps-of (looks 2 1)
@@ -469,6 +482,7 @@ range-rows =
     (steps-of (accepts 2 0) (bare 2 1 0 0 (copies 9 0) ∷ one-used 2 ∷ two-used 2 ∷ three-used 2 ∷ [])
     ++ each-accepted 2 full-node (block 0 0 0 0) ++ each-accepted 2 full-node (full-block 109 109) ++ each-accepted 2 full-node
     (full-block 109 1)
+    ++ accepts 2 3 (one-in-each 2 full-node (full-block 109 109))
     ++ steps-of (accepts 2 1)
     (words 2 63 998 (node 999 999 1) (node 999 999 1) (block 0 0 0 0)
     ∷ words 2 0 2 (node 0 1 1) (node 0 1 1) (block 328 3 109 1)
@@ -481,6 +495,7 @@ range-rows =
     ∷ one
     (steps-of (accepts 1 0) (bare 1 1 0 0 (copies 9 0) ∷ one-used 1 ∷ two-used 1 ∷ three-used 1 ∷ [])
     ++ each-accepted 1 full-node (block 0 0 0 0) ++ each-accepted 1 full-node (full-block 0 0)
+    ++ accepts 1 3 (one-in-each 1 full-node (full-block 0 0))
     ++ steps-of (accepts 1 1)
     (words 1 63 998 (node 999 999 1) (node 999 999 1) (block 0 0 0 0)
     ∷ words 1 0 2 (node 0 1 1) (node 0 1 1) (block 328 3 0 0)
@@ -688,11 +703,6 @@ slip-rows =
           (1 ∷ 1 ∷ 1 ∷ 5 ∷ 3 ∷ 1 ∷ 1 ∷ 1 ∷ 4 ∷ 1 ∷ 1 ∷ 8 ∷ [])
           ∷ [];
     }
-    -- 999 zero planes: from low 997 on two bits 0 and no 1
-    ∷ one
-    (loads-reader (words 2 0 0 (node 0 0 0) (node 999 997 0) (block 0 0 0 0))
-    ∷ get 23 1 (0x85 ∷ []) (told 1 1 1) (1 ∷ 999 ∷ (2 ^ 32 + 5 - 999) ∷ 1 ∷ []) (0 ∷ 1 ∷ 1 ∷ 5 ∷ [])
-    ∷ [])
     -- zero planes read with one threshold for all, or with the root's value: of a root whose value isn't known, or is 3 and not yet read,
     -- over a leaf whose value is 0, one bit is read and not four or three
     ∷ precinct 2 0 (5 ∷ 5 ∷ [])

@@ -1,2 +1,3 @@
 pub mod WordCounts
 pub mod StateAfter
+pub mod ManyZeroPlanes
