@@ -256,6 +256,9 @@ write-rows =
     ∷ writing 39 0 (2 ∷ 1 ∷ []) (1 ∷ 1 ∷ (2 ^ 31 - 1) ∷ []) (0 ∷ 0 ∷ 0 ∷ []) 0 9 []
     -- the segments of two blocks are two: 2^30 bytes each aren't 8
     ∷ writing 39 0 (1 ∷ 1 ∷ []) (2 ^ 30 ∷ 2 ^ 30 ∷ []) (0 ∷ 0 ∷ []) 0 10 []
+    -- 2^30 bytes in each of two passes of the second block are, by its own marks
+    ∷ writing 39 0 (1 ∷ 2 ∷ []) (1 ∷ 2 ^ 30 ∷ 2 ^ 30 ∷ []) (1 ∷ 0 ∷ 0 ∷ []) 0 8 []
+    ∷ writing 39 0 (1 ∷ 2 ∷ []) (1 ∷ 2 ^ 30 ∷ 2 ^ 30 ∷ []) (0 ∷ 1 ∷ 0 ∷ []) 0 10 []
     -- 9 by the increment: 31 bits for the first segment, and two more for the four passes of the second
     ∷ writing 39 0 (0 ∷ 5 ∷ []) ((2 ^ 31 - 1) ∷ copies 4 0) (1 ∷ copies 4 0) 0 9 []
     ∷ writing 39 0 (0 ∷ 4 ∷ []) ((2 ^ 31 - 1) ∷ copies 3 0) (1 ∷ copies 3 0) 0 10 []
