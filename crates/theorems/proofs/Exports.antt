@@ -15,7 +15,7 @@ use Rattle.t800.specs.Interface.{startOf, startUntouched, measureOf, measureUnt
 use Rattle.t800.specs.Interface.{Interface}
 use Rattle.t800.specs.Numbers.{Numbers}
 use Rattle.t800.specs.RoundTrip.{RoundTrip, WriterInRange}
-use Rattle.t800.proofs.Laws.Tests.{if-true, if-false, either}
+use Rattle.t800.proofs.Laws.Tests.{if-true, if-false, either, and-left, and-right}
 use Rattle.t800.proofs.Laws.Checks.{on-bool}
 use Rattle.round_trip.proofs.Numbers.{numbers}
 use Rattle.round_trip.proofs.Trip.Interfaces.{round-trip, writer-in-range}
@@ -67,10 +67,6 @@ module _ (m : WriteMade) where
       ap (λ (n : ℕ). by-bytes n (m .left)) (if-false (writeAsked m) (getD (m .left .answer) 0 0) 0 a)
       ∙ ap (by-bytes 0) (m .met ∙ if-false (writeAsked m) _ _ a)
 
-both-true : (a b : Bool) → (a && b) ≡ true → (a ≡ true) × (b ≡ true)
-both-true true b e = (refl, e)
-both-true false b e = absurd (true≢false (sym e))
-
 module _ (m : ReadMade) where
   abbrev by-answer : ReadExit → ReadResult
   by-answer z =
@@ -95,8 +91,8 @@ module _ (m : ReadMade) where
   read-meets : readAsked m ≡ true → readLeft m ≡ readOf (m .state) (readArgs m)
   unfolding readCall
   read-meets a =
-      let b = both-true five fits a in
-      if-true five _ _ (b .0) ∙ ap by-answer (m .met ∙ if-true five _ _ (b .0) ∙ if-true fits _ _ (b .1))
+      let e = and-left five fits a in
+      if-true five _ _ e ∙ ap by-answer (m .met ∙ if-true five _ _ e ∙ if-true fits _ _ (and-right five fits a))
 
   read-refuses : readAsked m ≡ false → readLeft m ≡ readUntouched (m .state) (readArgs m) (readOtherwise m)
   unfolding readCall

@@ -11,7 +11,7 @@ use Rattle.t800.specs.State.{Block, layer, blocksIn, bandNodes, bandLength, blo
 use Rattle.t800.specs.Ranges.{bandInRange, bandsInRange}
 use Rattle.t800.proofs.Laws.Layout.{band-length}
 use Rattle.t800.proofs.Laws.Lists.{length-from}
-use Rattle.tcd_first_words.proofs.Laws.FirstWords.{and-right}
+use Rattle.t800.proofs.Laws.Tests.{and-right}
 use Rattle.tcd_state.proofs.Laws.ValidStates.{block-known, block-bounds}
 use Rattle.t2_read_segments.specs.Reading.{Reading, nextBlocks}
 use Rattle.t2_read_block_parts.proofs.Laws.Kept.{Keeps, blocks-keep}

@@ -14,6 +14,7 @@ use Rattle.t800.specs.Ranges.{badShape, badStyle, bandTooDeep, unusedBandsZero}
 use Rattle.tcd_layout.specs.Geometry.{AllUpTo64}
 use Rattle.tcd_layout.proofs.Laws.Bands.{shape-not-refused}
 use Rattle.tcd_shape.specs.Parts.{threeBands, shapeInRange, firstWordsInRange}
+use Rattle.t800.proofs.Laws.Tests.{and-right}
 
 pub band-words : (ws : List ℕ) (i a d p : ℕ) → a ≡ getD ws (4 + 3 * i) 0 → d ≡ getD ws (4 + 3 * i + 1) 0 → p ≡ getD ws (4 + 3 * i + 2) 0
     → _≡_ {A = Band} (record { across = a; down = d; planes = p }) (bandAt ws i)
@@ -44,14 +45,6 @@ pub first-words-parts : (r : ℕ) (ws : List ℕ) (shape style′ layer′ deep 
     ≡ firstWordsInRange r ws
 unfolding firstWordsInRange
 first-words-parts r ws a b c d e ea eb ec ed ee = rw (ea, eb, ec, ed, ee)
-
-pub and-left : (a b : Bool) → (a && b) ≡ true → a ≡ true
-and-left true b e = refl
-and-left false b e = e
-
-pub and-right : (a b : Bool) → (a && b) ≡ true → b ≡ true
-and-right true b e = e
-and-right false b e = absurd (let z : _≡_ {A = ℕ} 0 1 = cc in omega arith)
 
 pub shape-known : (r : ℕ) (ws : List ℕ) → shapeInRange r ws ≡ true → (1 ≤ bandCount ws) × (bandCount ws ≤ 3) × AllUpTo64 (bands ws)
 unfolding shapeInRange bands
