@@ -25,16 +25,16 @@ use Rattle.theorems.specs.Exports.{writeAsked, writeLeft, ReadMade, read
 -- ---- each kind of call
 
 module _ {role : ℕ} (m : StartMade role) where
-  start-meets : startAsked m ≡ true → m .left ≡ startOf role (m .lent) (startArgs m)
+  pub start-meets : startAsked m ≡ true → m .left ≡ startOf role (m .lent) (startArgs m)
   unfolding startCall
   start-meets a = m .met ∙ if-true (startAsked m) _ _ a
 
-  start-refuses : startAsked m ≡ false → m .left ≡ startUntouched (m .lent) (startArgs m) listRefusal
+  pub start-refuses : startAsked m ≡ false → m .left ≡ startUntouched (m .lent) (startArgs m) listRefusal
   unfolding startCall
   start-refuses a = m .met ∙ if-false (startAsked m) _ _ a
 
 module _ (m : MeasureMade) where
-  measure-meets : measureAsked m ≡ true → measureLeft m ≡ measureOf (m .state) (m .call)
+  pub measure-meets : measureAsked m ≡ true → measureLeft m ≡ measureOf (m .state) (m .call)
   unfolding measureCall
   measure-meets a =
       if-true (measureAsked m) _ _ a
@@ -43,7 +43,7 @@ module _ (m : MeasureMade) where
         scratch = z .scratch;
       }) (m .met ∙ if-true (measureAsked m) _ _ a)
 
-  measure-refuses : measureAsked m ≡ false → measureLeft m ≡ measureUntouched (m .state) (m .call) listRefusal
+  pub measure-refuses : measureAsked m ≡ false → measureLeft m ≡ measureUntouched (m .state) (m .call) listRefusal
   unfolding measureCall
   measure-refuses a =
       if-false (measureAsked m) _ _ a
@@ -55,13 +55,13 @@ module _ (m : WriteMade) where
   by-bytes bytes z =
       record { answer = record { refusal = z .refusal; bytes = bytes }; state = z .state; scratch = z .scratch; output = z .output }
 
-  write-meets : writeAsked m ≡ true → writeLeft m ≡ writeOf (m .state) (m .call)
+  pub write-meets : writeAsked m ≡ true → writeLeft m ≡ writeOf (m .state) (m .call)
   unfolding writeCall
   write-meets a =
       ap (λ (n : ℕ). by-bytes n (m .left)) (if-true (writeAsked m) (getD (m .left .answer) 0 0) 0 a)
       ∙ ap (λ (z : WriteExit). by-bytes (getD (z .answer) 0 0) z) (m .met ∙ if-true (writeAsked m) _ _ a)
 
-  write-refuses : writeAsked m ≡ false → writeLeft m ≡ writeUntouched (m .state) (m .call) listRefusal
+  pub write-refuses : writeAsked m ≡ false → writeLeft m ≡ writeUntouched (m .state) (m .call) listRefusal
   unfolding writeCall
   write-refuses a =
       ap (λ (n : ℕ). by-bytes n (m .left)) (if-false (writeAsked m) (getD (m .left .answer) 0 0) 0 a)
@@ -88,13 +88,13 @@ module _ (m : ReadMade) where
   abbrev fits : Bool
   fits = eqb (length (m .work)) (recordWidth * length (m .records))
 
-  read-meets : readAsked m ≡ true → readLeft m ≡ readOf (m .state) (readArgs m)
+  pub read-meets : readAsked m ≡ true → readLeft m ≡ readOf (m .state) (readArgs m)
   unfolding readCall
   read-meets a =
       let e = and-left five fits a in
       if-true five _ _ e ∙ ap by-answer (m .met ∙ if-true five _ _ e ∙ if-true fits _ _ (and-right five fits a))
 
-  read-refuses : readAsked m ≡ false → readLeft m ≡ readUntouched (m .state) (readArgs m) (readOtherwise m)
+  pub read-refuses : readAsked m ≡ false → readLeft m ≡ readUntouched (m .state) (readArgs m) (readOtherwise m)
   unfolding readCall
   read-refuses a =
       on-bool five
@@ -107,7 +107,7 @@ module _ (m : ReadMade) where
       second true b e f = f
       second false b e f = absurd (true≢false (sym e))
 
-  read-numbered : (1 ≤ readOtherwise m) × (readOtherwise m ≤ 13)
+  pub read-numbered : (1 ≤ readOtherwise m) × (readOtherwise m ≤ 13)
   unfolding workRefusal
   read-numbered =
       let P : ℕ → Type 0 = λ n. (1 ≤ n) × (n ≤ 13) in
@@ -117,7 +117,7 @@ module _ (m : ReadMade) where
 
 -- ---- the interface
 
-pub exports : Interface
+abbrev pub exports : Interface
 exports = record {
   starts = λ role. record {
     Made = StartMade role;
