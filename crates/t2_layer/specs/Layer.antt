@@ -8,6 +8,7 @@ use lib.Dec.{T, eqb}
 use Rattle.t800.specs.declared.Band.{Band}
 use Rattle.t800.specs.declared.Markers.{Markers}
 use Rattle.t800.specs.declared.ReadAnswer.{ReadAnswer}
+use Rattle.t800.specs.Base.{Words, Bytes}
 use Rattle.t800.specs.State.{writer, reader}
 use Rattle.t800.specs.Start.{StartResult, start}
 use Rattle.t800.specs.Reports.{reportWidth, recordWidth}
@@ -22,31 +23,32 @@ pub record FirstLayer : Type 0 where
   pub count : ℕ
   pub bands : List Band
   pub style : ℕ
-  pub planes : List ℕ
+  pub planes : Words
   pub contribution : Contribution
-  pub body : List ℕ
+  pub body : Bytes
   pub markers : Markers
   pub number : ℕ
 
-abbrev pub firstLayer : ℕ → List Band → ℕ → List ℕ → Contribution → List ℕ → Markers → ℕ → FirstLayer
-firstLayer n bs s ps p body m number =
-    record { count = n; bands = bs; style = s; planes = ps; contribution = p; body = body; markers = m; number = number }
+abbrev pub firstLayer : (count : ℕ) (bands : List Band) (style : ℕ) (planes : Words) → Contribution → (body : Bytes) → Markers
+    → (number : ℕ) → FirstLayer
+firstLayer count bands style planes p body m number =
+    record { count = count; bands = bands; style = style; planes = planes; contribution = p; body = body; markers = m; number = number }
 
 -- the lists lent for it
 pub record Lent : Type 0 where
-  pub writer : List ℕ
-  pub reader : List ℕ
-  pub scratch : List ℕ
-  pub output : List ℕ
-  pub reports : List ℕ
-  pub records : List ℕ
+  pub writer : Words
+  pub reader : Words
+  pub scratch : Words
+  pub output : Bytes
+  pub reports : Words
+  pub records : Words
 
-abbrev pub lent : List ℕ → List ℕ → List ℕ → List ℕ → List ℕ → List ℕ → Lent
+abbrev pub lent : (w r scratch : Words) (output : Bytes) (reports records : Words) → Lent
 lent w r scratch output reports records =
     record { writer = w; reader = r; scratch = scratch; output = output; reports = reports; records = records }
 
 -- the writer's state before it
-abbrev pub startOf : FirstLayer → Lent → List ℕ
+abbrev pub startOf : FirstLayer → Lent → Words
 startOf l b = start writer (l .count) (l .bands) (l .style) (l .planes) (b .writer) .state
 
 abbrev pub writeOfLayer : FirstLayer → Lent → WriteResult
@@ -55,14 +57,14 @@ writeOfLayer l b = write (startOf l b) (b .scratch) (l .contribution) (l .body) 
 -- what the four calls leave
 pub record LayerResult : Type 0 where
   pub answer : ReadAnswer
-  pub writer : List ℕ
-  pub reader : List ℕ
-  pub scratch : List ℕ
-  pub output : List ℕ
-  pub reports : List ℕ
-  pub records : List ℕ
+  pub writer : Words
+  pub reader : Words
+  pub scratch : Words
+  pub output : Bytes
+  pub reports : Words
+  pub records : Words
 
-abbrev pub layerResult : ReadAnswer → List ℕ → List ℕ → List ℕ → List ℕ → List ℕ → List ℕ → LayerResult
+abbrev pub layerResult : ReadAnswer → (w r scratch : Words) (output : Bytes) (reports records : Words) → LayerResult
 layerResult answer w r scratch output reports records =
     record { answer = answer; writer = w; reader = r; scratch = scratch; output = output; reports = reports; records = records }
 
