@@ -1,31 +1,24 @@
 -- Demand 1 of every interface: the number of a call is that of the first check that holds, and a refused call leaves the state.
 use mathlib.Core.Path.{_≡_, refl, sym, ap, _∙_, subst}
 use mathlib.Core.Logic.{_≢_}
-use mathlib.Core.Bool.{Bool, true, false, cond, not, _&&_, _||_}
-use mathlib.Core.List.{List, [], _∷_, _++_, reverse}
-use Prim.Native.Nat.{ℕ, zero, suc, _+_, _-_, _*_, _≤_}
+use mathlib.Core.Bool.{Bool, true, false, cond, not, _||_}
+use mathlib.Core.List.{List, [], _∷_, _++_}
+use Prim.Native.Nat.{ℕ, _≤_}
 use native.Mathlib.Omega.{arith}
-use lib.ListN.{length}
-use lib.Dec.{ltb, leb, eqb}
+use lib.Dec.{eqb}
 use borrow.Author.Tests.{ne-eqb, eqb-true}
 use Rattle.t800.specs.declared.Bio.{Bio}
-use Rattle.t800.specs.declared.Markers.{Markers}
 use Rattle.t800.specs.Refusals.{Check, firstOf}
-use Rattle.t800.specs.Bits.{Decoded, getBit, endsInFF}
-use Rattle.t800.specs.State.{Block, layer, bands, blocks, lengthBits}
-use Rattle.t800.specs.Segments.{width}
-use Rattle.t800.specs.TagTree.{PathRead, value, readPath}
-use Rattle.t800.specs.Reports.{absent}
 use Rattle.t800.specs.Start.{StartResult, startRefusal}
 use Rattle.t800.specs.Start.{start}
-use Rattle.t800.specs.ReadHeader.{HeaderRead, refused, movedTo, withReport, readSegment, readSegments, readIncluded, readNewBlock}
-use Rattle.t800.specs.ReadHeader.{readOldBlock, readBlock, readBlocks, readHeader, passesTaken}
-use Rattle.t800.specs.WriteHeader.{isNew}
+use Rattle.t800.specs.ReadHeader.{HeaderRead}
+use Rattle.t800.specs.ReadHeader.{readHeader}
 use Rattle.t800.specs.Packet.{MeasureResult, measureRefusal, measure, WriteResult, writeRefusal, write, ReadResult, readListChecks}
 use Rattle.t800.specs.Packet.{readRefusal, headerChecks, firstBit, headerOf, readAbsent, readPresent, read}
 use Rattle.t800.specs.Interface.{StartCall, startOf, WriteCall, measureOf, writeOf, ReadCall, readOf, Calls, Interface}
 use Rattle.t800.specs.Numbers.{NoneHolds, NumberIs, startChecksOf, measureChecksOf, writeChecksOf, readChecksOf, Numbers}
 use Rattle.t800.proofs.Laws.Tests.{if-true, if-false, if-eq, if-ne, either, on-eq}
+use Rattle.t800_laws.proofs.Laws.HeaderSteps.{header-keeps}
 use Rattle.t800_laws.proofs.Laws.StateAfter.{refused-write-leaves-state, refused-read-leaves-state}
 use Rattle.t800.proofs.Laws.Checks.{NotAmong, not-first, on-bool, first-append}
 
@@ -138,72 +131,16 @@ pub record HeaderNumber (r : HeaderRead) : Type 0 where
 same-number : (r z : HeaderRead) → z .refusal ≡ r .refusal → HeaderNumber r → HeaderNumber z
 same-number r z e h = record { one-of = rw e (h .one-of) }
 
-given-9 : HeaderNumber (refused 9)
-given-9 = record { one-of = refl }
-
-given-13 : HeaderNumber (refused 13)
-given-13 = record { one-of = refl }
-
-given-12 : HeaderNumber (refused 12)
-given-12 = record { one-of = refl }
-
-module _ (src : List ℕ) (room : ℕ) where
-  segment-number : (i : ℕ) (k : Block) (n : ℕ) (r : HeaderRead) → HeaderNumber r → HeaderNumber (readSegment src room i k n r)
-  unfolding readSegment
-  segment-number i k n r h =
-      either HeaderNumber (ltb 32 (width (lengthBits (r .words) (k .at)) n)) _ _ given-9
-      (either HeaderNumber (leb room (length (r .records))) _ _ given-13 (same-number r _ refl h))
-
-  segments-number : (i : ℕ) (k : Block) (f left : ℕ) (r : HeaderRead) → HeaderNumber r → HeaderNumber (readSegments src room i k f left r)
-  unfolding readSegments
-  segments-number i k zero left r h = h
-  segments-number i k (suc f) left r h =
-      let n : ℕ = passesTaken (r .words) k left in
-      let a = segment-number i k n r h in
-      either HeaderNumber (eqb (readSegment src room i k n r .refusal) 0 && ltb 0 (left - n)) _ _
-      (segments-number i k f (left - n) (readSegment src room i k n r) a) a
-
-  included-number : (i : ℕ) (k : Block) (r : HeaderRead) → HeaderNumber r → HeaderNumber (readIncluded src room i k r)
-  unfolding readIncluded
-  included-number i k r h = segments-number i k _ _ _ (same-number r _ refl h)
-
-  new-number : (t i : ℕ) (k : Block) (r : HeaderRead) → HeaderNumber r → HeaderNumber (readNewBlock src room t i k r)
-  unfolding readNewBlock
-  new-number t i k r h =
-      let w : PathRead = readPath src (k .inclTree) (t + 1) (reverse (k .path)) 0 (r .words) (r .bio) in
-      let moved : HeaderNumber (movedTo (w .words) (w .bio) r) = same-number r _ refl h in
-      either HeaderNumber (ltb (value (w .words) (k .inclTree + 3 * k .leaf)) (t + 1))
-      (readIncluded src room i k (movedTo (w .words) (w .bio) r)) (withReport absent (movedTo (w .words) (w .bio) r))
-      (included-number i k _ moved) (same-number r _ refl h)
-
-  old-number : (i : ℕ) (k : Block) (r : HeaderRead) → HeaderNumber r → HeaderNumber (readOldBlock src room i k r)
-  unfolding readOldBlock
-  old-number i k r h =
-      let b : Decoded = getBit src (r .bio) in
-      let moved : HeaderNumber (movedTo (r .words) (b .bio) r) = same-number r _ refl h in
-      either HeaderNumber (eqb (b .value) 0) (withReport absent (movedTo (r .words) (b .bio) r))
-      (readIncluded src room i k (movedTo (r .words) (b .bio) r)) (same-number r _ refl h) (included-number i k _ moved)
-
-  block-number : (t i : ℕ) (k : Block) (r : HeaderRead) → HeaderNumber r → HeaderNumber (readBlock src room t i k r)
-  unfolding readBlock
-  block-number t i k r h =
-      either HeaderNumber (isNew (r .words) k) (readNewBlock src room t i k r) (readOldBlock src room i k r) (new-number t i k r h)
-      (old-number i k r h)
-
-  blocks-number : (t i : ℕ) (ks : List Block) (r : HeaderRead) → HeaderNumber r → HeaderNumber (readBlocks src room t i ks r)
-  unfolding readBlocks
-  blocks-number t i [] r h = h
-  blocks-number t i (k ∷ ks) r h =
-      let a = block-number t i k r h in
-      either HeaderNumber (eqb (readBlock src room t i k r .refusal) 0) _ _ (blocks-number t (i + 1) ks (readBlock src room t i k r) a) a
-
-  pub header-number : (ws : List ℕ) (b : Bio) → HeaderNumber (readHeader src room ws b)
-  unfolding readHeader
-  header-number ws b =
-      let r : HeaderRead = record { refusal = 0; words = ws; bio = b; reports = []; records = [] } in
-      either HeaderNumber (eqb (readBlocks src room (layer ws) 0 (blocks (bands ws)) r .refusal) 0 && endsInFF src
-      (readBlocks src room (layer ws) 0 (blocks (bands ws)) r .bio)) _ _ given-12
-      (blocks-number (layer ws) 0 (blocks (bands ws)) r (record { one-of = refl }))
+pub header-number : (src : List ℕ) (room : ℕ) (ws : List ℕ) (b : Bio) → HeaderNumber (readHeader src room ws b)
+header-number src room ws b =
+    header-keeps src room HeaderNumber
+    (record { one-of = refl })
+    (record { one-of = refl })
+    (record { one-of = refl })
+    (λ vs c r l h. same-number r _ refl h)
+    (λ a r h. same-number r _ refl h)
+    (λ a r h. same-number r _ refl h)
+    ws b (record { one-of = refl })
 
 -- its number is that of the check that holds
 of-header : (h : ℕ) (present : Bool) → (eqb h 0 || eqb h 9 || eqb h 13 || eqb h 12) ≡ true

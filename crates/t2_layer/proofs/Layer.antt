@@ -14,7 +14,7 @@ use Rattle.t800.specs.State.{writer, reader, blocks, stateLength}
 use Rattle.t800.specs.Start.{freshState, StartResult, start}
 use Rattle.t800.specs.Packet.{WriteResult, write, ReadResult, readResult, refusedAnswer, read}
 use Rattle.t800.specs.Book.{terminatedAsStyle}
-use Rattle.t800.specs.RoundTrip.{Owed, GivesEntry, WriterMade, written, packetMade, accepted, Follows, owed, allTerminatedAsStyle}
+use Rattle.t800.specs.RoundTrip.{Owed, GivesEntry, written, packetMade, accepted, Follows, owed, allTerminatedAsStyle}
 use Rattle.t800.specs.RoundTrip.{ReadsAsOwed, stateAfter, RoundTrip, WriterInRange}
 use Rattle.t800.proofs.Laws.Tests.{if-true, if-false}
 use Rattle.theorems.specs.Calls.{calls}

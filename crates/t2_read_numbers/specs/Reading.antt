@@ -6,6 +6,7 @@ use lib.ListN.{length}
 use lib.Dec.{eqb}
 use Rattle.t800.specs.declared.Markers.{Markers}
 use Rattle.t800.specs.declared.ReadAnswer.{ReadAnswer}
+use Rattle.t800.specs.Refusals.{widthRefusal, headerEndRefusal, recordsRefusal}
 use Rattle.t800.specs.Reports.{recordWidth}
 use Rattle.t800.specs.Packet.{ReadResult, refusedAnswer, read, readResult}
 use Rattle.t800.specs.Exports.{workRefusal}
@@ -22,4 +23,6 @@ readNumbers state scratch markers input reports work room =
 
 -- how many records are then stored: the segments found, or all where the work list was wiped
 unfoldable pub toFill : (answer : ReadAnswer) (room : ℕ) → ℕ
-toFill a room = cond (eqb (a .refusal) 0) (a .segments) (cond (eqb (a .refusal) 9 || eqb (a .refusal) 12 || eqb (a .refusal) 13) room 0)
+toFill a room =
+    cond (eqb (a .refusal) 0) (a .segments)
+    (cond (eqb (a .refusal) widthRefusal || eqb (a .refusal) headerEndRefusal || eqb (a .refusal) recordsRefusal) room 0)

@@ -3,11 +3,13 @@ use mathlib.Core.List.{List}
 use Prim.Native.Nat.{ℕ, zero, suc, _+_, _*_}
 use lib.ListN.{getD, set}
 use Rattle.t800.specs.declared.Segment.{Segment}
+use Rattle.t800.specs.Reports.{recordWidth}
 
 -- record i of the numbers; past the end they are 0
 unfoldable pub segmentAt : List ℕ → ℕ → Segment
-segmentAt ws i = record
-    { block = getD ws (i * 4 + 0) 0; opens = getD ws (i * 4 + 1) 0; passes = getD ws (i * 4 + 2) 0; bytes = getD ws (i * 4 + 3) 0 }
+segmentAt ws i =
+    let at = i * recordWidth in
+    record { block = getD ws (at + 0) 0; opens = getD ws (at + 1) 0; passes = getD ws (at + 2) 0; bytes = getD ws (at + 3) 0 }
 
 -- records f 0, f 1, .. stored at the first n places, in order
 unfoldable pub stored : (ℕ → Segment) → ℕ → List Segment → List Segment

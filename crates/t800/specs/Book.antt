@@ -75,6 +75,7 @@ entryFrom style i (k ∷ ks) (c ∷ cs) lens =
 unfoldable pub entry : (style : ℕ) (book : List BlockEntry) (counts lengths : Words) → Entry
 entry style book counts lengths = entryFrom style 0 book counts lengths
 
+-- then the counts are added
 unfoldable pub addCounts : (book : List BlockEntry) (counts : Words) → List BlockEntry
 addCounts [] cs = []
 addCounts (k ∷ ks) [] = []

@@ -1,7 +1,7 @@
 -- The markers SOP and EPH (T.800, A.8.1 and A.8.2; SCOPE S8).
 use Prim.Native.Nat.{ℕ, _+_, _-_, _/_, _%_}
 use mathlib.Core.Bool.{Bool, cond, _&&_, not}
-use mathlib.Core.List.{List, [], _∷_, _++_}
+use mathlib.Core.List.{[], _∷_, _++_}
 use lib.ListN.{length, getD}
 use lib.Dec.{ltb, eqb}
 use Rattle.t800.specs.declared.Markers.{Markers}

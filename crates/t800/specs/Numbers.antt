@@ -6,8 +6,8 @@ use mathlib.Core.Bool.{true, false}
 use mathlib.Core.List.{List, [], _∷_, _++_}
 use Rattle.t800.specs.Base.{Words}
 use Rattle.t800.specs.Refusals.{Check}
-use Rattle.t800.specs.Start.{StartResult, startChecks}
-use Rattle.t800.specs.Packet.{MeasureResult, measureChecks, WriteResult, writeChecks, ReadResult, readChecks}
+use Rattle.t800.specs.Start.{startChecks}
+use Rattle.t800.specs.Packet.{measureChecks, writeChecks, readChecks}
 use Rattle.t800.specs.Interface.{StartCall, WriteCall, ReadCall, Interface}
 
 abbrev pub NoneHolds : List Check → Type 0

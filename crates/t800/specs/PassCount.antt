@@ -1,7 +1,7 @@
 -- The number of coding passes (T.800, B.10.6, Table B.4; SCOPE S11).
 use Prim.Native.Nat.{ℕ, _+_, _-_}
 use mathlib.Core.Bool.{cond}
-use mathlib.Core.List.{List, [], _∷_, _++_}
+use mathlib.Core.List.{[], _∷_, _++_}
 use lib.ListN.{replicate}
 use lib.Dec.{leb, eqb}
 use Rattle.t800.specs.declared.Bio.{Bio}
@@ -21,6 +21,7 @@ passBits passes =
 abbrev pub plus : (least : ℕ) → Decoded → Decoded
 plus least r = record { value = least + r .value; bio = r .bio }
 
+-- a bit 0 is 1; 10 is 2; then two bits unless both are 1, five bits unless all are 1, seven bits
 unfoldable pub readPasses : (src : Bytes) → Bio → Decoded
 readPasses src b =
     let first = getBit src b in

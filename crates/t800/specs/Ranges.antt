@@ -13,13 +13,15 @@ use Rattle.t800.specs.State.{bandNodes, bandLength, stateLength, passesS
 
 -- ---- refusals 1, 2 and 4
 
+-- band count not 1 to 3, or a side above 64
 unfoldable pub badShape : (count : ℕ) → List Band → Bool
 badShape count bs = eqb count 0 || ltb 3 count || any (λ b. ltb 64 (b .across) || ltb 64 (b .down)) (take count bs)
 
--- bit 0x40 or 0x80 set
+-- of a byte: bit 0x40 or 0x80 set
 unfoldable pub badStyle : (styleByte : ℕ) → Bool
 badStyle styleByte = ltb 63 styleByte
 
+-- a band above 998 planes
 unfoldable pub bandTooDeep : List Band → Bool
 bandTooDeep bs = any (λ b. ltb 998 (b .planes)) bs
 
@@ -31,9 +33,12 @@ blockTooDeep (k ∷ ks) (p ∷ ps) = ltb (k .planes) p || blockTooDeep ks ps
 
 -- ---- refusal 5
 
+-- value and low up to the tree's "not yet", known 0 or 1
 unfoldable pub nodeInRange : (state : Words) (notYet nodeAt : ℕ) → Bool
 nodeInRange state notYet nodeAt = leb (value state nodeAt) notYet && leb (low state nodeAt) notYet && leb (known state nodeAt) 1
 
+-- Passes at most 164 × next layer; length bits 0 exactly where passes are 0, else 3 to 32; in a reader a limit that the style gives
+-- with 1 to that many passes, or both 0 exactly where passes are 0; in a writer both 0.
 unfoldable pub blockInRange : (state : Words) (at : ℕ) → Bool
 unfolding writer
 blockInRange state at =
@@ -54,6 +59,7 @@ unfoldable pub bandsInRange : (state : Words) (bandStart : ℕ) → List Band �
 bandsInRange state bandStart [] = true
 bandsInRange state bandStart (b ∷ bs) = bandInRange state bandStart b && bandsInRange state (bandStart + bandLength b) bs
 
+-- the words of bands that are not used are 0
 unfoldable pub unusedBandsZero : (state : Words) → Bool
 unusedBandsZero state = every 9 (λ i. ltb i (3 * bandCount state) || eqb (getD state (4 + i) 0) 0)
 

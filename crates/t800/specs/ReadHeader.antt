@@ -28,6 +28,7 @@ pub record HeaderRead : Type 0 where
 abbrev pub refused : (why : ℕ) → HeaderRead
 refused why = record { refusal = why; words = []; bio = bioAt 0; reports = []; records = [] }
 
+-- the same, with other words and bits; with one more report; with one more record
 abbrev pub movedTo : (state : Words) → Bio → HeaderRead → HeaderRead
 movedTo state b r = record { refusal = r .refusal; words = state; bio = b; reports = r .reports; records = r .records }
 
@@ -57,6 +58,7 @@ passesTaken state k left = min (currentLimit state k - currentPasses state k) le
 
 -- ---- below, `room` is the number of records lent, and i the block's number
 
+-- 9 before 13, else its length
 unfoldable pub readSegment : (src : Bytes) (room i : ℕ) → Block → (passes : ℕ) → HeaderRead → HeaderRead
 readSegment src room i k passes r =
     let state = r .words in
@@ -101,7 +103,7 @@ firstReport k zeroPlanes passes =
 unfoldable pub againReport : (passes : ℕ) → BlockReport
 againReport passes = record { inclusion = 2; zeroPlanes = 0; planes = 0; passes = passes }
 
--- a block that is included, after its inclusion
+-- a block that is included, after its inclusion: zero planes, pass count, increment of the length bits, segments
 unfoldable pub readIncluded : (src : Bytes) (room i : ℕ) → Block → HeaderRead → HeaderRead
 readIncluded src room i k r =
     let z = readZeroPlanes src k r in
@@ -114,6 +116,7 @@ readIncluded src room i k r =
     (againReport (passes .value)) in
     readSegments src room i k (passes .value) (passes .value) (withReport a (movedTo after (inc .bio) r))
 
+-- inclusion in this layer: by tree until first included
 unfoldable pub readNewBlock : (src : Bytes) (room layerNow i : ℕ) → Block → HeaderRead → HeaderRead
 readNewBlock src room layerNow i k r =
     let tree = readPath src (k .inclTree) (layerNow + 1) (reverse (k .path)) 0 (r .words) (r .bio) in
@@ -121,6 +124,7 @@ readNewBlock src room layerNow i k r =
     let notIncluded = withReport absent (movedTo (tree .words) (tree .bio) r) in
     cond (ltb (value (tree .words) (k .inclTree + 3 * k .leaf)) (layerNow + 1)) included notIncluded
 
+-- then by one bit
 unfoldable pub readOldBlock : (src : Bytes) (room i : ℕ) → Block → HeaderRead → HeaderRead
 readOldBlock src room i k r =
     let bit = getBit src (r .bio) in

@@ -11,10 +11,8 @@ use Rattle.t800.specs.Base.{Words, Bytes, sum, overwrite}
 use Rattle.t800.specs.Reports.{reportWidth, recordWidth, reportWords, recordWords}
 use Rattle.t800.specs.State.{writer, reader}
 use Rattle.t800.specs.Ranges.{validState}
-use Rattle.t800.specs.Start.{StartResult}
-use Rattle.t800.specs.WriteHeader.{Contribution}
 use Rattle.t800.specs.Packet.{WriteResult, ReadResult}
-use Rattle.t800.specs.Interface.{StartCall, WriteCall, ReadCall, Interface}
+use Rattle.t800.specs.Interface.{WriteCall, ReadCall, Interface}
 use Rattle.t800.specs.Book.{BlockEntry, Entry, newBook, entry, addCounts, terminatedAsStyle}
 
 -- ---- one packet

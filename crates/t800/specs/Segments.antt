@@ -56,7 +56,7 @@ segmentsOf lengths marks = segmentsFrom 0 0 lengths marks
 
 -- ---- lengths
 
--- of a length field, by the segment's passes in this layer
+-- of a length field: the length bits + floor(log2 of the segment's passes in this layer)
 unfoldable pub width : (lengthBits passes : ℕ) → ℕ
 width lengthBits passes = lengthBits + floorLog2 passes
 
@@ -64,13 +64,16 @@ width lengthBits passes = lengthBits + floorLog2 passes
 unfoldable pub bitLength : (bytes : ℕ) → ℕ
 bitLength bytes = 1 + floorLog2 bytes
 
+-- the largest of 0 and, over segments, bits of the length minus that width
 unfoldable pub increment : (lengthBits : ℕ) → List Segment → ℕ
 increment lengthBits [] = 0
 increment lengthBits (s ∷ ss) = max (bitLength (s .bytes) - width lengthBits (s .passes)) (increment lengthBits ss)
 
+-- a run of ones and a zero
 unfoldable pub commaBits : (ones : ℕ) → Bits
 commaBits ones = replicate ones 1 ++ 0 ∷ []
 
+-- one length per segment
 unfoldable pub lengthFields : (lengthBits : ℕ) → List Segment → Bits
 lengthFields lengthBits [] = []
 lengthFields lengthBits (s ∷ ss) = bitsOf (width lengthBits (s .passes)) (s .bytes) ++ lengthFields lengthBits ss

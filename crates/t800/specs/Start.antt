@@ -14,6 +14,7 @@ use Rattle.t800.specs.Ranges.{badShape, badStyle, bandTooDeep, blockTooD
 
 -- ---- a fresh state
 
+-- nodes with this value, low 0, known 0
 unfoldable pub freshNodes : (v count : ℕ) → Words
 freshNodes v zero = []
 freshNodes v (suc count) = v ∷ 0 ∷ 0 ∷ freshNodes v count
@@ -36,7 +37,7 @@ bandWords (b ∷ bs) (suc count) = b .across ∷ b .down ∷ b .planes ∷ bandW
 unfoldable pub freshState : (role style : ℕ) → List Band → Words
 freshState role style bs = role ∷ length bs ∷ style ∷ 0 ∷ bandWords bs 3 ++ freshBands bs
 
--- each block's zero planes are its band's planes minus its own
+-- each block's zero planes, its band's planes minus its own, are set in the zero-plane tree
 unfoldable pub setZeroPlanes : List Block → (planes state : Words) → Words
 setZeroPlanes [] ps state = state
 setZeroPlanes (k ∷ ks) [] state = state

@@ -44,6 +44,7 @@ pub record Block : Type 0 where
   pub at : ℕ
   pub planes : ℕ
 
+-- the block at this leaf of a band whose words begin at `bandStart`
 abbrev pub blockOf : (bandStart : ℕ) → Band → (leaf : ℕ) → Block
 blockOf bandStart b leaf = record {
   inclTree = bandStart;
@@ -59,7 +60,7 @@ unfoldable pub blocksFrom : (bandStart : ℕ) → Band → (count leaf : ℕ) �
 blocksFrom bandStart b zero leaf = []
 blocksFrom bandStart b (suc count) leaf = blockOf bandStart b leaf ∷ blocksFrom bandStart b count (leaf + 1)
 
--- band by band, row by row
+-- the blocks of these bands: band by band, row by row
 unfoldable pub blocksAt : (bandStart : ℕ) → List Band → List Block
 blocksAt bandStart [] = []
 blocksAt bandStart (b ∷ bs) = blocksFrom bandStart b (blocksIn b) 0 ++ blocksAt (bandStart + bandLength b) bs
@@ -95,7 +96,7 @@ bandAt state i = record { across = getD state (4 + 3 * i) 0; down = getD state (
 unfoldable pub bands : (state : Words) → List Band
 bands state = take (bandCount state) (bandAt state 0 ∷ bandAt state 1 ∷ bandAt state 2 ∷ [])
 
--- a block's words, the first at `at`; limit and passes are those of its current segment
+-- a block's words, the first at `at`: passes so far, length bits, limit and passes of its current segment
 abbrev pub passesSoFar : (state : Words) (at : ℕ) → ℕ
 passesSoFar state at = getD state at 0
 

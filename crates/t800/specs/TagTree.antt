@@ -40,6 +40,7 @@ unfoldable pub pathFrom : List Level → (first x y : ℕ) → List ℕ
 pathFrom [] first x y = []
 pathFrom (l ∷ ls) first x y = (first + y * l .w + x) ∷ pathFrom ls (first + l .w * l .h) (x / 2) (y / 2)
 
+-- the nodes from a leaf up to the root
 unfoldable pub pathToRoot : (w h leaf : ℕ) → List ℕ
 pathToRoot w h leaf = pathFrom (levels w h) 0 (leaf % w) (leaf / w)
 

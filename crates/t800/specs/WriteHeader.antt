@@ -20,10 +20,11 @@ pub record Contribution : Type 0 where
 abbrev pub contribution : (counts lengths : Words) (marks : Bytes) → Contribution
 contribution counts lengths marks = record { counts = counts; lengths = lengths; marks = marks }
 
+-- a block without passes so far
 unfoldable pub isNew : (state : Words) → Block → Bool
 isNew state k = eqb (passesSoFar state (k .at)) 0
 
--- a block's length bits as the packet begins
+-- its length bits as the packet begins: 3 at first inclusion, then kept across layers
 unfoldable pub lengthBitsBefore : (state : Words) → Block → ℕ
 lengthBitsBefore state k = cond (isNew state k) 3 (lengthBits state (k .at))
 
@@ -37,16 +38,19 @@ setNewBlocks layerNow (k ∷ ks) [] state = state
 setNewBlocks layerNow (k ∷ ks) (c ∷ cs) state =
     setNewBlocks layerNow ks cs (cond (isNew state k && ltb 0 c) (setValue (k .inclTree) (k .path) layerNow state) state)
 
+-- inclusion in this layer: by tree until first included, then one bit
 unfoldable pub codeInclusion : (layerNow : ℕ) → Block → (passes : ℕ) (state : Words) → Coded
 codeInclusion layerNow k passes state =
     let tree = codePath (k .inclTree) (layerNow + 1) (reverse (k .path)) 0 state in
     cond (isNew state k) tree (record { bits = cond (ltb 0 passes) 1 0 ∷ []; words = state })
 
+-- zero planes, at first inclusion
 unfoldable pub codeZeroPlanes : Block → (state : Words) → Coded
 codeZeroPlanes k state =
     let tree = codePath (k .zeroTree) notYetPlanes (reverse (k .path)) 0 state in
     cond (isNew state k) tree (record { bits = []; words = state })
 
+-- pass count, increment of the length bits, one length per segment
 unfoldable pub codePasses : Block → (passes : ℕ) → List Segment → (state : Words) → Coded
 codePasses k passes segments state =
     let before = lengthBitsBefore state k in
@@ -72,7 +76,7 @@ codeBlocks layerNow (k ∷ ks) (c ∷ cs) lens marks state =
     let r = codeBlocks layerNow ks cs (drop c lens) (drop c marks) (b .words) in
     record { bits = b .bits ++ r .bits; words = r .words }
 
--- the header's bits, and the state after the packet
+-- the header's bits, the first always 1, and the state after the packet
 unfoldable pub codeHeader : Contribution → (state : Words) → Coded
 codeHeader p state =
     let layerNow = layer state in
@@ -82,11 +86,13 @@ codeHeader p state =
 
 -- ---- refusals 8 and 9, over all blocks
 
+-- a segment of 2^31 bytes or more
 unfoldable pub segmentTooLong : (counts lengths : Words) (marks : Bytes) → Bool
 segmentTooLong [] lens marks = false
 segmentTooLong (c ∷ cs) lens marks =
     any (λ s. leb (2 ^ 31) (s .bytes)) (segmentsOf (take c lens) (take c marks)) || segmentTooLong cs (drop c lens) (drop c marks)
 
+-- a length field wider than 32 bits
 unfoldable pub fieldTooWide : (state : Words) → List Block → (counts lengths : Words) (marks : Bytes) → Bool
 fieldTooWide state [] cs lens marks = false
 fieldTooWide state (k ∷ ks) [] lens marks = false

@@ -1,3 +1,4 @@
+pub mod HeaderSteps
 pub mod WordCounts
 pub mod StateAfter
 pub mod ManyZeroPlanes

@@ -1,5 +1,5 @@
--- The round trip of the exported calls says something: packet A of SCOPE S16, written into an output with just the room and read back, meets
--- its premises, by computing.
+-- The round trip of the exported calls says something: packet A of SCOPE S16, written into an output with just the room and read back,
+-- meets its premises, by computing.
 use mathlib.Core.Path.{_≡_, refl}
 use mathlib.Core.Bool.{false}
 use mathlib.Core.List.{List, [], _∷_}
@@ -9,7 +9,6 @@ use lib.ListN.{replicate}
 use Rattle.t800.specs.declared.Markers.{Markers}
 use Rattle.t800.specs.declared.Segment.{Segment}
 use Rattle.t800.specs.State.{writer, reader}
-use Rattle.t800.specs.Start.{StartResult}
 use Rattle.t800.specs.WriteHeader.{contribution}
 use Rattle.t800.specs.Book.{terminatedAt, terminatedAsStyle}
 use Rattle.t800.specs.Exports.{bandIn, startCall, writeCall, wordsOf, readCall}

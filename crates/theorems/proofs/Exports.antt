@@ -9,7 +9,7 @@ use Rattle.t800.specs.Refusals.{listRefusal}
 use Rattle.t800.specs.State.{notYetIncluded, reader, layer}
 use Rattle.t800.specs.Ranges.{validState}
 use Rattle.t800.specs.Reports.{recordWidth}
-use Rattle.t800.specs.Packet.{MeasureResult, WriteResult, ReadResult, readResult, refusedAnswer}
+use Rattle.t800.specs.Packet.{WriteResult, ReadResult, readResult, refusedAnswer}
 use Rattle.t800.specs.Exports.{startCall, MeasureExit, measureCall, WriteExit, writeCall, ReadExit, workRefusal, readCall}
 use Rattle.t800.specs.Interface.{startOf, startUntouched, measureOf, measureUntouched, writeOf, writeUntouched, readOf, readUntouched}
 use Rattle.t800.specs.Interface.{Interface}

@@ -5,6 +5,7 @@ use mathlib.Core.List.{List}
 use lib.ListN.{length}
 use lib.Dec.{eqb}
 use Rattle.t800.specs.declared.Markers.{Markers}
+use Rattle.t800.specs.Refusals.{listRefusal}
 use Rattle.t800.specs.Packet.{ReadResult, refusedAnswer, readResult}
 use Rattle.t800.specs.Exports.{readWords}
 use Rattle.t2_read_numbers.specs.Reading.{readNumbers}
@@ -20,4 +21,4 @@ unfoldable pub numbersCall : (state : List ℕ) (scratch : List ℕ) (markers : 
     (work : List ℕ) (room : ℕ) (answer : List ℕ) → NumbersCall
 numbersCall state scratch markers input reports work room answer =
     cond (eqb (length answer) 5) (numbersOf (readNumbers state scratch markers input reports work room))
-    (record { result = readResult state scratch reports work (refusedAnswer 3); answer = answer })
+    (record { result = readResult state scratch reports work (refusedAnswer listRefusal); answer = answer })

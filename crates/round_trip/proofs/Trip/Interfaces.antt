@@ -15,9 +15,9 @@ use Rattle.t800.specs.Ranges.{badShape, badStyle, bandTooDeep, blockTooDeep, va
 use Rattle.t800.specs.Start.{freshState, setZeroPlanes, StartResult, startRefusal, start}
 use Rattle.t800.specs.Packet.{WriteResult, ReadResult}
 use Rattle.t800.specs.Book.{BlockEntry, addCounts, terminatedAsStyle}
-use Rattle.t800.specs.Interface.{StartCall, WriteCall, writeOf, ReadCall, readOf, Interface}
+use Rattle.t800.specs.Interface.{StartCall, writeOf, readOf, Interface}
 use Rattle.t800.specs.RoundTrip as made
-use Rattle.t800.specs.RoundTrip.{Owed, ReadsPacket, GivesEntry, WriterMade, measured, written, ReaderMade, refusedMade, packetMade}
+use Rattle.t800.specs.RoundTrip.{Owed, GivesEntry, WriterMade, measured, written, ReaderMade, refusedMade, packetMade}
 use Rattle.t800.specs.RoundTrip.{Follows, Accepted, bookOf, RoundTrip, WriterInRange}
 use Rattle.t800.proofs.Laws.Tests.{if-true, if-false}
 use Rattle.t800.proofs.Laws.Checks.{on-bool}

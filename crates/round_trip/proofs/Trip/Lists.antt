@@ -7,7 +7,6 @@ use lib.ListN.{length}
 use lib.Dec.{eqb}
 use Rattle.t800.specs.State.{reader}
 use Rattle.t800.specs.Ranges.{validState}
-use Rattle.t800.specs.Packet.{WriteResult, ReadResult}
 use Rattle.t800.specs.Book.{BlockEntry, addCounts, terminatedAsStyle}
 use Rattle.t800.specs.Interface.{WriteCall, writeOf, ReadCall, readOf}
 use Rattle.t800.specs.RoundTrip as made

@@ -3,7 +3,7 @@ use mathlib.Core.Path.{_≡_, refl, sym, ap, _∙_, subst}
 use mathlib.Core.Logic.{_≢_}
 use mathlib.Core.Bool.{Bool, true, false, cond, _&&_}
 use mathlib.Core.List.{List, [], _∷_, _++_, reverse}
-use Prim.Native.Nat.{ℕ, zero, suc, _+_, _-_, _*_, _/_, _%_, _^_, _≤_, _<_, max}
+use Prim.Native.Nat.{ℕ, zero, suc, _+_, _-_, _*_, _/_, _%_, _^_, _≤_, _<_}
 use native.Mathlib.Omega.{arith}
 use lib.Dec.{eqb, ltb, leb}
 use lib.ListN.{length, getD, set, drop, length-set, length-append, length-drop}
@@ -13,7 +13,7 @@ use Rattle.t800.specs.declared.Bio.{Bio}
 use Rattle.t800.specs.Base.{overwrite}
 use Rattle.t800.specs.Bits.{Decoded, getBit, readBits}
 use Rattle.t800.specs.PassCount.{readPasses}
-use Rattle.t800.specs.TagTree.{PathRead, value, low, readNode, readPath}
+use Rattle.t800.specs.TagTree.{PathRead, value, readPath}
 use Rattle.t800.specs.Segments.{width, readComma}
 use Rattle.t800.specs.Reports.{BlockReport, SegmentRecord, absent, reportWords, recordWords, recordWidth}
 use Rattle.t800.specs.State.{Block, notYetPlanes, lengthBits}
@@ -21,7 +21,8 @@ use Rattle.t800.specs.WriteHeader.{isNew, lengthBitsBefore}
 use Rattle.t800.specs.ReadHeader.{HeaderRead, refused, movedTo, withReport, opensSegment, currentLimit, currentPasses, passesTaken}
 use Rattle.t800.specs.ReadHeader.{readSegment, readSegments, readZeroPlanesFrom, readZeroPlanes, firstReport, againReport}
 use Rattle.t800.specs.ReadHeader.{readIncluded, readNewBlock, readOldBlock, readBlock, readBlocks}
-use Rattle.t800.proofs.Laws.Tests.{either, if-eq, if-ne, if-lt, if-ge, on-eq, on-lt}
+use Rattle.t800.proofs.Laws.Tests.{if-eq, if-ne, if-lt, if-ge, on-eq, on-lt}
+use Rattle.t800_laws.proofs.Laws.HeaderSteps.{path-read, thresholds-raised}
 use Rattle.round_trip.proofs.Trip.Segments.{readSoFar}
 use Rattle.t800.proofs.Laws.Lists.{record-words-length}
 use Rattle.lists.proofs.Laws.Filled.{record-put, report-put}
@@ -34,29 +35,6 @@ use Rattle.t2_read_segments.specs.Reading.{segmentsAfter, nextFirst, nextAgain,
 use Rattle.t2_read_segments.proofs.Laws.ManySegments.{no-segments}
 use Rattle.tcd_places.proofs.Laws.Before.{AllBlocks, Before, same-word}
 use Rattle.t2_read_block_parts.proofs.Laws.Kept.{path-keeps}
-
--- ---- trees leave as many words
-
-path-length : (src : List ℕ) (base t : ℕ) (ns : List ℕ) (l : ℕ) (ws : List ℕ) (b : Bio)
-    → length (readPath src base t ns l ws b .words) ≡ length ws
-unfolding readPath
-path-length src base t [] l ws b = refl
-path-length src base t (n ∷ ns) l ws b =
-    let at : ℕ = base + 3 * n in
-    let from : ℕ = max l (low ws at) in
-    let r = readNode src (t - from) (value ws at) from b in
-    path-length src base t ns (r .low) (set (set ws at (r .value)) (at + 1) (r .low)) (r .bio)
-    ∙ length-set (set ws at (r .value)) (at + 1) (r .low) ∙ length-set ws at (r .value)
-
-raising-length : (src : List ℕ) (k : Block) (f t : ℕ) (ws : List ℕ) (b : Bio) → length (readZeroPlanesFrom src k f t ws b .words)
-    ≡ length ws
-unfolding readZeroPlanesFrom
-raising-length src k zero t ws b = refl
-raising-length src k (suc f) t ws b =
-    let r = readPath src (k .zeroTree) t (reverse (k .path)) 0 ws b in
-    let g = path-length src (k .zeroTree) t (reverse (k .path)) 0 ws b in
-    either (λ (p : PathRead). length (p .words) ≡ length ws) (ltb (value (r .words) (k .zeroTree + 3 * k .leaf)) t) _ _ g
-    (raising-length src k f (t + 1) (r .words) (r .bio) ∙ g)
 
 -- ---- a width above 32
 
@@ -347,7 +325,7 @@ module _ (src reports records : List ℕ) (size : ℕ) where
           ∙ (λ j. included ws b reps recs (eq-eqb (getD ws (k .at) 0) 0 new j) (new j)) in
           subst (EndsAt (i + 1) (nextFirst src i k before)) (sym e)
           (passes-end i ws b reps recs (reportOf 1 v ((k .planes + 2 ^ 32 - v) % 2 ^ 32) (readPasses src (z .bio) .value)) q lent k
-          z 0 3 p (raising-length src k (notYetPlanes + 2) 0 ws b ∙ w) (apart .inside))
+          z 0 3 p (thresholds-raised src k (notYetPlanes + 2) 0 ws b ∙ w) (apart .inside))
 
       again-ends : getD ws (k .at) 0 ≢ 0 → EndsAt (i + 1) (nextAgain src i k before) (readIncluded src room i k (readSoFar ws b reps recs))
       unfolding nextAgain passesRead
@@ -375,7 +353,7 @@ module _ (src reports records : List ℕ) (size : ℕ) where
     unfolding nextNew readNewBlock
     new-ends t ws b reps recs new p q w =
         let r : PathRead = readPath src (k .inclTree) (t + 1) (reverse (k .path)) 0 ws b in
-        let l : length (r .words) ≡ size = path-length src (k .inclTree) (t + 1) (reverse (k .path)) 0 ws b ∙ w in
+        let l : length (r .words) ≡ size = path-read src (k .inclTree) (t + 1) (reverse (k .path)) 0 ws b ∙ w in
         let still : getD (r .words) (k .at) 0
         ≡ 0 = same-word (k .at) (k .at) (r .words) ws
         (path-keeps src (k .at) (k .inclTree) (t + 1) (reverse (k .path)) 0 ws b (apart .incl)) (omega arith) ∙ new in

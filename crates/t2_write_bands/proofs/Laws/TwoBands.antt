@@ -14,7 +14,7 @@ use Rattle.t800.specs.PassCount.{passBits}
 use Rattle.t800.specs.State.{Block, notYetPlanes}
 use Rattle.t800.specs.TagTree.{Coded, codePath, setValue, lowAfter, nodeBits, knownAfter}
 use Rattle.t800.specs.WriteHeader.{isNew, lengthBitsBefore, codeInclusion, codeZeroPlanes, codePasses, codeBlock}
-use Rattle.t800.proofs.Laws.Tests.{either}
+use Rattle.t800_laws.proofs.Laws.WordCounts.{inclusion-coded, planes-coded, block-coded}
 use Rattle.t2_write_block.specs.Runs.{Running, afterCoded, codeNext, codeAll, setNext, setAll}
 use Rattle.t2_write_new_blocks.specs.Bands.{newSet}
 use Rattle.tcd_places.proofs.Laws.Before.{AllBlocks, Before, BlockBefore}
@@ -30,12 +30,6 @@ either-onto false ys x y = refl
 
 front : (xs ys : List ℕ) (i : ℕ) → i < length xs → getD (xs ++ ys) i 0 ≡ getD xs i 0
 front xs ys i h = List·getD-append xs ys 0 i h
-
-path-length : (base t : ℕ) (ns : List ℕ) (l : ℕ) (ws : List ℕ) → length (codePath base t ns l ws .words) ≡ length ws
-unfolding codePath
-path-length base t [] l ws = refl
-path-length base t (n ∷ ns) l ws = path-length base t ns _ _ ∙ length-set (set ws (base + 3 * n + 1) _) (base + 3 * n + 2) _
-    ∙ length-set ws (base + 3 * n + 1) _
 
 path-front : (base t : ℕ) (ns : List ℕ) (l : ℕ) (xs ys : List ℕ) → Before (length xs) base ns → codePath base t ns l (xs ++ ys)
     ≡ onto ys (codePath base t ns l xs)
@@ -111,28 +105,6 @@ module _ (q : ℕ) (k : Block) (b : BlockBefore q k) (xs ys : List ℕ) (m : len
         words = w i;
       })
 
-incl-length : (t c : ℕ) (k : Block) (ws : List ℕ) → length (codeInclusion t k c ws .words) ≡ length ws
-unfolding codeInclusion
-incl-length t c k ws =
-    either (λ (d : Coded). length (d .words) ≡ length ws) (isNew ws k) _ _
-    (path-length (k .inclTree) (t + 1) (reverse (k .path)) 0 ws) refl
-
-planes-length : (k : Block) (ws : List ℕ) → length (codeZeroPlanes k ws .words) ≡ length ws
-unfolding codeZeroPlanes
-planes-length k ws =
-    either (λ (d : Coded). length (d .words) ≡ length ws) (isNew ws k) _ _
-    (path-length (k .zeroTree) notYetPlanes (reverse (k .path)) 0 ws) refl
-
-passes-length : (k : Block) (c : ℕ) (segments : List Segment) (ws : List ℕ) → length (codePasses k c segments ws .words) ≡ length ws
-unfolding codePasses
-passes-length k c segments ws = length-set (set ws (k .at) _) (k .at + 1) _ ∙ length-set ws (k .at) _
-
-block-length : (t c : ℕ) (k : Block) (segments : List Segment) (ws : List ℕ) → length (codeBlock t k c segments ws .words) ≡ length ws
-unfolding codeBlock
-block-length t c k segments ws =
-    either (λ (d : Coded). length (d .words) ≡ length ws) (eqb c 0) _ _ (incl-length t c k ws)
-    (passes-length k c segments _ ∙ planes-length k _ ∙ incl-length t c k ws)
-
 block-front : (q : ℕ) (k : Block) (b : BlockBefore q k) (xs ys : List ℕ) (m : length xs ≡ q) (t c : ℕ) (segments : List Segment)
     → codeBlock t k c segments (xs ++ ys) ≡ onto ys (codeBlock t k c segments xs)
 unfolding codeBlock
@@ -143,9 +115,9 @@ block-front q k b xs ys m t c segments =
     let all : Coded → Coded → Coded → Coded = λ x y w. record { bits = x .bits ++ y .bits ++ w .bits; words = w .words } in
     let chosen : Coded → Coded → Coded → Coded = λ x y w. cond (eqb c 0) x (all x y w) in
     let e = incl-front q k b xs ys m t c in
-    let f = ap (λ (d : Coded). codeZeroPlanes k (d .words)) e ∙ planes-front q k b (i .words) ys (incl-length t c k xs ∙ m) in
+    let f = ap (λ (d : Coded). codeZeroPlanes k (d .words)) e ∙ planes-front q k b (i .words) ys (inclusion-coded t k c xs ∙ m) in
     let g = ap (λ (d : Coded). codePasses k c segments (d .words)) f
-    ∙ passes-front q k b (z .words) ys (planes-length k (i .words) ∙ incl-length t c k xs ∙ m) c segments in
+    ∙ passes-front q k b (z .words) ys (planes-coded k (i .words) ∙ inclusion-coded t k c xs ∙ m) c segments in
     (λ j. chosen (e j) (f j) (g j)) ∙ either-onto (eqb c 0) ys i (all i z p)
 
 -- ---- setting in the back part
@@ -221,7 +193,7 @@ parts q t c i k segments cs js xs ys m b a =
     let f : codeBlock t k c segments (xs ++ ys) ≡ onto ys d = block-front q k b xs ys m t c segments in
     ap (codeBlock t k c segments) (back xs m)
     ∙ block-front q k b xs zs m t c segments
-    ∙ (λ j. record { bits = d .bits; words = sym (back (d .words) (block-length t c k segments xs ∙ m)) j })
+    ∙ (λ j. record { bits = d .bits; words = sym (back (d .words) (block-coded t k c segments xs ∙ m)) j })
     ∙ sym (ap (λ (x : Coded). record { bits = x .bits; words = setAll t cs js i (x .words) }) f)
 
 pub block-then-set : (q t c i : ℕ) (k : Block) (segments : List Segment) (cs : List ℕ) (js : List Block) (ws : List ℕ)
@@ -242,7 +214,7 @@ next-then-set q t i cs ls ms k js s h b a = ap (afterCoded s (getD cs (s .block)
 
 pub next-length : (t : ℕ) (cs ls ms : List ℕ) (k : Block) (s : Running) → length (codeNext t cs ls ms k s .words) ≡ length (s .words)
 unfolding codeNext
-next-length t cs ls ms k s = block-length t _ k _ (s .words)
+next-length t cs ls ms k s = block-coded t k _ _ (s .words)
 
 -- a band's blocks coded before or after a later band's new blocks are set
 pub code-then-set : (q t i : ℕ) (cs ls ms : List ℕ) (ks js : List Block) (s : Running) → q ≤ length (s .words)

@@ -1,5 +1,4 @@
 -- `tonkelvi_packets::write` meets its contract.
-use borrow.Author.Needs.{needs}
 use Rattle.t800.specs.WriteHeader.{contribution}
 use Rattle.tonkelvi_packets.proofs.Laws.{write-unlisted, write-listed}
 use Rattle.tonkelvi_packets.proofs.write.Statement.{statement}

@@ -1,0 +1,109 @@
+-- What every step of reading a header keeps, the whole header keeps. No step makes the state longer or shorter.
+use mathlib.Core.Path.{_≡_, refl, _∙_}
+use mathlib.Core.Bool.{_&&_}
+use mathlib.Core.List.{List, [], _∷_, reverse}
+use Prim.Native.Nat.{ℕ, zero, suc, _+_, _-_, _*_}
+use lib.ListN.{length, set, length-set}
+use lib.Dec.{ltb, leb, eqb}
+use Rattle.t800.specs.declared.Bio.{Bio}
+use Rattle.t800.specs.Refusals.{widthRefusal, headerEndRefusal, recordsRefusal}
+use Rattle.t800.specs.Bits.{getBit, endsInFF}
+use Rattle.t800.specs.TagTree.{PathRead, value, readPath}
+use Rattle.t800.specs.Segments.{width}
+use Rattle.t800.specs.State.{Block, notYetPlanes, blocks, bands, layer, lengthBits}
+use Rattle.t800.specs.Reports.{BlockReport, SegmentRecord}
+use Rattle.t800.specs.WriteHeader.{isNew}
+use Rattle.t800.specs.ReadHeader.{HeaderRead, refused, movedTo, withReport, withRecord, passesTaken, readSegment, readSegments}
+use Rattle.t800.specs.ReadHeader.{readZeroPlanesFrom, readZeroPlanes, readIncluded, readNewBlock, readOldBlock, readBlock, readBlocks}
+use Rattle.t800.specs.ReadHeader.{readHeader}
+use Rattle.t800.proofs.Laws.Tests.{either}
+
+-- ---- trees
+
+pub path-read : (src : List ℕ) (base t : ℕ) (ns : List ℕ) (l : ℕ) (ws : List ℕ) (b : Bio)
+    → length (readPath src base t ns l ws b .words) ≡ length ws
+unfolding readPath
+path-read src base t [] l ws b = refl
+path-read src base t (n ∷ ns) l ws b = path-read src base t ns _ _ _ ∙ length-set (set ws (base + 3 * n) _) (base + 3 * n + 1) _
+    ∙ length-set ws (base + 3 * n) _
+
+pub thresholds-raised : (src : List ℕ) (k : Block) (f t : ℕ) (ws : List ℕ) (b : Bio)
+    → length (readZeroPlanesFrom src k f t ws b .words) ≡ length ws
+unfolding readZeroPlanesFrom
+thresholds-raised src k zero t ws b = refl
+thresholds-raised src k (suc f) t ws b =
+    let r : PathRead = readPath src (k .zeroTree) t (reverse (k .path)) 0 ws b in
+    let g = path-read src (k .zeroTree) t (reverse (k .path)) 0 ws b in
+    either (λ (p : PathRead). length (p .words) ≡ length ws) (ltb (value (r .words) (k .zeroTree + 3 * k .leaf)) t) _ _ g
+    (thresholds-raised src k f (t + 1) (r .words) (r .bio) ∙ g)
+
+planes-read : (src : List ℕ) (k : Block) (r : HeaderRead) → length (readZeroPlanes src k r .words) ≡ length (r .words)
+unfolding readZeroPlanes
+planes-read src k r =
+    either (λ (p : PathRead). length (p .words) ≡ length (r .words)) (isNew (r .words) k) _ _
+    (thresholds-raised src k (notYetPlanes + 2) 0 (r .words) (r .bio)) refl
+
+-- ---- segments, blocks, the header
+
+module _ (src : List ℕ) (room : ℕ) (P : HeaderRead → Type 0) (wide : P (refused widthRefusal)) (full : P (refused recordsRefusal))
+    (ends : P (refused headerEndRefusal))
+    (moved : (ws : List ℕ) (b : Bio) (r : HeaderRead) → length ws ≡ length (r .words) → P r → P (movedTo ws b r))
+    (reported : (a : BlockReport) (r : HeaderRead) → P r → P (withReport a r))
+    (recorded : (a : SegmentRecord) (r : HeaderRead) → P r → P (withRecord a r)) where
+  segment-keeps : (i : ℕ) (k : Block) (n : ℕ) (r : HeaderRead) → P r → P (readSegment src room i k n r)
+  unfolding readSegment
+  segment-keeps i k n r h =
+      either P (ltb 32 (width (lengthBits (r .words) (k .at)) n)) _ _ wide
+      (either P (leb room (length (r .records))) _ _ full
+      (recorded _ _ (moved _ _ r (length-set (set (r .words) (k .at + 2) _) (k .at + 3) _ ∙ length-set (r .words) (k .at + 2) _) h)))
+
+  segments-keep : (i : ℕ) (k : Block) (f left : ℕ) (r : HeaderRead) → P r → P (readSegments src room i k f left r)
+  unfolding readSegments
+  segments-keep i k zero left r h = h
+  segments-keep i k (suc f) left r h =
+      let n : ℕ = passesTaken (r .words) k left in
+      let a = segment-keeps i k n r h in
+      let s : HeaderRead = readSegment src room i k n r in
+      either P (eqb (s .refusal) 0 && ltb 0 (left - n)) _ _ (segments-keep i k f (left - n) s a) a
+
+  included-keeps : (i : ℕ) (k : Block) (r : HeaderRead) → P r → P (readIncluded src room i k r)
+  unfolding readIncluded
+  included-keeps i k r h =
+      let vs : List ℕ = readZeroPlanes src k r .words in
+      segments-keep i k _ _ _
+      (reported _ _
+      (moved _ _ r (length-set (set vs (k .at) _) (k .at + 1) _ ∙ length-set vs (k .at) _ ∙ planes-read src k r) h))
+
+  new-keeps : (t i : ℕ) (k : Block) (r : HeaderRead) → P r → P (readNewBlock src room t i k r)
+  unfolding readNewBlock
+  new-keeps t i k r h =
+      let w : PathRead = readPath src (k .inclTree) (t + 1) (reverse (k .path)) 0 (r .words) (r .bio) in
+      let m : P (movedTo (w .words) (w .bio) r) =
+      moved (w .words) (w .bio) r (path-read src (k .inclTree) (t + 1) (reverse (k .path)) 0 (r .words) (r .bio)) h in
+      either P (ltb (value (w .words) (k .inclTree + 3 * k .leaf)) (t + 1)) _ _ (included-keeps i k _ m) (reported _ _ m)
+
+  old-keeps : (i : ℕ) (k : Block) (r : HeaderRead) → P r → P (readOldBlock src room i k r)
+  unfolding readOldBlock
+  old-keeps i k r h =
+      let m : P (movedTo (r .words) (getBit src (r .bio) .bio) r) = moved (r .words) _ r refl h in
+      either P (eqb (getBit src (r .bio) .value) 0) _ _ (reported _ _ m) (included-keeps i k _ m)
+
+  block-keeps : (t i : ℕ) (k : Block) (r : HeaderRead) → P r → P (readBlock src room t i k r)
+  unfolding readBlock
+  block-keeps t i k r h = either P (isNew (r .words) k) _ _ (new-keeps t i k r h) (old-keeps i k r h)
+
+  blocks-keep : (t i : ℕ) (ks : List Block) (r : HeaderRead) → P r → P (readBlocks src room t i ks r)
+  unfolding readBlocks
+  blocks-keep t i [] r h = h
+  blocks-keep t i (k ∷ ks) r h =
+      let a = block-keeps t i k r h in
+      let s : HeaderRead = readBlock src room t i k r in
+      either P (eqb (s .refusal) 0) _ _ (blocks-keep t (i + 1) ks s a) a
+
+  pub header-keeps : (ws : List ℕ) (b : Bio) → P (record { refusal = 0; words = ws; bio = b; reports = []; records = [] })
+      → P (readHeader src room ws b)
+  unfolding readHeader
+  header-keeps ws b h =
+      let r : HeaderRead = record { refusal = 0; words = ws; bio = b; reports = []; records = [] } in
+      let s : HeaderRead = readBlocks src room (layer ws) 0 (blocks (bands ws)) r in
+      either P (eqb (s .refusal) 0 && endsInFF src (s .bio)) _ _ ends (blocks-keep (layer ws) 0 (blocks (bands ws)) r h)
