@@ -1,1 +1,1 @@
-// The round trip and what it rests on (docs/ARCHITECTURE.md): theorems about the definitions of `t800`, with no code.
+// Demands 1 and 3 of every interface that meets the definitions of `t800`, and what follows for packets (docs/ARCHITECTURE.md), with no code.

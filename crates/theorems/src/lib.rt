@@ -1,1 +1,1 @@
-// Demands 1 and 3 of the calls, with no code.
+// Demands 1 and 3 of the calls and of the exported ones, with no code.
