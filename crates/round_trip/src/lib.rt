@@ -1,1 +1,1 @@
-// Demands 1 and 3 of every interface that meets the definitions of `t800`, and what follows for packets (docs/ARCHITECTURE.md), with no code.
+// Demands 1 and 3 of every interface that meets the definitions of `t800`, and what follows for packets, with no code.
