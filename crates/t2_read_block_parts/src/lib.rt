@@ -15,8 +15,8 @@ fn read_passes(words: &mut [u32], src: &[u8], b: Bio, at: usize, before: u32, bi
     requires { ⌜ (b .ct ≤ 8) × (at + 3 < length (now words)) × (before + 164 < 2 ^ 32) × (bits ≤ 32) ⌝ }
     ensures { λ r. ⌜ valueAfter (now (words .exit)) r ≡ passesRead (now (src .entry)) at before bits (now (words .entry)) b ⌝ }
 {
-    let n = t2_codes::opj_t2_getnumpasses(src, b);
-    let more = t2_codes::opj_t2_getcommacode(src, n.bio);
+    let n = t2_read_codes::opj_t2_getnumpasses(src, b);
+    let more = t2_read_codes::opj_t2_getcommacode(src, n.bio);
     words[at] = before + n.value;
     words[at + 1] = bits + more.value;
     let bio = more.bio;

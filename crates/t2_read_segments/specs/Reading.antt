@@ -18,7 +18,7 @@ use Rattle.t800.specs.WriteHeader.{isNew}
 use Rattle.t800.specs.ReadHeader.{HeaderRead, opensSegment, currentLimit, currentPasses, passesTaken, readZeroPlanesFrom}
 use Rattle.lists.specs.Rows.{putReport, putRecord}
 use Rattle.tgt_read.specs.Reading.{ValueAfter}
-use Rattle.t2_codes.specs.CommaCode.{readCommaLimited}
+use Rattle.t2_read_codes.specs.CommaCode.{readCommaLimited}
 use Rattle.t2_read_segments.specs.declared.Run.{Run}
 
 -- the lent words, reports and records, where the bits stand, how many records there are, and the refusal, or 0

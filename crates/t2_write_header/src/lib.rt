@@ -24,7 +24,7 @@ pub fn encode_header(
     let bands = tcd_first_words::bands_of(words);
     let n = words[1] as usize;
     let layer = words[3];
-    let codes = t2_codes::pass_codes::PASS_CODES;
+    let codes = t2_write_codes::pass_codes::PASS_CODES;
     let b = bio_bytes::opj_bio_init_enc(start);
     let first = bio_lent::bit_out(out, b, 1);
     let last = t2_write_bands::code_bands(

@@ -7,7 +7,7 @@ ghost use lib.Dec.{T};
 ghost use lib.ListN.{length};
 ghost use Rattle.t800.specs.Segments.{segmentsOf, lengthFields};
 ghost use Rattle.bio_bytes.specs.Writing.{output, putBits, FreeBitsClear};
-ghost use Rattle.t2_codes.specs.PassTable.{isPassTable};
+ghost use Rattle.t2_write_codes.specs.PassTable.{isPassTable};
 ghost use Rattle.t2_segments.specs.Segments.{segment, anyTooWide, blockTooWide};
 ghost use Rattle.t2_write_lengths.specs.Lengths.{BlockPasses, lengthsPut, putLengths};
 use t2_segments::CodedSegment;
@@ -56,8 +56,8 @@ fn put_all_lengths(
 {
     let more = t2_segments::segment_increment(lengths, marks, before);
     let lenbits = before + more;
-    let counted = t2_codes::put_pass_codeword(codes, out, b, count);
-    let widened = t2_codes::opj_t2_putcommacode(out, counted, more);
+    let counted = t2_write_codes::put_pass_codeword(codes, out, b, count);
+    let widened = t2_write_codes::opj_t2_putcommacode(out, counted, more);
     let bio = code_lengths(out, widened, lengths, marks, lenbits);
     LengthsPut { bits: lenbits, bio }
 }
@@ -80,8 +80,8 @@ fn put_one_length(
     let more = t2_segments::bits_missing(bytes, s.passes, before);
     let lenbits = before + more;
     let width = t2_segments::field_width(lenbits as u64, s.passes);
-    let counted = t2_codes::put_pass_codeword(codes, out, b, count);
-    let widened = t2_codes::opj_t2_putcommacode(out, counted, more);
+    let counted = t2_write_codes::put_pass_codeword(codes, out, b, count);
+    let widened = t2_write_codes::opj_t2_putcommacode(out, counted, more);
     let bio = bio_write::opj_bio_write(out, widened, bytes, width as u32);
     LengthsPut { bits: lenbits, bio }
 }

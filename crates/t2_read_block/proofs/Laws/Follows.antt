@@ -27,9 +27,9 @@ use Rattle.round_trip.proofs.Trip.Segments.{readSoFar}
 use Rattle.t800.proofs.Laws.Lists.{record-words-length}
 use Rattle.lists.proofs.Laws.Filled.{record-put, report-put}
 use Rattle.lists.specs.Rows.{putRow}
-use Rattle.t2_codes.specs.CommaCode.{mostOnes, readCommaLimited}
-use Rattle.t2_codes.proofs.Laws.PassCount.{passes-between}
-use Rattle.t2_codes.proofs.Laws.CommaCode.{comma-below, comma-value}
+use Rattle.t2_read_codes.specs.CommaCode.{mostOnes, readCommaLimited}
+use Rattle.t2_read_codes.proofs.Laws.PassCount.{passes-between}
+use Rattle.t2_read_codes.proofs.Laws.CommaCode.{comma-below, comma-value}
 use Rattle.t2_read_segments.specs.Reading.{Reading, stopped, movedOn, reported, nextSegment, nextSegments, passesRead}
 use Rattle.t2_read_segments.specs.Reading.{segmentsAfter, nextFirst, nextAgain, nextNew, nextOld, nextBlock, nextBlocks, heldBy}
 use Rattle.t2_read_segments.proofs.Laws.ManySegments.{no-segments}

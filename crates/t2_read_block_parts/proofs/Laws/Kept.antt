@@ -19,9 +19,9 @@ use Rattle.t800.proofs.Laws.Tests.{either}
 use Rattle.bio_read.proofs.Laws.ReadChunks.{getBit-ct, getBit-place, readBits-ct, readBits-place}
 use Rattle.tgt_read.specs.Reading.{ValueAfter}
 use Rattle.tgt_read.proofs.Laws.Reading.{readPath-ct, readPath-place, raising-ct, raising-place}
-use Rattle.t2_codes.specs.CommaCode.{onesLimit, readCommaLimited}
-use Rattle.t2_codes.proofs.Laws.PassCount.{passes-ct, passes-place, passes-between}
-use Rattle.t2_codes.proofs.Laws.CommaCode.{ones-ct, ones-place}
+use Rattle.t2_read_codes.specs.CommaCode.{onesLimit, readCommaLimited}
+use Rattle.t2_read_codes.proofs.Laws.PassCount.{passes-ct, passes-place, passes-between}
+use Rattle.t2_read_codes.proofs.Laws.CommaCode.{ones-ct, ones-place}
 use Rattle.t2_read_segments.specs.Reading.{Reading, stopped, nextSegment, nextSegments, passesRead, nextFirst, nextAgain, nextNew}
 use Rattle.t2_read_segments.specs.Reading.{nextOld, nextBlock, nextBlocks, BitsIn}
 use Rattle.tcd_places.proofs.Laws.Before.{AllBlocks, Before, BlockBefore}

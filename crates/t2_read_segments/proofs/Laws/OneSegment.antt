@@ -14,7 +14,7 @@ use Rattle.t800.specs.Reports.{recordWidth}
 use Rattle.t800.proofs.Laws.Tests.{if-lt, if-ge, if-le, if-gt}
 use Rattle.lists.specs.Rows.{putRecord}
 use Rattle.tgt_read.specs.Reading.{ValueAfter}
-use Rattle.t2_codes.specs.CommaCode.{readCommaLimited}
+use Rattle.t2_read_codes.specs.CommaCode.{readCommaLimited}
 use Rattle.tcd_places.specs.Places.{blockAt}
 use Rattle.t2_read_segments.specs.declared.Segment.{Segment}
 use Rattle.t2_read_segments.specs.Segments.{limitAfter, currentSegment}

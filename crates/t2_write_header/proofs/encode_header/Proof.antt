@@ -13,7 +13,7 @@ use Rattle.t800.specs.declared.Bio.{Bio}
 use Rattle.t800.specs.State.{bands, blocks}
 use Rattle.bio_bytes.specs.Writing.{Output, output, emptyAt, lastPlace, putBit, FreeBitsClear}
 use Rattle.bio_write.proofs.Laws.FreeBits.{emptyAt-clear, putBit-clear}
-use Rattle.t2_codes.specs.PassTable.{sameBits, isCodeword, isPassTable}
+use Rattle.t2_write_codes.specs.PassTable.{sameBits, isCodeword, isPassTable}
 use Rattle.t2_write_block.specs.Runs.{AllFit}
 use Rattle.t800.specs.WriteHeader.{contribution}
 use Rattle.t2_refusals.proofs.Laws.NotRefused.{not-refused-for}

@@ -1,0 +1,2 @@
+pub mod PassCount
+pub mod CommaCode

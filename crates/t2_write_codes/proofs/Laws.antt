@@ -1,0 +1,2 @@
+pub mod PassTable
+pub mod CommaBits
