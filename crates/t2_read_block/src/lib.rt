@@ -64,7 +64,7 @@ fn read_old(
         ≡ nextOld (now (src .entry)) block (blockAt at)
         (reading (now (words .entry)) (now (reports .entry)) (now (records .entry)) r) ⌝ }
 {
-    let bit = bio_lent::bit_in(src, r.bio);
+    let bit = bio_read_lent::bit_in(src, r.bio);
     let run = t2_read_block_parts::moved(r, bit.bio);
     if bit.value == 0 {
         lists::put_report(reports, block, 0, 0, 0, 0);

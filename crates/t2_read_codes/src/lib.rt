@@ -39,12 +39,12 @@ pub fn opj_t2_getnumpasses(src: &[u8], b: Bio) -> Decoded
     requires { ⌜ b .ct ≤ 8 ⌝ }
     ensures { λ r. ⌜ decoded r ≡ readPasses (now (src .entry)) b ⌝ }
 {
-    let first = bio_lent::bit_in(src, b);
+    let first = bio_read_lent::bit_in(src, b);
     if first.value == 0 {
         let bio = first.bio;
         return Decoded { value: 1, bio };
     }
-    let second = bio_lent::bit_in(src, first.bio);
+    let second = bio_read_lent::bit_in(src, first.bio);
     if second.value == 0 {
         let bio = second.bio;
         return Decoded { value: 2, bio };
@@ -73,7 +73,7 @@ pub fn opj_t2_getcommacode(src: &[u8], b: Bio) -> Decoded
     let mut value = 0;
     let mut left = ones_limit(src);
     while 0 < left {
-        let r = bio_lent::bit_in(src, bio);
+        let r = bio_read_lent::bit_in(src, bio);
         bio = r.bio;
         if r.value == 0 {
             return Decoded { value, bio };

@@ -23,7 +23,7 @@ pub fn read(
     }
     let s = t2_read_marks::read_marker(m.sop, Marker::SOP, src, 0);
     let start = bio_read::opj_bio_init_dec(s.skip);
-    let first = bio_lent::bit_in(src, start);
+    let first = bio_read_lent::bit_in(src, start);
     if first.value == 0 {
         return t2_read_settle::read_absent(state, scratch, reports, src, m, s, first.bio);
     }

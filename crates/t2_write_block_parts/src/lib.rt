@@ -65,7 +65,7 @@ pub fn code_inclusion(
         return tgt_write::opj_tgt_encode(words, out, b, p.incl, row, p.depth, p.x, layer + 1);
     }
     let bit = included(count);
-    bio_lent::bit_out(out, b, bit)
+    bio_write_lent::bit_out(out, b, bit)
 }
 
 // At first inclusion.

@@ -26,7 +26,7 @@ pub fn encode_header(
     let layer = words[3];
     let codes = t2_write_codes::pass_codes::PASS_CODES;
     let b = bio_bytes::opj_bio_init_enc(start);
-    let first = bio_lent::bit_out(out, b, 1);
+    let first = bio_write_lent::bit_out(out, b, 1);
     let last = t2_write_bands::code_bands(
         &codes,
         words,

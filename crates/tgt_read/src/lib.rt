@@ -61,7 +61,7 @@ fn seek_one(src: &[u8], b: Bio, value: u32, low: u32) -> NodeRead
     requires { ⌜ (b .ct ≤ 8) × (low < value) ⌝ }
     ensures { λ r. ⌜ nodeRead r ≡ readNode (now (src .entry)) 1 value low b ⌝ }
 {
-    let r = bio_lent::bit_in(src, b);
+    let r = bio_read_lent::bit_in(src, b);
     let bio = r.bio;
     if r.value == 0 {
         let raised = low + 1;

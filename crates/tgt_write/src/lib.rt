@@ -45,7 +45,7 @@ fn tell(words: &mut [u32], out: &mut [u8], b: Bio, at: usize) -> Bio
     let known = words[at];
     words[at] = 1;
     if known == 0 {
-        return bio_lent::bit_out(out, b, 1);
+        return bio_write_lent::bit_out(out, b, 1);
     }
     b
 }
@@ -100,7 +100,7 @@ fn encode_one(words: &mut [u32], out: &mut [u8], b: Bio, at: usize, threshold: u
     let low = threshold - bit;
     words[at + 1] = low;
     words[at + 2] = bit;
-    let bio = bio_lent::bit_out(out, b, bit);
+    let bio = bio_write_lent::bit_out(out, b, bit);
     AfterNode { low, bio }
 }
 

@@ -1,4 +1,4 @@
--- `bio_lent::opj_bio_putbit` meets its contract: a walk of its MIR, by hand. The borrow of the record is opened, the record is
+-- `bio_write_lent::opj_bio_putbit` meets its contract: a walk of its MIR, by hand. The borrow of the record is opened, the record is
 -- copied out, `bio_write::opj_bio_putbit` is called with the output at its own lifetime, share and name, and the record that it
 -- answers is stored and the borrow closed at it.
 use mathlib.Core.Path.{_≡_, refl}
@@ -52,10 +52,10 @@ use Rattle.bio_write.proofs.opj_bio_putbit as g
 use Rattle.bio_write.proofs.opj_bio_putbit.Symbol as g-def
 use Rattle.bio_write.proofs.opj_bio_putbit.Symbol.{name as #bio·putbit}
 use Rattle.bio_write.proofs.opj_bio_putbit.Met as g-thm
-use Rattle.bio_lent.proofs.opj_bio_putbit.Key.{name as #me}
-use Rattle.bio_lent.proofs.opj_bio_putbit as f
-use Rattle.bio_lent.proofs.opj_bio_putbit.Statement as stated
-use Rattle.bio_lent.proofs.opj_bio_putbit.Code as code
+use Rattle.bio_write_lent.proofs.opj_bio_putbit.Key.{name as #me}
+use Rattle.bio_write_lent.proofs.opj_bio_putbit as f
+use Rattle.bio_write_lent.proofs.opj_bio_putbit.Statement as stated
+use Rattle.bio_write_lent.proofs.opj_bio_putbit.Code as code
 
 abbrev stayed : Stays (f.ended .signature .params) (f.ended .kept)
 stayed = (gave-slice (0 ∷ []) tt (plain (λ _. u8)), (stay-ref (1 ∷ []) tt (plain (λ _. T.the-row)), (stay-none (λ _. u32) yes, tt)))

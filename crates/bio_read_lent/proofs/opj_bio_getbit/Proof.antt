@@ -1,4 +1,4 @@
--- `bio_lent::opj_bio_getbit` meets its contract: a walk of its MIR, by hand. The borrow is opened, the record is copied out,
+-- `bio_read_lent::opj_bio_getbit` meets its contract: a walk of its MIR, by hand. The borrow is opened, the record is copied out,
 -- `bio_read::opj_bio_getbit` is called, the record of its answer is stored, and the borrow is closed at it.
 use mathlib.Core.Path.{_≡_, refl, ap}
 use Prim.Native.Nat.{ℕ, _<_, _≤_, _^_}
@@ -55,10 +55,10 @@ use Rattle.bio_read.proofs.opj_bio_getbit as g
 use Rattle.bio_read.proofs.opj_bio_getbit.Symbol as g-def
 use Rattle.bio_read.proofs.opj_bio_getbit.Symbol.{name as #bio·getbit}
 use Rattle.bio_read.proofs.opj_bio_getbit.Met as g-thm
-use Rattle.bio_lent.proofs.opj_bio_getbit.Key.{name as #me}
-use Rattle.bio_lent.proofs.opj_bio_getbit as f
-use Rattle.bio_lent.proofs.opj_bio_getbit.Statement as stated
-use Rattle.bio_lent.proofs.opj_bio_getbit.Code as code
+use Rattle.bio_read_lent.proofs.opj_bio_getbit.Key.{name as #me}
+use Rattle.bio_read_lent.proofs.opj_bio_getbit as f
+use Rattle.bio_read_lent.proofs.opj_bio_getbit.Statement as stated
+use Rattle.bio_read_lent.proofs.opj_bio_getbit.Code as code
 
 abbrev stayed : Stays (f.ended .signature .params) (f.ended .kept)
 stayed = (stay-none-slice (0 ∷ []) tt (plain (λ _. u8)) yes, (stay-ref (1 ∷ []) tt (plain (λ _. T.the-row)), tt))

@@ -1,4 +1,4 @@
--- `bio_lent::bit_out` meets its contract: a walk of its MIR, by hand. The record stands in a local, which is lent by `&mut` for a
+-- `bio_write_lent::bit_out` meets its contract: a walk of its MIR, by hand. The record stands in a local, which is lent by `&mut` for a
 -- lifetime that the walk makes; the callee's last value of it is what lies there when the lifetime is over.
 use mathlib.Core.Path.{_≡_, refl, sym, ap, subst}
 use lib.Dec.{T as Holds}
@@ -50,14 +50,14 @@ use Rattle.bio_bytes.specs.Writing.{FreeBitsClear, output, putBit}
 use Rattle.t800.specs.declared.Bio.{Bio}
 use Rattle.t800.proofs.Bio as T
 use Rattle.t800.proofs.Bio.Laws as T′
-use Rattle.bio_lent.proofs.opj_bio_putbit as g
-use Rattle.bio_lent.proofs.opj_bio_putbit.Symbol as g-def
-use Rattle.bio_lent.proofs.opj_bio_putbit.Symbol.{name as #g}
-use Rattle.bio_lent.proofs.opj_bio_putbit.Met as g-thm
-use Rattle.bio_lent.proofs.bit_out.Key.{name as #me}
-use Rattle.bio_lent.proofs.bit_out as f
-use Rattle.bio_lent.proofs.bit_out.Statement as stated
-use Rattle.bio_lent.proofs.bit_out.Code as code
+use Rattle.bio_write_lent.proofs.opj_bio_putbit as g
+use Rattle.bio_write_lent.proofs.opj_bio_putbit.Symbol as g-def
+use Rattle.bio_write_lent.proofs.opj_bio_putbit.Symbol.{name as #g}
+use Rattle.bio_write_lent.proofs.opj_bio_putbit.Met as g-thm
+use Rattle.bio_write_lent.proofs.bit_out.Key.{name as #me}
+use Rattle.bio_write_lent.proofs.bit_out as f
+use Rattle.bio_write_lent.proofs.bit_out.Statement as stated
+use Rattle.bio_write_lent.proofs.bit_out.Code as code
 
 abbrev stayed : Stays (f.ended .signature .params) (f.ended .kept)
 stayed = (gave-slice (0 ∷ []) tt (plain (λ _. u8)), (stay-none (λ _. T.the-row) yes, (stay-none (λ _. u32) yes, tt)))
@@ -228,4 +228,4 @@ bit-out-spec 𝓤 H 𝓜 𝓖 𝓡 =
     entered 𝓤 H (tripleOf 𝓤 H (𝓖 .A) f.signature (f.spec 𝓤 H (𝓖 .A) (𝓜 .mem) (𝓡 .run)))
     (tables 𝓤 H 𝓜 𝓡 code.env .C) (tables 𝓤 H 𝓜 𝓡 code.env .Λ) #me code.function (code.unfolded 𝓤 H 𝓜 𝓡)
     (f-meets 𝓤 H (𝓖 .A) (givenOf 𝓤 H 𝓜 𝓖) (𝓜 .mem) (𝓡 .run) (tablesOf 𝓤 H 𝓜 (tables 𝓤 H 𝓜 𝓡 code.env))
-    (cited 𝓤 H (Put 𝓤 H (𝓖 .A) (𝓜 .mem) (𝓡 .run)) 𝓜 𝓡 code.env #g g-def.routine code.calls-bio-lent·opj-bio-putbit (g-thm.met 𝓤 H 𝓜 𝓖 𝓡)))
+    (cited 𝓤 H (Put 𝓤 H (𝓖 .A) (𝓜 .mem) (𝓡 .run)) 𝓜 𝓡 code.env #g g-def.routine code.calls-bio-write-lent·opj-bio-putbit (g-thm.met 𝓤 H 𝓜 𝓖 𝓡)))

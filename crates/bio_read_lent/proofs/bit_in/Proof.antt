@@ -1,4 +1,4 @@
--- `bio_lent::bit_in` meets its contract: a walk of its MIR, by hand. The record stands in a local, which is lent by `&mut` for a
+-- `bio_read_lent::bit_in` meets its contract: a walk of its MIR, by hand. The record stands in a local, which is lent by `&mut` for a
 -- lifetime that the walk makes; the callee's last value of it is what lies there when the lifetime is over.
 use mathlib.Core.Path.{_≡_, refl, ap}
 use Prim.Native.Nat.{ℕ, _<_, _≤_, _^_}
@@ -53,14 +53,14 @@ use Rattle.t800.proofs.Bio as T
 use Rattle.t800.proofs.Bio.Laws as T′
 use Rattle.bio_read.proofs.Decoded as S
 use Rattle.bio_read.proofs.Decoded.Laws as S′
-use Rattle.bio_lent.proofs.opj_bio_getbit as g
-use Rattle.bio_lent.proofs.opj_bio_getbit.Symbol as g-def
-use Rattle.bio_lent.proofs.opj_bio_getbit.Symbol.{name as #g}
-use Rattle.bio_lent.proofs.opj_bio_getbit.Met as g-thm
-use Rattle.bio_lent.proofs.bit_in.Key.{name as #me}
-use Rattle.bio_lent.proofs.bit_in as f
-use Rattle.bio_lent.proofs.bit_in.Statement as stated
-use Rattle.bio_lent.proofs.bit_in.Code as code
+use Rattle.bio_read_lent.proofs.opj_bio_getbit as g
+use Rattle.bio_read_lent.proofs.opj_bio_getbit.Symbol as g-def
+use Rattle.bio_read_lent.proofs.opj_bio_getbit.Symbol.{name as #g}
+use Rattle.bio_read_lent.proofs.opj_bio_getbit.Met as g-thm
+use Rattle.bio_read_lent.proofs.bit_in.Key.{name as #me}
+use Rattle.bio_read_lent.proofs.bit_in as f
+use Rattle.bio_read_lent.proofs.bit_in.Statement as stated
+use Rattle.bio_read_lent.proofs.bit_in.Code as code
 
 abbrev stayed : Stays (f.ended .signature .params) (f.ended .kept)
 stayed = (stay-none-slice (0 ∷ []) tt (plain (λ _. u8)) yes, (stay-none (λ _. T.the-row) yes, tt))
@@ -235,4 +235,4 @@ bit-in-spec 𝓤 H 𝓜 𝓖 𝓡 =
     entered 𝓤 H (tripleOf 𝓤 H (𝓖 .A) f.signature (f.spec 𝓤 H (𝓖 .A) (𝓜 .mem) (𝓡 .run)))
     (tables 𝓤 H 𝓜 𝓡 code.env .C) (tables 𝓤 H 𝓜 𝓡 code.env .Λ) #me code.function (code.unfolded 𝓤 H 𝓜 𝓡)
     (f-meets 𝓤 H (𝓖 .A) (givenOf 𝓤 H 𝓜 𝓖) (𝓜 .mem) (𝓡 .run) (tablesOf 𝓤 H 𝓜 (tables 𝓤 H 𝓜 𝓡 code.env))
-    (cited 𝓤 H (Get 𝓤 H (𝓖 .A) (𝓜 .mem) (𝓡 .run)) 𝓜 𝓡 code.env #g g-def.routine code.calls-bio-lent·opj-bio-getbit (g-thm.met 𝓤 H 𝓜 𝓖 𝓡)))
+    (cited 𝓤 H (Get 𝓤 H (𝓖 .A) (𝓜 .mem) (𝓡 .run)) 𝓜 𝓡 code.env #g g-def.routine code.calls-bio-read-lent·opj-bio-getbit (g-thm.met 𝓤 H 𝓜 𝓖 𝓡)))
