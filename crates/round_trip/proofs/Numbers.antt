@@ -17,10 +17,10 @@ use Rattle.t800.specs.Packet.{MeasureResult, measureRefusal, measure, WriteResu
 use Rattle.t800.specs.Packet.{readRefusal, headerChecks, firstBit, headerOf, readAbsent, readPresent, read}
 use Rattle.t800.specs.Interface.{StartCall, startOf, WriteCall, measureOf, writeOf, ReadCall, readOf, Calls, Interface}
 use Rattle.t800.specs.Numbers.{NoneHolds, NumberIs, startChecksOf, measureChecksOf, writeChecksOf, readChecksOf, Numbers}
-use Rattle.t800.proofs.Laws.Tests.{if-true, if-false, if-eq, if-ne, either, on-eq}
+use Rattle.t800_laws.proofs.Laws.Tests.{if-true, if-false, if-eq, if-ne, either, on-eq}
 use Rattle.t800_laws.proofs.Laws.HeaderSteps.{header-keeps}
 use Rattle.t800_laws.proofs.Laws.StateAfter.{refused-write-leaves-state, refused-read-leaves-state}
-use Rattle.t800.proofs.Laws.Checks.{NotAmong, not-first, on-bool, first-append}
+use Rattle.t800_laws.proofs.Laws.Checks.{NotAmong, not-first, on-bool, first-append}
 
 -- ---- the first check that holds
 

@@ -16,12 +16,12 @@ use Rattle.t800.specs.Packet.{WriteResult, write, ReadResult, readResult, refus
 use Rattle.t800.specs.Book.{terminatedAsStyle}
 use Rattle.t800.specs.RoundTrip.{Owed, GivesEntry, written, packetMade, accepted, Follows, owed, allTerminatedAsStyle}
 use Rattle.t800.specs.RoundTrip.{ReadsAsOwed, stateAfter, RoundTrip, WriterInRange}
-use Rattle.t800.proofs.Laws.Tests.{if-true, if-false}
+use Rattle.t800_laws.proofs.Laws.Tests.{if-true, if-false}
 use Rattle.theorems.specs.Calls.{calls}
 use Rattle.theorems.proofs.Calls.{round-trip-of-calls, writer-of-calls-in-range}
-use Rattle.t800.proofs.Laws.Lists.{no-planes}
-use Rattle.t800.proofs.Laws.FreshState.{fresh-length}
-use Rattle.t800.proofs.Laws.Accepted.{start-accepted}
+use Rattle.t800_laws.proofs.Laws.Lists.{no-planes}
+use Rattle.t800_laws.proofs.Laws.FreshState.{fresh-length}
+use Rattle.t800_laws.proofs.Laws.Accepted.{start-accepted}
 use Rattle.round_trip.proofs.Trip.Calls as trip
 use Rattle.tcd_state.proofs.Laws.ValidStates.{valid-state}
 use Rattle.t2_layer.specs.Layer.{FirstLayer, Lent, bookOf, writeCallOf, owedOf, readCallOf, writeOfLayer, layerResult, layerBy}

@@ -13,7 +13,7 @@ use Rattle.t800.specs.declared.ReadAnswer.{ReadAnswer}
 use Rattle.t800.specs.State.{reader, layer, notYetIncluded}
 use Rattle.t800.specs.Ranges.{validState}
 use Rattle.t800.specs.Packet.{read}
-use Rattle.t800.proofs.Laws.Tests.{on-eq}
+use Rattle.t800_laws.proofs.Laws.Tests.{on-eq}
 use Rattle.t800.specs.Reports.{recordWidth}
 use Rattle.t800.specs.Exports.{workRefusal}
 use Rattle.t2_read_numbers.specs.Reading.{wrongWork, readNumbers, toFill}

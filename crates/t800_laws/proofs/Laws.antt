@@ -1,3 +1,17 @@
+pub mod Computed
+pub mod Pack
+pub mod Levels
+pub mod Tests
+pub mod Checks
+pub mod Lists
+pub mod HeaderBits
+pub mod Paths
+pub mod Layout
+pub mod FirstWords
+pub mod FreshState
+pub mod SetLeaf
+pub mod Accepted
+pub mod LeastZeroPlanes
 pub mod HeaderSteps
 pub mod WordCounts
 pub mod StateAfter

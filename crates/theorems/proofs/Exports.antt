@@ -15,8 +15,8 @@ use Rattle.t800.specs.Interface.{startOf, startUntouched, measureOf, measureUnt
 use Rattle.t800.specs.Interface.{Interface}
 use Rattle.t800.specs.Numbers.{Numbers}
 use Rattle.t800.specs.RoundTrip.{RoundTrip, WriterInRange}
-use Rattle.t800.proofs.Laws.Tests.{if-true, if-false, either, and-left, and-right}
-use Rattle.t800.proofs.Laws.Checks.{on-bool}
+use Rattle.t800_laws.proofs.Laws.Tests.{if-true, if-false, either, and-left, and-right}
+use Rattle.t800_laws.proofs.Laws.Checks.{on-bool}
 use Rattle.round_trip.proofs.Numbers.{numbers}
 use Rattle.round_trip.proofs.Trip.Interfaces.{round-trip, writer-in-range}
 use Rattle.theorems.specs.Exports.{StartMade, startAsked, startArgs, MeasureMade, measureAsked, measureLeft, WriteMade}

@@ -19,8 +19,8 @@ use Rattle.t800.specs.Reports.{SegmentRecord, recordWords, reportWidth, recordW
 use Rattle.t800.specs.MarkerSegments.{readSop}
 use Rattle.t800.specs.ReadHeader.{HeaderRead, readHeader}
 use Rattle.t800.specs.Packet.{ReadResult, refusedAnswer, readRefusal, readAbsent, readPresent, read, readResult}
-use Rattle.t800.proofs.Laws.Tests.{if-true, if-false, either}
-use Rattle.t800.proofs.Laws.Lists.{record-words-length}
+use Rattle.t800_laws.proofs.Laws.Tests.{if-true, if-false, either}
+use Rattle.t800_laws.proofs.Laws.Lists.{record-words-length}
 use Rattle.round_trip.proofs.Numbers.{header-number}
 use Rattle.t800.specs.declared.Segment.{Segment}
 use Rattle.t800.specs.Exports.{wordsOf, readWords, ReadExit, readExit, workRefusal, readCall}

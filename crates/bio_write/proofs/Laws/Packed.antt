@@ -9,7 +9,7 @@ use lib.ListN.{length, set, length-set}
 use lib.Seq.{sets, set-out}
 use borrow.Author.Tests.{eq-eqb, ne-eqb, eqb-true, eqb-false, ltb-true, ltb-false}
 use Rattle.t800.specs.Bits.{bitsAfter, lastBytes, packFrom, pack}
-use Rattle.t800.proofs.Laws.Pack.{AreBits}
+use Rattle.t800_laws.proofs.Laws.Pack.{AreBits}
 use Rattle.bio_bytes.specs.Writing.{Output, output, emptyAt, lastPlace, placeAfter, byteOut, makeRoom, holdBit, putBit, putBits}
 use Rattle.bio_bytes.specs.Writing.{flush, FreeBitsClear}
 use Rattle.bio_bytes.proofs.Laws.HeldWord.{bioOf}

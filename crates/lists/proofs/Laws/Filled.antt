@@ -8,7 +8,7 @@ use lib.Seq.{sets-eq, take-at, drop-drop, drop-append-add}
 use borrow.Author.Tests.{lt-ltb}
 use Rattle.t800.specs.Base.{overwrite}
 use Rattle.t800.specs.Reports.{BlockReport, SegmentRecord, reportWidth, recordWidth, reportWords, recordWords}
-use Rattle.t800.proofs.Laws.Lists.{record-words-length}
+use Rattle.t800_laws.proofs.Laws.Lists.{record-words-length}
 use Rattle.lists.specs.Rows.{putRow, putReport, putRecord}
 
 -- row n over a list whose first n rows are xs

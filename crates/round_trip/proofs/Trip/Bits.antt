@@ -14,8 +14,8 @@ use borrow.Author.Tests.{eq-eqb, ne-eqb}
 use Rattle.t800.specs.declared.Bio.{Bio}
 use Rattle.t800.specs.Bits as B
 use Rattle.t800.specs.Bits.{Decoded, bioAt, byteIn, heldBit, getBit, bitsAfter, lastBytes, pack, inFF, endsInFF, bytesTaken}
-use Rattle.t800.proofs.Laws.Pack.{AreBits}
-use Rattle.t800.proofs.Laws.Tests.{if-eq, if-ne, on-eq, on-lt, drop-head}
+use Rattle.t800_laws.proofs.Laws.Pack.{AreBits}
+use Rattle.t800_laws.proofs.Laws.Tests.{if-eq, if-ne, on-eq, on-lt, drop-head}
 
 abbrev bioWith : ℕ → ℕ → ℕ → Bio
 bioWith p u c = record { bp = p; buf = u; ct = c }

@@ -19,8 +19,8 @@ use Rattle.t800.specs.WriteHeader.{isNew, lengthBitsBefore, codeInclusion, code
 use Rattle.t800.specs.ReadHeader.{HeaderRead, readSegments, readZeroPlanesFrom, readZeroPlanes, firstReport, againReport}
 use Rattle.t800.specs.ReadHeader.{readIncluded, readNewBlock, readOldBlock, readBlock}
 use Rattle.t800.specs.Book.{BlockEntry, reportOf, recordsOf, terminatedAt}
-use Rattle.t800.proofs.Laws.Tests.{on-eq, on-lt, if-lt, if-ge, if-true, if-false, if-eq, if-ne}
-use Rattle.t800.proofs.Laws.Layout.{inclusion, zeroPlanes, leafOf, Layout, Placed, leaf-node}
+use Rattle.t800_laws.proofs.Laws.Tests.{on-eq, on-lt, if-lt, if-ge, if-true, if-false, if-eq, if-ne}
+use Rattle.t800_laws.proofs.Laws.Layout.{inclusion, zeroPlanes, leafOf, Layout, Placed, leaf-node}
 use Rattle.round_trip.proofs.Trip.Bits.{nextBit, Reads, reads-split}
 use Rattle.round_trip.proofs.Trip.Codes.{decoded, passes-read, comma-read, LengthsFit, lengths-fit}
 use Rattle.round_trip.proofs.Trip.Trees.{NodesChanged, coding-keeps, path-read, planes-read}

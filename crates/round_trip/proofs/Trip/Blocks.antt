@@ -16,8 +16,8 @@ use Rattle.t800.specs.State.{Block, notYetIncluded, passesSoFar}
 use Rattle.t800.specs.WriteHeader.{codeBlock, codeBlocks, fieldTooWide}
 use Rattle.t800.specs.ReadHeader.{HeaderRead, readBlock, readBlocks}
 use Rattle.t800.specs.Book.{BlockEntry, Entry, reportOf, recordsOf, entryFrom, terminatedAt, terminatedAsStyle}
-use Rattle.t800.proofs.Laws.Tests.{or-left, or-right}
-use Rattle.t800.proofs.Laws.Layout.{inclusion, zeroPlanes, leafOf, Layout, SeparateFromAll, AllPlaced, leaf-node}
+use Rattle.t800_laws.proofs.Laws.Tests.{or-left, or-right}
+use Rattle.t800_laws.proofs.Laws.Layout.{inclusion, zeroPlanes, leafOf, Layout, SeparateFromAll, AllPlaced, leaf-node}
 use Rattle.round_trip.proofs.Trip.Bits.{Reads, reads-split}
 use Rattle.round_trip.proofs.Trip.Segments.{readSoFar}
 use Rattle.round_trip.proofs.Trip.Changes.{ValuesOnly, nodes-only, block-stays, BlockCoded, block-coded}

@@ -10,7 +10,7 @@ use lib.Seq.{getD-set-other}
 use Rattle.t800.specs.TagTree.{value}
 use Rattle.t800.specs.State.{Block, notYetIncluded, notYetPlanes, passesSoFar}
 use Rattle.t800.specs.Book.{BlockEntry, addCounts}
-use Rattle.t800.proofs.Laws.Layout.{Tree, inclusion, zeroPlanes, leafOf, Layout, AllPlaced, leaf-node}
+use Rattle.t800_laws.proofs.Laws.Layout.{Tree, inclusion, zeroPlanes, leafOf, Layout, AllPlaced, leaf-node}
 use Rattle.round_trip.proofs.Trip.Changes.{ValuesOnly, nodes-only, block-stays, PassesAdded}
 use Rattle.round_trip.proofs.Trip.SetLeaves.{Leaves, LayerSet}
 

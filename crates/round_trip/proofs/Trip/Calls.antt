@@ -24,9 +24,9 @@ use Rattle.t800.specs.Book.{BlockEntry, addCounts, terminatedAsStyle}
 use Rattle.t800.specs.Interface.{WriteCall, writeOf, ReadCall, readOf}
 use Rattle.round_trip.proofs.Trip.Lists.{WriterCall, measuring, writing, accepted, owedFor, owed, allTerminatedAsStyle}
 use Rattle.t800.specs.Reports.{recordWidth}
-use Rattle.t800.proofs.Laws.Checks.{first-append}
-use Rattle.t800.proofs.Laws.Tests.{not-refused, either, if-true, if-false}
-use Rattle.t800.proofs.Laws.Lists.{lists-right}
+use Rattle.t800_laws.proofs.Laws.Checks.{first-append}
+use Rattle.t800_laws.proofs.Laws.Tests.{not-refused, either, if-true, if-false}
+use Rattle.t800_laws.proofs.Laws.Lists.{lists-right}
 use Rattle.round_trip.proofs.Trip.WriterState.{Acceptable}
 
 -- ---- writing

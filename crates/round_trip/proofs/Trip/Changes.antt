@@ -12,11 +12,11 @@ use Rattle.t800.specs.TagTree.{Coded, value, low, known, setValue}
 use Rattle.t800.specs.Segments.{Segment, segmentsOf}
 use Rattle.t800.specs.State.{Block, notYetPlanes, passesSoFar}
 use Rattle.t800.specs.WriteHeader.{isNew, codeInclusion, codeZeroPlanes, codePasses, codeBlock, codeBlocks}
-use Rattle.t800.proofs.Laws.Tests.{either, on-eq, if-eq, if-ne}
-use Rattle.t800.proofs.Laws.Paths.{All, NotIn}
-use Rattle.t800.proofs.Laws.Layout.{Tree, inclusion, zeroPlanes, treeOf, Layout, Placed, SeparateFromAll, AllPlaced, leafToRoot}
-use Rattle.t800.proofs.Laws.Layout.{path-nodes, second-no-node, third-no-node}
-use Rattle.t800.proofs.Laws.SetLeaf.{length-setValue, off-path-stays, every-word}
+use Rattle.t800_laws.proofs.Laws.Tests.{either, on-eq, if-eq, if-ne}
+use Rattle.t800_laws.proofs.Laws.Paths.{All, NotIn}
+use Rattle.t800_laws.proofs.Laws.Layout.{Tree, inclusion, zeroPlanes, treeOf, Layout, Placed, SeparateFromAll, AllPlaced, leafToRoot}
+use Rattle.t800_laws.proofs.Laws.Layout.{path-nodes, second-no-node, third-no-node}
+use Rattle.t800_laws.proofs.Laws.SetLeaf.{length-setValue, off-path-stays, every-word}
 use Rattle.round_trip.proofs.Trip.Nodes.{Node}
 use Rattle.round_trip.proofs.Trip.NodeWords.{nodeAt}
 use Rattle.round_trip.proofs.Trip.Trees.{NodesOnly, LowsOnly, coding-keeps}

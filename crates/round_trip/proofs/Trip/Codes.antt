@@ -14,7 +14,7 @@ use Rattle.t800.specs.Base.{halvings, floorLog2}
 use Rattle.t800.specs.Bits.{Decoded, bitsOf, readBitsOnto, readBits}
 use Rattle.t800.specs.PassCount.{plus, passBits, readPasses}
 use Rattle.t800.specs.Segments.{Segment, width, bitLength, increment, commaBits, readOnes, readComma}
-use Rattle.t800.proofs.Laws.Tests.{if-eq, if-ne, if-lt, if-ge, on-lt, if-le, if-gt, on-le}
+use Rattle.t800_laws.proofs.Laws.Tests.{if-eq, if-ne, if-lt, if-ge, on-lt, if-le, if-gt, on-le}
 use Rattle.round_trip.proofs.Trip.Bits.{nextBit, bioAfter, Reads, reads-held, reads-split, ones-bounded}
 
 abbrev pub decoded : ℕ → Bio → Decoded

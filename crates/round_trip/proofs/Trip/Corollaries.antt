@@ -22,12 +22,12 @@ use Rattle.t800.specs.Interface.{WriteCall, writeOf, ReadCall, readOf}
 use Rattle.t800.specs.RoundTrip.{Owed, ReadsPacket, GivesEntry}
 use Rattle.round_trip.proofs.Trip.Lists.{WriterCall, measuring, writing, accepted, stateAfter, owedFor, owed, allTerminatedAsStyle}
 use Rattle.round_trip.proofs.Trip.Lists.{ReaderCall, refusedRead, packetRead}
-use Rattle.t800.proofs.Laws.Tests.{either, if-eq, if-ne, if-true, if-false, on-eq}
-use Rattle.t800.proofs.Laws.Lists.{record-words-length, none-too-deep}
+use Rattle.t800_laws.proofs.Laws.Tests.{either, if-eq, if-ne, if-true, if-false, on-eq}
+use Rattle.t800_laws.proofs.Laws.Lists.{record-words-length, none-too-deep}
 use Rattle.round_trip.proofs.Trip.Booked.{entries-length}
 use Rattle.round_trip.proofs.Trip.Calls.{refused-keeps, terminated-accepted, terminated-refused, FirstOwed, first-owed}
 use Rattle.round_trip.proofs.Trip.Calls.{refused-read-keeps}
-use Rattle.t800.proofs.Laws.Accepted.{start-accepted}
+use Rattle.t800_laws.proofs.Laws.Accepted.{start-accepted}
 use Rattle.round_trip.proofs.Trip.WriterInRange.{acceptable}
 use Rattle.round_trip.proofs.Trip.Invariant.{Invariant, after-start, reports-are, packet-gives, after-packet, read-harmless}
 

@@ -16,7 +16,7 @@ use Rattle.t800.specs.State.{Block, blocks, bands, layer, lengthBits}
 use Rattle.t800.specs.WriteHeader.{isNew}
 use Rattle.t800.specs.ReadHeader.{HeaderRead, refused, passesTaken, readSegment, readSegments, readIncluded, readNewBlock}
 use Rattle.t800.specs.ReadHeader.{readOldBlock, readBlock, readBlocks, readHeader}
-use Rattle.t800.proofs.Laws.Tests.{on-le, if-le, if-false}
+use Rattle.t800_laws.proofs.Laws.Tests.{on-le, if-le, if-false}
 
 -- x is read with fewer records, y with more
 abbrev pub SameOr13 : HeaderRead → HeaderRead → Type 0

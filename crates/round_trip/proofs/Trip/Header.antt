@@ -13,7 +13,7 @@ use Rattle.t800.specs.State.{Block, notYetIncluded}
 use Rattle.t800.specs.WriteHeader.{Contribution, setNewBlocks}
 use Rattle.t800.specs.ReadHeader.{readBlocks}
 use Rattle.t800.specs.Book.{BlockEntry, entry, entryFrom, addCounts, terminatedAsStyle}
-use Rattle.t800.proofs.Laws.Layout.{inclusion, Layout, AllPlaced}
+use Rattle.t800_laws.proofs.Laws.Layout.{inclusion, Layout, AllPlaced}
 use Rattle.round_trip.proofs.Trip.Bits.{nextBit, bioAfter, packed-bits-read}
 use Rattle.round_trip.proofs.Trip.Segments.{readSoFar}
 use Rattle.round_trip.proofs.Trip.Changes.{nodes-only, block-stays, blocks-coded}
@@ -22,7 +22,7 @@ use Rattle.round_trip.proofs.Trip.WriterState.{WriterState, Acceptable,
 use Rattle.round_trip.proofs.Trip.InStep.{InStep, same-in-step}
 use Rattle.round_trip.proofs.Trip.Booked.{AllBooked, counts-booked}
 use Rattle.round_trip.proofs.Trip.Blocks.{all-ready, blocks-read}
-use Rattle.t800.proofs.Laws.HeaderBits.{bits-blocks}
+use Rattle.t800_laws.proofs.Laws.HeaderBits.{bits-blocks}
 
 -- the header's blocks read from place p on, with n bytes taken
 pub record HeaderReadBack (L : Layout) (s t : ℕ) (src : List ℕ) (room p n : ℕ) (ws rs vs : List ℕ) (ks : List Block)

@@ -16,9 +16,9 @@ use Rattle.t800.specs.Segments.{Segment, segmentsFrom, segmentsOf, width, incre
 use Rattle.t800.specs.State.{Block, notYetIncluded, notYetPlanes, blocksIn, bandLength, blocksFrom, blocksAt, blocks, passesSoFar}
 use Rattle.t800.specs.WriteHeader.{Contribution, isNew, lengthBitsBefore, setNewBlocks, codeInclusion, codeZeroPlanes, codePasses}
 use Rattle.t800.specs.WriteHeader.{codeBlock, codeBlocks}
-use Rattle.t800.proofs.Laws.Levels.{at-most-seven-levels}
-use Rattle.t800.proofs.Laws.Layout.{Layout, inclusion, Placed, AllPlaced}
-use Rattle.t800.proofs.Laws.Tests.{either, on-eq, if-eq, if-ne}
+use Rattle.t800_laws.proofs.Laws.Levels.{at-most-seven-levels}
+use Rattle.t800_laws.proofs.Laws.Layout.{Layout, inclusion, Placed, AllPlaced}
+use Rattle.t800_laws.proofs.Laws.Tests.{either, on-eq, if-eq, if-ne}
 use Rattle.round_trip.proofs.Trip.Segments.{tooWide, field-fits}
 use Rattle.round_trip.proofs.Trip.Changes.{ValuesOnly, no-values, values-then, leaf-set, nodes-only, block-stays}
 use Rattle.round_trip.proofs.Trip.Changes.{block-coded, paths-keep}

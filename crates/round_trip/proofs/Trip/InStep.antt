@@ -10,9 +10,9 @@ use lib.ListN.{length, getD, set, length-set}
 use lib.Seq.{getD-set-other}
 use Rattle.t800.specs.TagTree.{value}
 use Rattle.t800.specs.State.{style, passesSoFar, lengthBits, segmentLimit, segmentPasses}
-use Rattle.t800.proofs.Laws.Tests.{on-eq}
-use Rattle.t800.proofs.Laws.Layout.{Tree, notYet, Layout}
-use Rattle.t800.proofs.Laws.SetLeaf.{Ordered}
+use Rattle.t800_laws.proofs.Laws.Tests.{on-eq}
+use Rattle.t800_laws.proofs.Laws.Layout.{Tree, notYet, Layout}
+use Rattle.t800_laws.proofs.Laws.SetLeaf.{Ordered}
 use Rattle.round_trip.proofs.Trip.Nodes.{Node, Sync}
 use Rattle.round_trip.proofs.Trip.NodeWords.{nodeAt}
 use Rattle.round_trip.proofs.Trip.Trees.{SyncAll, LowsOnly, NodesChanged}

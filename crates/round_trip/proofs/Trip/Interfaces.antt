@@ -19,9 +19,9 @@ use Rattle.t800.specs.Interface.{StartCall, writeOf, readOf, Interface}
 use Rattle.t800.specs.RoundTrip as made
 use Rattle.t800.specs.RoundTrip.{Owed, GivesEntry, WriterMade, measured, written, ReaderMade, refusedMade, packetMade}
 use Rattle.t800.specs.RoundTrip.{Follows, Accepted, bookOf, RoundTrip, WriterInRange}
-use Rattle.t800.proofs.Laws.Tests.{if-true, if-false}
-use Rattle.t800.proofs.Laws.Checks.{on-bool}
-use Rattle.t800.proofs.Laws.Accepted.{start-accepted}
+use Rattle.t800_laws.proofs.Laws.Tests.{if-true, if-false}
+use Rattle.t800_laws.proofs.Laws.Checks.{on-bool}
+use Rattle.t800_laws.proofs.Laws.Accepted.{start-accepted}
 use Rattle.round_trip.proofs.Trip.Lists.{WriterCall, writing, accepted, stateAfter, owedFor, owed, allTerminatedAsStyle}
 use Rattle.round_trip.proofs.Trip.Lists.{ReaderCall, refusedRead, packetRead, ReadsAsOwed}
 use Rattle.round_trip.proofs.Trip.WriterInRange.{calls-in-range}

@@ -29,19 +29,19 @@ use Rattle.t800.specs.Interface.{WriteCall, writeOf, ReadCall, readOf}
 use Rattle.t800.specs.RoundTrip.{Owed, ReadsPacket, GivesEntry, withMore}
 use Rattle.round_trip.proofs.Trip.Lists.{accepted, owedFor}
 use Rattle.t800.specs.Reports.{reportWidth, recordWidth}
-use Rattle.t800.proofs.Laws.Lists.{no-planes}
-use Rattle.t800.proofs.Laws.Layout.{Layout, layoutOf, blocks-placed, end-after}
-use Rattle.t800.proofs.Laws.FirstWords.{FirstWords, next-layer}
-use Rattle.t800.proofs.Laws.FreshState.{fresh-first-words}
+use Rattle.t800_laws.proofs.Laws.Lists.{no-planes}
+use Rattle.t800_laws.proofs.Laws.Layout.{Layout, layoutOf, blocks-placed, end-after}
+use Rattle.t800_laws.proofs.Laws.FirstWords.{FirstWords, next-layer}
+use Rattle.t800_laws.proofs.Laws.FreshState.{fresh-first-words}
 use Rattle.round_trip.proofs.Trip.WriterState.{headerBlocks}
 use Rattle.round_trip.proofs.Trip.InStep.{InStep, layer-in-step}
 use Rattle.round_trip.proofs.Trip.Booked.{AllBooked, entries-length, layer-booked}
 use Rattle.round_trip.proofs.Trip.ValidStates.{reader-valid}
 use Rattle.round_trip.proofs.Trip.Packet.{PacketRead, packet-read, header-refusal}
 use Rattle.round_trip.proofs.Trip.Bits.{nextBit, bioAfter}
-use Rattle.t800.proofs.Laws.Tests.{either}
+use Rattle.t800_laws.proofs.Laws.Tests.{either}
 use Rattle.round_trip.proofs.Trip.Calls.{is-accepted}
-use Rattle.t800.proofs.Laws.Accepted.{start-accepted, few-bands}
+use Rattle.t800_laws.proofs.Laws.Accepted.{start-accepted, few-bands}
 use Rattle.round_trip.proofs.Trip.Start.{started-in-step, started-booked}
 use Rattle.round_trip.proofs.Trip.WriterInRange.{WriterInvariant, writer-after-start, header-coded, blocks-are, layer-left}
 use Rattle.round_trip.proofs.Trip.WriterInRange.{acceptable, state-is, writer-after}

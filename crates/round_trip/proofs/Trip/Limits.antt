@@ -9,7 +9,7 @@ use native.Mathlib.Omega.{arith}
 use lib.Dec.{leb, eqb}
 use borrow.Author.Tests.{eq-eqb, ne-eqb, le-leb, lt-leb}
 use Rattle.t800.specs.Segments.{termAll, bypass, firstLimit, nextLimit, isLimit}
-use Rattle.t800.proofs.Laws.Tests.{on-eq, on-lt, if-eq, if-ne, if-le, if-gt, if-true, if-false}
+use Rattle.t800_laws.proofs.Laws.Tests.{on-eq, on-lt, if-eq, if-ne, if-le, if-gt, if-true, if-false}
 
 -- by the style's two bits
 abbrev pub opensIn : Bool → Bool → ℕ → Bool

@@ -10,7 +10,7 @@ use lib.Dec.{ltb}
 use Rattle.t800.specs.declared.Bio.{Bio}
 use Rattle.t800.specs.TagTree.{NodeRead, readNode}
 use borrow.Author.Tests.{lt-ltb, le-ltb, eq-eqb, ne-eqb}
-use Rattle.t800.proofs.Laws.Tests.{if-eq, if-ne, if-lt, if-ge, on-lt}
+use Rattle.t800_laws.proofs.Laws.Tests.{if-eq, if-ne, if-lt, if-ge, on-lt}
 use Rattle.round_trip.proofs.Trip.Bits.{nextBit, bioAfter, Reads, reads-split}
 use Rattle.round_trip.proofs.Trip.Nodes.{Node, node, lowOut, putsOne, bitsOfNode, nodeAfter, bitsOfPath, nodesAfter}
 use Rattle.round_trip.proofs.Trip.Nodes.{nodeRead, readOne, readInto, NodesRead, readAll, Sync, not-known, is-known, AllSync}

@@ -9,7 +9,7 @@ use lib.ListN.{length, getD, set, length-set}
 use lib.Seq.{getD-set-same, getD-set-other}
 use Rattle.t800.specs.declared.Bio.{Bio}
 use Rattle.t800.specs.TagTree.{NodeRead, lowAfter, nodeBits, knownAfter, codePath, readPath}
-use Rattle.t800.proofs.Laws.Paths.{All, addresses, Clear, Apart, ApartFromAll, AllApart}
+use Rattle.t800_laws.proofs.Laws.Paths.{All, addresses, Clear, Apart, ApartFromAll, AllApart}
 use Rattle.round_trip.proofs.Trip.Nodes.{Node, node, lowOut, bitsOfNode, nodeAfter, bitsOfPath, nodesAfter, readOne}
 use Rattle.round_trip.proofs.Trip.Nodes.{readInto, readAll}
 

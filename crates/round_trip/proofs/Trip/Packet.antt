@@ -22,8 +22,8 @@ use Rattle.t800.specs.ReadHeader.{HeaderRead, readBlocks, readHeader}
 use Rattle.t800.specs.MarkerSegments.{sopBytes, ephBytes, withMarkers, MarkerRead, readMarker, readSop, readEph}
 use Rattle.t800.specs.Packet.{ReadResult, readRefusal, readPresent, read}
 use Rattle.t800.specs.Book.{BlockEntry, Entry, entry, addCounts, terminatedAsStyle}
-use Rattle.t800.proofs.Laws.Tests.{on-lt, if-true, if-ge, drop-head}
-use Rattle.t800.proofs.Laws.Layout.{Layout, AllPlaced}
+use Rattle.t800_laws.proofs.Laws.Tests.{on-lt, if-true, if-ge, drop-head}
+use Rattle.t800_laws.proofs.Laws.Layout.{Layout, AllPlaced}
 use Rattle.round_trip.proofs.Trip.Bits.{nextBit, bioAfter}
 use Rattle.round_trip.proofs.Trip.Segments.{readSoFar}
 use Rattle.round_trip.proofs.Trip.WriterState.{WriterState, Acceptable, headerBlocks}

@@ -6,7 +6,7 @@ use Prim.Native.Nat.{ℕ, _≤_}
 use native.Mathlib.Omega.{arith}
 use Rattle.t800.specs.Bits.{Decoded, bioAt, pack}
 use Rattle.t800.specs.PassCount.{passBits}
-use Rattle.t800.proofs.Laws.HeaderBits.{bits-passes}
+use Rattle.t800_laws.proofs.Laws.HeaderBits.{bits-passes}
 use Rattle.round_trip.proofs.Trip.Bits.{bioAfter, Reads, reads-split, packed-bits-read}
 use Rattle.round_trip.proofs.Trip.Codes.{passes-read}
 

@@ -21,8 +21,8 @@ use Rattle.t800.specs.State.{Block}
 use Rattle.t800.specs.ReadHeader.{HeaderRead, opensSegment, currentLimit, currentPasses, passesTaken, readSegment, readSegments}
 use Rattle.t800.specs.Book.{opensAt, recordsFrom, recordsOf, terminatedAt}
 use lib.Ieee.Fits.{and-l, and-r}
-use Rattle.t800.proofs.Laws.Tests.{on-lt, if-lt, if-ge, if-gt, if-true, if-false}
-use Rattle.t800.proofs.Laws.Lists.{last-pass}
+use Rattle.t800_laws.proofs.Laws.Tests.{on-lt, if-lt, if-ge, if-gt, if-true, if-false}
+use Rattle.t800_laws.proofs.Laws.Lists.{last-pass}
 use Rattle.round_trip.proofs.Trip.Bits.{Reads, reads-split}
 use Rattle.round_trip.proofs.Trip.Codes.{number-read, LengthsFit}
 use Rattle.round_trip.proofs.Trip.Limits.{opensIn, next-segment, limitIn, passesIn, limitAfter, passesAfter}

@@ -15,11 +15,11 @@ use Rattle.t800.specs.TagTree.{value, low, setValue}
 use Rattle.t800.specs.State.{Block, passesSoFar}
 use Rattle.t800.specs.Start.{setZeroPlanes}
 use Rattle.t800.specs.WriteHeader.{isNew, setNewBlocks}
-use Rattle.t800.proofs.Laws.Tests.{on-eq, on-lt}
-use Rattle.t800.proofs.Laws.Paths.{All, NotIn, addresses}
-use Rattle.t800.proofs.Laws.Layout.{Tree, inclusion, zeroPlanes, notYet, treeOf, leafOf, Layout, Placed, SeparateFromAll, AllPlaced}
-use Rattle.t800.proofs.Laws.Layout.{leafToRoot, leaf-node, path-nodes, second-no-node}
-use Rattle.t800.proofs.Laws.SetLeaf.{lowers, ends, off-path-stays, leaf-is-set, Ordered, setValue-ordered}
+use Rattle.t800_laws.proofs.Laws.Tests.{on-eq, on-lt}
+use Rattle.t800_laws.proofs.Laws.Paths.{All, NotIn, addresses}
+use Rattle.t800_laws.proofs.Laws.Layout.{Tree, inclusion, zeroPlanes, notYet, treeOf, leafOf, Layout, Placed, SeparateFromAll, AllPlaced}
+use Rattle.t800_laws.proofs.Laws.Layout.{leafToRoot, leaf-node, path-nodes, second-no-node}
+use Rattle.t800_laws.proofs.Laws.SetLeaf.{lowers, ends, off-path-stays, leaf-is-set, Ordered, setValue-ordered}
 use Rattle.round_trip.proofs.Trip.Nodes.{Node, Sync, not-known, is-known}
 use Rattle.round_trip.proofs.Trip.NodeWords.{nodeAt}
 use Rattle.round_trip.proofs.Trip.Trees.{SyncAll}

@@ -14,13 +14,13 @@ use Rattle.t800.specs.State.{Block, blocksIn, bandLength, blocksFrom, blocksAt,
 use Rattle.t800.specs.Ranges.{badShape, bandTooDeep, blockTooDeep}
 use Rattle.t800.specs.Start.{freshState, setZeroPlanes}
 use Rattle.t800.specs.Book.{BlockEntry, newEntries, newBook}
-use Rattle.t800.proofs.Laws.Tests.{or-left, or-right}
-use Rattle.t800.proofs.Laws.Lists.{length-from}
-use Rattle.t800.proofs.Laws.Layout.{Tree, inclusion, zeroPlanes, notYet, leafOf, Layout, AllPlaced, leaf-node, layoutOf, blocks-placed}
-use Rattle.t800.proofs.Laws.FirstWords.{FirstWords, same-first-words}
-use Rattle.t800.proofs.Laws.FreshState.{fresh-length, fresh-node, fresh-block, fresh-first-words}
-use Rattle.t800.proofs.Laws.SetLeaf.{Ordered}
-use Rattle.t800.proofs.Laws.Accepted.{StartAccepted, all-given, NotTooDeep, not-too-deep}
+use Rattle.t800_laws.proofs.Laws.Tests.{or-left, or-right}
+use Rattle.t800_laws.proofs.Laws.Lists.{length-from}
+use Rattle.t800_laws.proofs.Laws.Layout.{Tree, inclusion, zeroPlanes, notYet, leafOf, Layout, AllPlaced, leaf-node, layoutOf, blocks-placed}
+use Rattle.t800_laws.proofs.Laws.FirstWords.{FirstWords, same-first-words}
+use Rattle.t800_laws.proofs.Laws.FreshState.{fresh-length, fresh-node, fresh-block, fresh-first-words}
+use Rattle.t800_laws.proofs.Laws.SetLeaf.{Ordered}
+use Rattle.t800_laws.proofs.Laws.Accepted.{StartAccepted, all-given, NotTooDeep, not-too-deep}
 use Rattle.round_trip.proofs.Trip.Nodes.{Node, node, Sync, not-known}
 use Rattle.round_trip.proofs.Trip.NodeWords.{nodeAt}
 use Rattle.round_trip.proofs.Trip.Trees.{SyncAll}

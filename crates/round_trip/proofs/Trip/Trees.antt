@@ -13,11 +13,11 @@ use Rattle.t800.specs.declared.Bio.{Bio}
 use Rattle.t800.specs.TagTree.{PathRead, value, lowAfter, codePath, readPath}
 use Rattle.t800.specs.State.{Block, notYetPlanes}
 use Rattle.t800.specs.ReadHeader.{readZeroPlanesFrom}
-use Rattle.t800.proofs.Laws.Tests.{on-eq, on-lt, if-lt, if-ge}
-use Rattle.t800.proofs.Laws.Paths.{All, addresses, Clear, ApartFromAll, AllApart, Ancestors}
-use Rattle.t800.proofs.Laws.Layout.{Tree, zeroPlanes, notYet, treeOf, leafOf, Layout, Placed, on-tree, rootToLeaf, from-root-nodes}
-use Rattle.t800.proofs.Laws.Layout.{from-root-apart}
-use Rattle.t800.proofs.Laws.SetLeaf.{Ordered}
+use Rattle.t800_laws.proofs.Laws.Tests.{on-eq, on-lt, if-lt, if-ge}
+use Rattle.t800_laws.proofs.Laws.Paths.{All, addresses, Clear, ApartFromAll, AllApart, Ancestors}
+use Rattle.t800_laws.proofs.Laws.Layout.{Tree, zeroPlanes, notYet, treeOf, leafOf, Layout, Placed, on-tree, rootToLeaf, from-root-nodes}
+use Rattle.t800_laws.proofs.Laws.Layout.{from-root-apart}
+use Rattle.t800_laws.proofs.Laws.SetLeaf.{Ordered}
 use Rattle.round_trip.proofs.Trip.Bits.{Reads}
 use Rattle.round_trip.proofs.Trip.Nodes.{Node, NodesRead, readAll, leafValue, raiseFrom, Sync, AllSync, nil, cons, Increasing}
 use Rattle.round_trip.proofs.Trip.NodeSync.{path-sync}

@@ -15,9 +15,9 @@ use Rattle.t800.specs.TagTree.{value, low, known}
 use Rattle.t800.specs.State.{notYetIncluded, notYetPlanes, bandNodes, blocksIn, bandLength, stateLength, endOf, writer, reader}
 use Rattle.t800.specs.State.{role, style, layer, passesSoFar, lengthBits}
 use Rattle.t800.specs.Ranges.{badShape, badStyle, bandTooDeep, nodeInRange, blockInRange, bandInRange, bandsInRange, validState}
-use Rattle.t800.proofs.Laws.Tests.{on-eq, if-true, if-false}
-use Rattle.t800.proofs.Laws.Layout.{Tree, inclusion, zeroPlanes, notYet, NodeFrom, BlockFrom, layoutOf}
-use Rattle.t800.proofs.Laws.FirstWords.{FirstWords}
+use Rattle.t800_laws.proofs.Laws.Tests.{on-eq, if-true, if-false}
+use Rattle.t800_laws.proofs.Laws.Layout.{Tree, inclusion, zeroPlanes, notYet, NodeFrom, BlockFrom, layoutOf}
+use Rattle.t800_laws.proofs.Laws.FirstWords.{FirstWords}
 use Rattle.round_trip.proofs.Trip.Nodes.{Sync, not-known, is-known}
 use Rattle.round_trip.proofs.Trip.NodeWords.{nodeAt}
 use Rattle.round_trip.proofs.Trip.Limits.{limitAfter, passesAfter, limit-in-range, passes-in-range, none-after-0}

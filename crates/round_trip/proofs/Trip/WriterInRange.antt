@@ -17,14 +17,14 @@ use Rattle.t800.specs.Start.{start}
 use Rattle.t800.specs.WriteHeader.{Contribution, setNewBlocks, codeHeader}
 use Rattle.t800.specs.Interface.{WriteCall, writeOf}
 use Rattle.round_trip.proofs.Trip.Lists.{WriterCall, measuring, writing, accepted, stateAfter}
-use Rattle.t800.proofs.Laws.Layout.{inclusion, Layout, layoutOf, blocks-placed, end-after}
-use Rattle.t800.proofs.Laws.FirstWords.{FirstWords, next-layer}
+use Rattle.t800_laws.proofs.Laws.Layout.{inclusion, Layout, layoutOf, blocks-placed, end-after}
+use Rattle.t800_laws.proofs.Laws.FirstWords.{FirstWords, next-layer}
 use Rattle.round_trip.proofs.Trip.Changes.{nodes-only, first-stays, blocks-coded}
 use Rattle.round_trip.proofs.Trip.SetLeaves.{new-blocks-set}
 use Rattle.round_trip.proofs.Trip.WriterState.{WriterState, Acceptable, headerBlocks, layer-in-range, layer-word}
 use Rattle.round_trip.proofs.Trip.ValidStates.{Startable, writer-valid}
 use Rattle.round_trip.proofs.Trip.Calls.{Accepted, is-accepted, refused-keeps}
-use Rattle.t800.proofs.Laws.Accepted.{start-accepted, few-bands}
+use Rattle.t800_laws.proofs.Laws.Accepted.{start-accepted, few-bands}
 use Rattle.round_trip.proofs.Trip.Start.{started-writer, started-first-words, startable}
 
 -- with bands bs, style s and next layer t

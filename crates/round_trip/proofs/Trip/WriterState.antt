@@ -16,10 +16,10 @@ use Rattle.t800.specs.Segments.{Segment, segmentsFrom, segmentsOf, width, incre
 use Rattle.t800.specs.State.{Block, notYetPlanes, passesSoFar, lengthBits, segmentLimit, segmentPasses}
 use Rattle.t800.specs.WriteHeader.{Contribution, isNew, lengthBitsBefore, setNewBlocks, codeInclusion, codeZeroPlanes, codePasses}
 use Rattle.t800.specs.WriteHeader.{codeBlock, codeBlocks, fieldTooWide}
-use Rattle.t800.proofs.Laws.Tests.{on-eq, if-eq, if-ne, either, or-left, or-right}
-use Rattle.t800.proofs.Laws.Paths.{All, ApartFromAll}
-use Rattle.t800.proofs.Laws.Layout.{Tree, inclusion, zeroPlanes, notYet, treeOf, Layout, Placed, SeparateFromAll, AllPlaced}
-use Rattle.t800.proofs.Laws.Layout.{on-tree, rootToLeaf, from-root-nodes}
+use Rattle.t800_laws.proofs.Laws.Tests.{on-eq, if-eq, if-ne, either, or-left, or-right}
+use Rattle.t800_laws.proofs.Laws.Paths.{All, ApartFromAll}
+use Rattle.t800_laws.proofs.Laws.Layout.{Tree, inclusion, zeroPlanes, notYet, treeOf, Layout, Placed, SeparateFromAll, AllPlaced}
+use Rattle.t800_laws.proofs.Laws.Layout.{on-tree, rootToLeaf, from-root-nodes}
 use Rattle.round_trip.proofs.Trip.Nodes.{Node, lowOut, nodeAfter, nodesAfter}
 use Rattle.round_trip.proofs.Trip.NodeWords.{nodeAt, nodesAt}
 use Rattle.round_trip.proofs.Trip.Trees.{NodesOnly, all-apart, path-coded, coding-keeps}

@@ -11,7 +11,7 @@ use lib.ListN.{replicate, replicate-append-replicate}
 use lib.Dec.{eqb, ltb}
 use Rattle.t800.specs.declared.Bio.{Bio}
 use borrow.Author.Tests.{lt-ltb, le-ltb}
-use Rattle.t800.proofs.Laws.Tests.{if-lt, if-ge, on-lt}
+use Rattle.t800_laws.proofs.Laws.Tests.{if-lt, if-ge, on-lt}
 use Rattle.round_trip.proofs.Trip.Bits.{Reads, reads-split}
 use Rattle.round_trip.proofs.Trip.NodeSync.{puts-none, known-puts-none, sync-low, low-out-le, increasing-from, path-sync}
 use Rattle.round_trip.proofs.Trip.Nodes.{Node, node, lowOut, putsOne, bitsOfNode, nodeAfter, bitsOfPath, nodesAfter}

@@ -13,8 +13,8 @@ use Rattle.t800.specs.Base.{any, every, sum}
 use Rattle.t800.specs.Segments.{Segment, segmentsFrom, segmentsOf, width, bitLength, increment}
 use Rattle.t800.specs.State.{Block, blocksIn, bandNodes, bandLength, blocks, lengthBits}
 use Rattle.t800.specs.WriteHeader.{isNew, lengthBitsBefore, segmentTooLong, fieldTooWide}
-use Rattle.t800.proofs.Laws.Layout.{Layout, AllPlaced, BlockFrom, layoutOf, blocks-placed}
-use Rattle.t800.proofs.Laws.Tests.{either, or-left, or-right, and-left, and-right}
+use Rattle.t800_laws.proofs.Laws.Layout.{Layout, AllPlaced, BlockFrom, layoutOf, blocks-placed}
+use Rattle.t800_laws.proofs.Laws.Tests.{either, or-left, or-right, and-left, and-right}
 use Rattle.tcd_state.proofs.Laws.ValidStates.{every-true}
 use Rattle.t2_segments.specs.Segments.{anyTooLong, anyTooWide, blockTooWide}
 use Rattle.t2_segments.proofs.Laws.Segments.{log-up-to}

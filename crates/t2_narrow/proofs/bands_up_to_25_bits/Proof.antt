@@ -7,7 +7,7 @@ use mathlib.Core.Bool.{false, true}
 use mathlib.Core.List.{List}
 use mathlib.Core.Path.{_∙_, _≡_, ap, refl, sym}
 use native.Mathlib.Omega.{arith}
-use Rattle.t800.proofs.Laws.Layout.{band-length, end-after}
+use Rattle.t800_laws.proofs.Laws.Layout.{band-length, end-after}
 use Rattle.t800.specs.State.{bandLength, bandNodes, blocksIn, endOf, stateLength}
 use Rattle.t800.specs.declared.Band.{Band}
 use Rattle.tcd_layout.proofs.Laws.Bands.{end-turn, next-band, no-more-bands, sides-of-first}

@@ -9,9 +9,9 @@ use lib.ListN.{drop}
 use Rattle.t800.specs.declared.Band.{Band}
 use Rattle.t800.specs.State.{Block, layer, blocksIn, bandNodes, bandLength, blocksAt, notYetIncluded}
 use Rattle.t800.specs.Ranges.{bandInRange, bandsInRange}
-use Rattle.t800.proofs.Laws.Layout.{band-length}
-use Rattle.t800.proofs.Laws.Lists.{length-from}
-use Rattle.t800.proofs.Laws.Tests.{and-right}
+use Rattle.t800_laws.proofs.Laws.Layout.{band-length}
+use Rattle.t800_laws.proofs.Laws.Lists.{length-from}
+use Rattle.t800_laws.proofs.Laws.Tests.{and-right}
 use Rattle.tcd_state.proofs.Laws.ValidStates.{block-known, block-bounds}
 use Rattle.t2_read_segments.specs.Reading.{Reading, nextBlocks}
 use Rattle.t2_read_block_parts.proofs.Laws.Kept.{Keeps, blocks-keep}

@@ -9,7 +9,7 @@ use lib.ListN.{length, getD, take, drop}
 use Rattle.t800.specs.declared.Band.{Band}
 use Rattle.t800.specs.declared.Level.{Level}
 use Rattle.t800.specs.State.{blocks, blocksAt, bandLength, endOf}
-use Rattle.t800.proofs.Laws.Layout.{end-after}
+use Rattle.t800_laws.proofs.Laws.Layout.{end-after}
 use Rattle.tcd_layout.specs.Geometry.{noBand, SidesUpTo64}
 use Rattle.tcd_layout.proofs.Laws.Bands.{next-band, no-more-bands, sides-of-first, blocks-up-to-4096, band-levels-at, end-turn}
 use Rattle.t2_read_segments.specs.Reading.{reading, nextBlocks}

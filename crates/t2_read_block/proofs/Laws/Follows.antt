@@ -21,10 +21,10 @@ use Rattle.t800.specs.WriteHeader.{isNew, lengthBitsBefore}
 use Rattle.t800.specs.ReadHeader.{HeaderRead, refused, movedTo, withReport, opensSegment, currentLimit, currentPasses, passesTaken}
 use Rattle.t800.specs.ReadHeader.{readSegment, readSegments, readZeroPlanesFrom, readZeroPlanes, firstReport, againReport}
 use Rattle.t800.specs.ReadHeader.{readIncluded, readNewBlock, readOldBlock, readBlock, readBlocks}
-use Rattle.t800.proofs.Laws.Tests.{if-eq, if-ne, if-lt, if-ge, on-eq, on-lt}
+use Rattle.t800_laws.proofs.Laws.Tests.{if-eq, if-ne, if-lt, if-ge, on-eq, on-lt}
 use Rattle.t800_laws.proofs.Laws.HeaderSteps.{path-read, thresholds-raised}
 use Rattle.round_trip.proofs.Trip.Segments.{readSoFar}
-use Rattle.t800.proofs.Laws.Lists.{record-words-length}
+use Rattle.t800_laws.proofs.Laws.Lists.{record-words-length}
 use Rattle.lists.proofs.Laws.Filled.{record-put, report-put}
 use Rattle.lists.specs.Rows.{putRow}
 use Rattle.t2_read_codes.specs.CommaCode.{mostOnes, readCommaLimited}

@@ -8,7 +8,7 @@ use native.Mathlib.Omega.{arith}
 use lib.Dec.{eqb}
 use lib.ListN.{length, drop}
 use Rattle.t800.specs.State.{Block}
-use Rattle.t800.proofs.Laws.Tests.{if-eq, if-ne, on-eq}
+use Rattle.t800_laws.proofs.Laws.Tests.{if-eq, if-ne, on-eq}
 use Rattle.tcd_places.specs.declared.Place.{Place}
 use Rattle.t2_read_segments.specs.Reading.{Reading, nextBlock, nextBlocks, BlockFits}
 use Rattle.t2_read_segments.proofs.Laws.ManySegments.{fits-same}

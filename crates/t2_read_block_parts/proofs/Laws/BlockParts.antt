@@ -12,7 +12,7 @@ use Rattle.t800.specs.TagTree.{PathRead, value, readPath}
 use Rattle.t800.specs.State.{Block, notYetPlanes}
 use Rattle.t800.specs.WriteHeader.{isNew}
 use Rattle.t800.specs.ReadHeader.{opensSegment, currentLimit, currentPasses, passesTaken, readZeroPlanesFrom}
-use Rattle.t800.proofs.Laws.Tests.{if-true, if-false, if-eq, if-ne}
+use Rattle.t800_laws.proofs.Laws.Tests.{if-true, if-false, if-eq, if-ne}
 use Rattle.lists.specs.Rows.{putRow}
 use Rattle.tgt.specs.Path.{pathOver, leafWord}
 use Rattle.tgt_read.specs.Reading.{LeafAfter, belowIn, ValueAfter, valueIn, leafOf}

@@ -15,7 +15,7 @@ use Rattle.t800.specs.Segments.{width}
 use Rattle.t800.specs.State.{Block, notYetPlanes, lengthBits}
 use Rattle.t800.specs.WriteHeader.{isNew}
 use Rattle.t800.specs.ReadHeader.{passesTaken, readZeroPlanesFrom}
-use Rattle.t800.proofs.Laws.Tests.{either}
+use Rattle.t800_laws.proofs.Laws.Tests.{either}
 use Rattle.bio_read.proofs.Laws.ReadChunks.{getBit-ct, getBit-place, readBits-ct, readBits-place}
 use Rattle.tgt_read.specs.Reading.{ValueAfter}
 use Rattle.tgt_read.proofs.Laws.Reading.{readPath-ct, readPath-place, raising-ct, raising-place}

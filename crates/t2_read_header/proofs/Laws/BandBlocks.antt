@@ -4,7 +4,7 @@ use Prim.Native.Nat.{ℕ, zero, suc, _+_, _*_, _≤_, _<_}
 use native.Mathlib.Omega.{arith}
 use Rattle.t800.specs.declared.Band.{Band}
 use Rattle.t800.specs.State.{blockOf, blocksIn, bandNodes, bandLength, blocksFrom, blocksAt, endOf}
-use Rattle.t800.proofs.Laws.Layout.{band-length, end-after}
+use Rattle.t800_laws.proofs.Laws.Layout.{band-length, end-after}
 use Rattle.t2_read_block.proofs.Laws.Follows.{Apart}
 use Rattle.tcd_places.proofs.Laws.Before.{AllBlocks, all-append}
 use Rattle.tcd_places.proofs.Laws.BandBlocks.{tree-before}

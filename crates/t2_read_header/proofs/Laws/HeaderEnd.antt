@@ -15,7 +15,7 @@ use Rattle.t800.specs.Bits.{endsInFF}
 use Rattle.t800.specs.Reports.{reportWords, recordWords, reportWidth, recordWidth}
 use Rattle.t800.specs.State.{reader, layer, bands, blocks, stateLength, endOf}
 use Rattle.t800.specs.ReadHeader.{HeaderRead, refused, readBlocks, readHeader}
-use Rattle.t800.proofs.Laws.Layout.{end-after}
+use Rattle.t800_laws.proofs.Laws.Layout.{end-after}
 use Rattle.round_trip.proofs.Trip.Segments.{readSoFar}
 use Rattle.tcd_state.proofs.Laws.ValidStates.{ValidState}
 use Rattle.t2_read_segments.specs.declared.Run.{Run}

@@ -13,7 +13,7 @@ use Rattle.t800.specs.declared.Markers.{Markers}
 use Rattle.t800.specs.declared.ReadAnswer.{ReadAnswer}
 use Rattle.t800.specs.Bits.{inFF, bytesTaken}
 use Rattle.t800.specs.MarkerSegments.{MarkerRead, readMarker, readEph}
-use Rattle.t800.proofs.Laws.Tests.{either, on-lt, if-lt, if-ge}
+use Rattle.t800_laws.proofs.Laws.Tests.{either, on-lt, if-lt, if-ge}
 use Rattle.t2_read_marks.specs.Marks.{doneAnswer}
 
 abbrev found : ℕ → ℕ → MarkerRead

@@ -14,7 +14,7 @@ use Rattle.t800.specs.State.{layer, bands, blocks}
 use Rattle.t800.specs.MarkerSegments.{MarkerRead}
 use Rattle.t800.specs.ReadHeader.{HeaderRead, readHeader}
 use Rattle.t800.specs.Packet.{refusedAnswer, readPresent, readResult}
-use Rattle.t800.proofs.Laws.Tests.{if-eq, if-ne}
+use Rattle.t800_laws.proofs.Laws.Tests.{if-eq, if-ne}
 use Rattle.lists.proofs.Laws.Filled.{length-reports}
 use Rattle.t2_read_segments.specs.Reading.{Reading, heldBy}
 use Rattle.t2_read_header.specs.Header.{ReadsHeader}

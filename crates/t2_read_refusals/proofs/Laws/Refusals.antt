@@ -11,7 +11,7 @@ use borrow.Author.Tests.{eq-eqb, ne-eqb, eqb-true, eqb-false, not-false}
 use Rattle.t800.specs.State.{notYetIncluded, reader, layer, bands, blocks}
 use Rattle.t800.specs.Ranges.{validState}
 use Rattle.t800.specs.Packet.{readRefusal}
-use Rattle.t800.proofs.Laws.Tests.{not-refused}
+use Rattle.t800_laws.proofs.Laws.Tests.{not-refused}
 use Rattle.tcd_state.proofs.Laws.ValidStates.{valid-state}
 use Rattle.t800.specs.Reports.{reportWidth}
 

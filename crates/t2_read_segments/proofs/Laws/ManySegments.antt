@@ -11,7 +11,7 @@ use lib.Seq.{getD-set-same, getD-set-other}
 use Rattle.t800.specs.Segments.{termAll, bypass, firstLimit, nextLimit, width}
 use Rattle.t800.specs.State.{Block}
 use Rattle.t800.specs.ReadHeader.{currentLimit, currentPasses, passesTaken}
-use Rattle.t800.proofs.Laws.Tests.{either, if-lt, if-ge, if-eq, if-ne, on-eq}
+use Rattle.t800_laws.proofs.Laws.Tests.{either, if-lt, if-ge, if-eq, if-ne, on-eq}
 use Rattle.bio_read.proofs.Laws.ReadChunks.{readBits-ct}
 use Rattle.tcd_places.specs.Places.{blockAt}
 use Rattle.tcd_places.proofs.Laws.Before.{same-word}

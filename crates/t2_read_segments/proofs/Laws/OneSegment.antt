@@ -11,7 +11,7 @@ use Rattle.t800.specs.PassCount.{readPasses}
 use Rattle.t800.specs.Segments.{width}
 use Rattle.t800.specs.ReadHeader.{opensSegment, currentLimit, currentPasses}
 use Rattle.t800.specs.Reports.{recordWidth}
-use Rattle.t800.proofs.Laws.Tests.{if-lt, if-ge, if-le, if-gt}
+use Rattle.t800_laws.proofs.Laws.Tests.{if-lt, if-ge, if-le, if-gt}
 use Rattle.lists.specs.Rows.{putRecord}
 use Rattle.tgt_read.specs.Reading.{ValueAfter}
 use Rattle.t2_read_codes.specs.CommaCode.{readCommaLimited}

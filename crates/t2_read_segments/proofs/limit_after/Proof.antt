@@ -1,6 +1,6 @@
 -- `t2_read_segments::limit_after` meets its contract.
 use mathlib.Core.Path.{sym, _∙_}
-use Rattle.t800.proofs.Laws.Tests.{if-eq, if-ne}
+use Rattle.t800_laws.proofs.Laws.Tests.{if-eq, if-ne}
 use Rattle.t2_read_segments.specs.Segments.{limitAfter}
 use borrow.Author.Needs.{needs}
 use Rattle.t2_read_segments.proofs.limit_after.Statement.{statement}

@@ -14,8 +14,8 @@ use Rattle.t800.specs.State.{Block, notYetIncluded, writer, layer, bands, block
 use Rattle.t800.specs.Ranges.{validState}
 use Rattle.t800.specs.WriteHeader.{Contribution, lengthBitsBefore, segmentTooLong, fieldTooWide}
 use Rattle.t800.specs.Packet.{wrongLists}
-use Rattle.t800.proofs.Laws.Lists.{lists-right}
-use Rattle.t800.proofs.Laws.Tests.{or-left, or-right, not-refused}
+use Rattle.t800_laws.proofs.Laws.Lists.{lists-right}
+use Rattle.t800_laws.proofs.Laws.Tests.{or-left, or-right, not-refused}
 use Rattle.t2_segments.specs.Segments.{anyTooLong, blockTooWide}
 use Rattle.t2_refusals.specs.Refusals.{contributionRefusal, measureRefusalFor}
 use Rattle.t2_refusals.proofs.Laws.RefusalParts.{blocks-of-valid}

@@ -12,7 +12,7 @@ use Rattle.t800.specs.State.{notYetIncluded, writer, bandCount, layer, bands, b
 use Rattle.t800.specs.Ranges.{validState}
 use Rattle.t800.specs.WriteHeader.{Contribution}
 use Rattle.t800.specs.Packet.{wrongLists}
-use Rattle.t800.proofs.Laws.Lists.{lists-right}
+use Rattle.t800_laws.proofs.Laws.Lists.{lists-right}
 use Rattle.tcd_layout.specs.Geometry.{AllUpTo64}
 use Rattle.tcd_layout.proofs.Laws.Bands.{blocks-up-to-12288}
 use Rattle.tcd_shape.specs.Parts.{threeBands}

@@ -12,7 +12,7 @@ use Rattle.t800.specs.declared.Band.{Band}
 use Rattle.tcd_layout.proofs.Laws.Bands.{blocks-up-to-12288}
 use Rattle.t2_widths.specs.Widths.{segmentsRefusal}
 use Rattle.t800.specs.WriteHeader.{contribution}
-use Rattle.t800.proofs.Laws.Lists.{lists-right}
+use Rattle.t800_laws.proofs.Laws.Lists.{lists-right}
 use Rattle.t2_refusals.proofs.Laws.RefusalParts.{passes-left, first-words, bands-are, sides-are, length-is, contribution-parts}
 use Rattle.t2_refusals.proofs.Laws.NotRefused.{passes-up-to}
 use Rattle.t2_refusals.proofs.contribution_refusal.Statement.{statement}

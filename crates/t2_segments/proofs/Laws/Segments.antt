@@ -11,8 +11,8 @@ use lib.Dec.{eqb, ltb, leb}
 use borrow.Author.Tests.{lt-ltb, ltb-false, leb-false}
 use Rattle.t800.specs.Base.{any, halvings, floorLog2}
 use Rattle.t800.specs.Segments.{Segment, segmentsFrom, segmentsOf, width, bitLength, increment}
-use Rattle.t800.proofs.Laws.Lists.{last-pass}
-use Rattle.t800.proofs.Laws.Tests.{if-true, if-false, either, or-left, or-right}
+use Rattle.t800_laws.proofs.Laws.Lists.{last-pass}
+use Rattle.t800_laws.proofs.Laws.Tests.{if-true, if-false, either, or-left, or-right}
 use Rattle.t2_segments.specs.Segments.{segment, firstFrom, firstSegment, anyTooLong, anyTooWide}
 
 -- ---- one pass more

@@ -12,10 +12,10 @@ use Rattle.t800.specs.declared.Band.{Band}
 use Rattle.t800.specs.State.{writer, reader, blocks, stateLength}
 use Rattle.t800.specs.Ranges.{badShape, badStyle, bandTooDeep, blockTooDeep}
 use Rattle.t800.specs.Start.{StartResult, freshState, setZeroPlanes, startRefusal, start}
-use Rattle.t800.proofs.Laws.Tests.{if-true, if-false, on-eq}
-use Rattle.t800.proofs.Laws.Lists.{no-planes}
-use Rattle.t800.proofs.Laws.FreshState.{fresh-length}
-use Rattle.t800.proofs.Laws.Accepted.{StartAccepted, start-accepted}
+use Rattle.t800_laws.proofs.Laws.Tests.{if-true, if-false, on-eq}
+use Rattle.t800_laws.proofs.Laws.Lists.{no-planes}
+use Rattle.t800_laws.proofs.Laws.FreshState.{fresh-length}
+use Rattle.t800_laws.proofs.Laws.Accepted.{StartAccepted, start-accepted}
 use Rattle.tcd_layout.specs.Geometry.{AllUpTo64}
 use Rattle.tcd_layout.proofs.Laws.Bands.{shape-not-refused}
 use Rattle.t2_start_parts.specs.Parts.{answered, begun, planesWanted}

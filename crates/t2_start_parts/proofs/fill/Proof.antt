@@ -7,8 +7,8 @@ use lib.ListN.{length, take}
 use lib.Seq.{sets}
 use Rattle.t800.specs.State.{stateLength}
 use Rattle.t800.specs.Start.{bandWords, freshBands}
-use Rattle.t800.proofs.Laws.Layout.{end-after}
-use Rattle.t800.proofs.Laws.Accepted.{all-given}
+use Rattle.t800_laws.proofs.Laws.Layout.{end-after}
+use Rattle.t800_laws.proofs.Laws.Accepted.{all-given}
 use Rattle.t2_start_parts.proofs.Laws.FreshParts.{state-set}
 use borrow.Author.Needs.{needs}
 use Rattle.t2_start_parts.proofs.fill.Statement.{statement}

@@ -9,7 +9,7 @@ use lib.Seq.{sets}
 use Rattle.t800.specs.declared.Band.{Band}
 use Rattle.t800.specs.State.{bandLength, endOf, stateLength}
 use Rattle.t800.specs.Start.{freshBands}
-use Rattle.t800.proofs.Laws.Layout.{band-length}
+use Rattle.t800_laws.proofs.Laws.Layout.{band-length}
 use Rattle.tcd_layout.specs.Geometry.{noBand}
 use Rattle.tcd_layout.proofs.Laws.Bands.{next-band, sides-of-first, end-turn}
 use Rattle.t2_start_parts.proofs.Laws.FreshParts.{own-turn}

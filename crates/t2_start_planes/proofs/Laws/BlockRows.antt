@@ -10,7 +10,7 @@ use Rattle.t800.specs.declared.Band.{Band}
 use Rattle.t800.specs.declared.Level.{Level}
 use Rattle.t800.specs.TagTree.{levels, nodes, pathToRoot}
 use Rattle.t800.specs.State.{blocksIn, bandNodes, bandLength, blocksFrom, endOf}
-use Rattle.t800.proofs.Laws.Layout.{band-length, end-after}
+use Rattle.t800_laws.proofs.Laws.Layout.{band-length, end-after}
 use Rattle.tcd_layout.specs.Geometry.{noBand, padded}
 use Rattle.tcd_layout.proofs.Laws.Bands.{end-turn, blocks-split}
 use Rattle.tcd_layout.proofs.Laws.TreeLevels.{padded-front}

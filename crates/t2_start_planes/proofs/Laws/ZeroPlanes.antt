@@ -14,8 +14,8 @@ use Rattle.t800.specs.Base.{any}
 use Rattle.t800.specs.TagTree.{setValue}
 use Rattle.t800.specs.State.{Block, blockOf, blocksIn, bandNodes, bandLength, blocksFrom, blocksAt}
 use Rattle.t800.specs.Start.{setZeroPlanes}
-use Rattle.t800.proofs.Laws.Tests.{or-left, or-right}
-use Rattle.t800.proofs.Laws.Lists.{length-from, no-planes}
+use Rattle.t800_laws.proofs.Laws.Tests.{or-left, or-right}
+use Rattle.t800_laws.proofs.Laws.Lists.{length-from, no-planes}
 use Rattle.tcd_shape.proofs.Laws.BlockPlanes.{deepFrom}
 use Rattle.tgt.specs.Path.{rowOver, pathOver}
 use Rattle.tgt.proofs.Laws.Path.{TreeLevels}

@@ -9,7 +9,7 @@ use lib.ListN.{length, take, drop}
 use Rattle.t800.specs.declared.Band.{Band}
 use Rattle.t800.specs.State.{Block, blocksIn, bandNodes, blocksFrom}
 use Rattle.t800.specs.Start.{setZeroPlanes}
-use Rattle.t800.proofs.Laws.Layout.{band-length}
+use Rattle.t800_laws.proofs.Laws.Layout.{band-length}
 use Rattle.tgt.proofs.Laws.Path.{small-levels}
 use Rattle.t2_start_planes.specs.Rows.{setRow}
 use Rattle.t2_start_planes.proofs.Laws.Runs.{part-length}

@@ -11,8 +11,8 @@ use Rattle.t800.specs.Base.{sum}
 use Rattle.t800.specs.Segments.{segmentsOf}
 use Rattle.t800.specs.State.{Block, blocksIn, bandNodes, bandLength, blocksFrom, blocksAt}
 use Rattle.t800.specs.WriteHeader.{isNew, lengthBitsBefore, segmentTooLong, fieldTooWide}
-use Rattle.t800.proofs.Laws.Tests.{or-left, or-right}
-use Rattle.t800.proofs.Laws.Lists.{length-from}
+use Rattle.t800_laws.proofs.Laws.Tests.{or-left, or-right}
+use Rattle.t800_laws.proofs.Laws.Lists.{length-from}
 use Rattle.tcd_shape.proofs.Laws.BlockPlanes.{or-group}
 use Rattle.t2_segments.specs.Segments.{bitsBefore, anyTooLong, blockTooWide}
 use Rattle.t2_segments.proofs.Laws.Segments.{next-entry}

@@ -3,7 +3,7 @@ use Prim.Native.Nat.{_+_, _*_, ℕ}
 use borrow.Author.Needs.{needs}
 use mathlib.Core.Path.{_∙_, ap}
 use native.Mathlib.Omega.{arith}
-use Rattle.t800.proofs.Laws.Layout.{band-length}
+use Rattle.t800_laws.proofs.Laws.Layout.{band-length}
 use Rattle.t2_widths.proofs.Laws.BlocksLeft.{wide-band}
 use Rattle.t2_widths.proofs.band_too_wide.Statement.{statement}
 use Rattle.t2_widths.proofs.band_too_wide.Tie as tie

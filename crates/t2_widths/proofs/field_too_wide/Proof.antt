@@ -13,7 +13,7 @@ use Rattle.t800.specs.Base.{sum}
 use Rattle.t800.specs.State.{blocks, blocksAt, blocksFrom, blocksIn, bandLength, stateLength, endOf}
 use Rattle.t800.specs.WriteHeader.{segmentTooLong, fieldTooWide}
 use Rattle.t800.specs.declared.Band.{Band}
-use Rattle.t800.proofs.Laws.Layout.{band-length, end-after}
+use Rattle.t800_laws.proofs.Laws.Layout.{band-length, end-after}
 use Rattle.tcd_layout.specs.Geometry.{noBand}
 use Rattle.tcd_layout.proofs.Laws.Bands.{next-band, sides-of-first, blocks-turn, end-turn, length-blocks, blocks-up-to-12288}
 use Rattle.t2_widths.specs.Widths.{PassesLeft}

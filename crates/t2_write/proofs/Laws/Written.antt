@@ -13,8 +13,8 @@ use Rattle.t800.specs.declared.Markers.{Markers}
 use Rattle.t800.specs.Base.{sum, overwrite, wiped}
 use Rattle.t800.specs.WriteHeader.{Contribution, codeHeader}
 use Rattle.t800.specs.Packet.{measureChecks, measureRefusal, front, packet, packetChecks, writeRefusal, WriteResult, write}
-use Rattle.t800.proofs.Laws.Tests.{if-true, if-false, if-ne}
-use Rattle.t800.proofs.Laws.Checks.{not-first, first-later, first-earlier}
+use Rattle.t800_laws.proofs.Laws.Tests.{if-true, if-false, if-ne}
+use Rattle.t800_laws.proofs.Laws.Checks.{not-first, first-later, first-earlier}
 use Rattle.t2_refusals.specs.Refusals.{measureRefusalFor}
 use Rattle.t2_refusals.proofs.Laws.ScratchLength.{refusal-by-scratch-length}
 use Rattle.t2_write_header.specs.Header.{HeaderCoded}

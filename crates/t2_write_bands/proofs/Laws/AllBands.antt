@@ -13,11 +13,11 @@ use Rattle.t800.specs.declared.Bio.{Bio}
 use Rattle.t800.specs.TagTree.{setValue}
 use Rattle.t800.specs.State.{Block, blocksIn, bandNodes, bandLength, blocksFrom, blocksAt, blocks, endOf}
 use Rattle.t800.specs.WriteHeader.{isNew, setNewBlocks, codeBlocks}
-use Rattle.t800.proofs.Laws.Layout.{band-length, end-after}
-use Rattle.t800.proofs.Laws.SetLeaf.{length-setValue}
-use Rattle.t800.proofs.Laws.Tests.{either}
+use Rattle.t800_laws.proofs.Laws.Layout.{band-length, end-after}
+use Rattle.t800_laws.proofs.Laws.SetLeaf.{length-setValue}
+use Rattle.t800_laws.proofs.Laws.Tests.{either}
 use Rattle.bio_bytes.specs.Writing.{output, FreeBitsClear}
-use Rattle.t800.proofs.Laws.Lists.{length-from}
+use Rattle.t800_laws.proofs.Laws.Lists.{length-from}
 use Rattle.tgt_write.specs.Coding.{putCoded}
 use Rattle.t2_write_lengths.specs.Blocks.{coded}
 use Rattle.t2_write_block.specs.Runs.{Running, codeNext, codeAll, AllFit, setNext, setAll}

@@ -8,7 +8,7 @@ use borrow.Author.Needs.{needs}
 use Rattle.t800.specs.declared.Band.{Band}
 use Rattle.t800.specs.declared.Level.{Level}
 use Rattle.t800.specs.State.{bandLength, blocksAt, blocks, endOf, stateLength}
-use Rattle.t800.proofs.Laws.Layout.{end-after}
+use Rattle.t800_laws.proofs.Laws.Layout.{end-after}
 use Rattle.bio_bytes.specs.Writing.{FreeBitsClear}
 use Rattle.tcd_layout.specs.Geometry.{noBand, SidesUpTo64}
 use Rattle.tcd_layout.proofs.Laws.Bands.{next-band, no-more-bands, sides-of-first, end-turn, band-levels-at}

@@ -11,7 +11,7 @@ use Rattle.t800.specs.Segments.{Segment}
 use Rattle.t800.specs.State.{Block, notYetPlanes}
 use Rattle.t800.specs.TagTree.{Coded, codePath}
 use Rattle.t800.specs.WriteHeader.{isNew, codeInclusion, codeZeroPlanes, codePasses, codeBlock}
-use Rattle.t800.proofs.Laws.Tests.{either, if-eq, if-ne}
+use Rattle.t800_laws.proofs.Laws.Tests.{either, if-eq, if-ne}
 use Rattle.bio_bytes.specs.Writing.{Output, putBits, FreeBitsClear}
 use Rattle.bio_write.proofs.Laws.FreeBits.{putBits-append, putBits-clear}
 use Rattle.tgt_write.specs.Coding.{LeafCoded, putCoded}

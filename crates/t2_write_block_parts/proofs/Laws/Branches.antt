@@ -9,7 +9,7 @@ use lib.ListN.{getD}
 use Rattle.t800.specs.State.{Block, notYetPlanes}
 use Rattle.t800.specs.TagTree.{codePath}
 use Rattle.t800.specs.WriteHeader.{isNew, codeInclusion, codeZeroPlanes}
-use Rattle.t800.proofs.Laws.Tests.{if-eq, if-ne}
+use Rattle.t800_laws.proofs.Laws.Tests.{if-eq, if-ne}
 
 module _ (ws : List ℕ) (k : Block) where
   pub incl-new : (t c : ℕ) → getD ws (k .at) 0 ≡ 0 → codePath (k .inclTree) (t + 1) (reverse (k .path)) 0 ws ≡ codeInclusion t k c ws

@@ -8,7 +8,7 @@ use lib.ListN.{replicate, replicate-append-replicate}
 use Rattle.t800.specs.Base.{every}
 use Rattle.t800.specs.Bits.{bitsOf}
 use Rattle.t800.specs.Segments.{commaBits}
-use Rattle.t800.proofs.Laws.Computed.{every-below}
+use Rattle.t800_laws.proofs.Laws.Computed.{every-below}
 use Rattle.t2_write_codes.specs.PassTable.{sameBits}
 use Rattle.t2_write_codes.proofs.Laws.PassTable.{same-bits}
 

@@ -8,7 +8,7 @@ use lib.ListN.{getD}
 use mir.Facts.{and-yes}
 use Rattle.t800.specs.Bits.{bitsOf}
 use Rattle.t800.specs.PassCount.{passBits}
-use Rattle.t800.proofs.Laws.Computed.{every-below}
+use Rattle.t800_laws.proofs.Laws.Computed.{every-below}
 use Rattle.t2_write_codes.specs.PassTable.{sameBits, isCodeword, isPassTable, IsCodewordOf}
 
 pub same-bits : (xs ys : List ℕ) → T (sameBits xs ys) → xs ≡ ys

@@ -12,8 +12,8 @@ use Rattle.t800.specs.Segments.{segmentsOf}
 use Rattle.t800.specs.State.{Block, writer, bands, blocks, notYetIncluded}
 use Rattle.t800.specs.Ranges.{validState}
 use Rattle.t800.specs.WriteHeader.{Contribution, isNew, lengthBitsBefore, segmentTooLong, fieldTooWide}
-use Rattle.t800.proofs.Laws.Layout.{Layout, AllPlaced, layoutOf, blocks-placed}
-use Rattle.t800.proofs.Laws.Tests.{either}
+use Rattle.t800_laws.proofs.Laws.Layout.{Layout, AllPlaced, layoutOf, blocks-placed}
+use Rattle.t800_laws.proofs.Laws.Tests.{either}
 use Rattle.tcd_state.proofs.Laws.ValidStates.{valid-state, block-known, block-bounds}
 use Rattle.t2_segments.specs.Segments.{blockTooWide}
 use Rattle.t2_segments.proofs.Laws.Segments.{next-entry}

@@ -9,9 +9,9 @@ use Rattle.t800.specs.Bits.{pack}
 use Rattle.t800.specs.State.{writer, layer, bands, blocks, stateLength, notYetIncluded}
 use Rattle.t800.specs.TagTree.{Coded}
 use Rattle.t800.specs.WriteHeader.{Contribution, setNewBlocks, codeHeader}
-use Rattle.t800.proofs.Laws.HeaderBits.{bits-blocks}
-use Rattle.t800.proofs.Laws.Layout.{layoutOf, blocks-placed}
-use Rattle.t800.proofs.Laws.Pack.{AreBits}
+use Rattle.t800_laws.proofs.Laws.HeaderBits.{bits-blocks}
+use Rattle.t800_laws.proofs.Laws.Layout.{layoutOf, blocks-placed}
+use Rattle.t800_laws.proofs.Laws.Pack.{AreBits}
 use Rattle.round_trip.proofs.Trip.HeaderLength.{packed-up-to, header-up-to}
 use Rattle.round_trip.proofs.Trip.WriterState.{headerBlocks}
 use Rattle.bio_bytes.specs.Writing.{Output, output, emptyAt, lastPlace, putBit, putBits, flush}

@@ -12,7 +12,7 @@ use Rattle.t800.specs.Segments.{segmentsOf}
 use Rattle.t800.specs.State.{Block}
 use Rattle.t800.specs.TagTree.{Coded}
 use Rattle.t800.specs.WriteHeader.{isNew, setNewBlocks, codeBlock, codeBlocks}
-use Rattle.t800.proofs.Laws.Tests.{if-false, or-left, or-right}
+use Rattle.t800_laws.proofs.Laws.Tests.{if-false, or-left, or-right}
 use Rattle.bio_bytes.specs.Writing.{Output, putBits}
 use Rattle.bio_write.proofs.Laws.FreeBits.{putBits-append}
 use Rattle.tgt_write.specs.Coding.{putCoded}

@@ -10,7 +10,7 @@ use Rattle.t800.specs.State.{Block, bandNodes, blocksFrom}
 use Rattle.t800.specs.WriteHeader.{isNew, lengthBitsBefore, codeInclusion, codeZeroPlanes, codePasses, codeBlock}
 use Rattle.bio_bytes.specs.Writing.{FreeBitsClear}
 use Rattle.tcd_layout.specs.Geometry.{padded}
-use Rattle.t800.proofs.Laws.Lists.{length-from}
+use Rattle.t800_laws.proofs.Laws.Lists.{length-from}
 use Rattle.tgt.specs.Path.{rowOver}
 use Rattle.tgt.proofs.Laws.Path as tgt
 use Rattle.tcd_places.specs.declared.Place.{Place}

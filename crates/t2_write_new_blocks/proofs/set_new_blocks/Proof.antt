@@ -8,7 +8,7 @@ use mathlib.Core.Path.{_≡_, ap, sym, _∙_}
 use native.Mathlib.Omega.{arith}
 use Rattle.t800.specs.Base.{any}
 use Rattle.t800.specs.State.{blocksIn}
-use Rattle.t800.proofs.Laws.Lists.{length-from}
+use Rattle.t800_laws.proofs.Laws.Lists.{length-from}
 use Rattle.tcd_places.specs.Places.{bandBlocks}
 use Rattle.t2_write_new_blocks.proofs.Laws.AllBlocks.{none-set}
 use Rattle.t2_write_new_blocks.proofs.set_new_blocks.Statement.{statement}

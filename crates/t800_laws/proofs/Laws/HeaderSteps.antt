@@ -16,7 +16,7 @@ use Rattle.t800.specs.WriteHeader.{isNew}
 use Rattle.t800.specs.ReadHeader.{HeaderRead, refused, movedTo, withReport, withRecord, passesTaken, readSegment, readSegments}
 use Rattle.t800.specs.ReadHeader.{readZeroPlanesFrom, readZeroPlanes, readIncluded, readNewBlock, readOldBlock, readBlock, readBlocks}
 use Rattle.t800.specs.ReadHeader.{readHeader}
-use Rattle.t800.proofs.Laws.Tests.{either}
+use Rattle.t800_laws.proofs.Laws.Tests.{either}
 
 -- ---- trees
 

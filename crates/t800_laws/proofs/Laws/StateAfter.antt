@@ -26,9 +26,9 @@ use Rattle.t800.specs.ReadHeader.{HeaderRead, readHeader}
 use Rattle.t800.specs.MarkerSegments.{MarkerRead, readMarker, readSop}
 use Rattle.t800.specs.Packet.{writeRefusal, WriteResult, write, readRefusal, ReadResult, readAbsent}
 use Rattle.t800.specs.Packet.{readResult, refusedAnswer, readPresent, read}
-use Rattle.t800.proofs.Laws.Tests.{either, either-by, if-true, if-false, and-left, and-right, not-refused}
-use Rattle.t800.proofs.Laws.Layout.{end-after}
-use Rattle.t800.proofs.Laws.FirstWords.{same-bands}
+use Rattle.t800_laws.proofs.Laws.Tests.{either, either-by, if-true, if-false, and-left, and-right, not-refused}
+use Rattle.t800_laws.proofs.Laws.Layout.{end-after}
+use Rattle.t800_laws.proofs.Laws.FirstWords.{same-bands}
 use Rattle.t800_laws.proofs.Laws.WordCounts.{blocksCoded, header-coded, header-read}
 
 -- ---- what a call that gives no 5 says of its state

@@ -13,8 +13,8 @@ use Rattle.t800.specs.State.{Block, notYetPlanes, blocks, bands, layer}
 use Rattle.t800.specs.WriteHeader.{Contribution, isNew, setNewBlocks, codeInclusion, codeZeroPlanes, codePasses, codeBlock}
 use Rattle.t800.specs.WriteHeader.{codeBlocks}
 use Rattle.t800.specs.ReadHeader.{readHeader}
-use Rattle.t800.proofs.Laws.Tests.{either}
-use Rattle.t800.proofs.Laws.SetLeaf.{length-setValue}
+use Rattle.t800_laws.proofs.Laws.Tests.{either}
+use Rattle.t800_laws.proofs.Laws.SetLeaf.{length-setValue}
 use Rattle.t800_laws.proofs.Laws.HeaderSteps.{header-keeps}
 
 -- ---- writing

@@ -14,7 +14,7 @@ use Rattle.t800.specs.Base.{every}
 use Rattle.t800.specs.Segments.{isLimit}
 use Rattle.t800.specs.State.{writer, notYetIncluded, notYetPlanes, role, style, layer, bandNodes, blocksIn}
 use Rattle.t800.specs.Ranges.{nodeInRange, blockInRange, bandInRange}
-use Rattle.t800.proofs.Laws.Tests.{on-eq}
+use Rattle.t800_laws.proofs.Laws.Tests.{on-eq}
 use Rattle.tcd_shape.specs.declared.Limits.{Limits}
 use Rattle.tcd_shape.specs.Parts.{LimitsOf, isOneOf, lengthBitsInRange, segmentInRange, blockWordsInRange}
 

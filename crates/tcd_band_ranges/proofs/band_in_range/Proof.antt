@@ -4,7 +4,7 @@ use borrow.Author.Tests.{not-false, not-true}
 use mathlib.Core.Bool.{false, true}
 use mathlib.Core.Path.{_∙_, refl, sym}
 use native.Mathlib.Omega.{arith}
-use Rattle.t800.proofs.Laws.Layout.{band-length}
+use Rattle.t800_laws.proofs.Laws.Layout.{band-length}
 use Rattle.tcd_band_ranges.proofs.Laws.BandParts.{band-parts}
 use Rattle.tcd_band_ranges.proofs.band_in_range.Statement.{statement}
 use Rattle.tcd_band_ranges.proofs.band_in_range.Tie as tie

@@ -14,7 +14,7 @@ use Rattle.t800.specs.Ranges.{badShape, badStyle, bandTooDeep, unusedBandsZero}
 use Rattle.tcd_layout.specs.Geometry.{AllUpTo64}
 use Rattle.tcd_layout.proofs.Laws.Bands.{shape-not-refused}
 use Rattle.tcd_shape.specs.Parts.{threeBands, shapeInRange, firstWordsInRange}
-use Rattle.t800.proofs.Laws.Tests.{and-right}
+use Rattle.t800_laws.proofs.Laws.Tests.{and-right}
 
 pub band-words : (ws : List ℕ) (i a d p : ℕ) → a ≡ getD ws (4 + 3 * i) 0 → d ≡ getD ws (4 + 3 * i + 1) 0 → p ≡ getD ws (4 + 3 * i + 2) 0
     → _≡_ {A = Band} (record { across = a; down = d; planes = p }) (bandAt ws i)

@@ -11,8 +11,8 @@ use lib.Seq.{sets, sets-eq, take-append-seam}
 use lib.Dec.{leb}
 use Rattle.t800.specs.declared.Level.{Level}
 use Rattle.t800.specs.TagTree.{levelsFrom, noLevel, levels, nodesIn, nodes}
-use Rattle.t800.proofs.Laws.Tests.{if-le, if-gt, either}
-use Rattle.t800.proofs.Laws.Levels.{at-most-seven-levels}
+use Rattle.t800_laws.proofs.Laws.Tests.{if-le, if-gt, either}
+use Rattle.t800_laws.proofs.Laws.Levels.{at-most-seven-levels}
 use Rattle.tcd_layout.specs.Geometry.{padded}
 use Rattle.tcd_layout.proofs.Laws.Lists.{drop-replicate}
 

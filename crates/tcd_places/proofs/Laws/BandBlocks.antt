@@ -6,8 +6,8 @@ use native.Mathlib.Omega.{arith}
 use Rattle.t800.specs.declared.Band.{Band}
 use Rattle.t800.specs.TagTree.{nodes, pathToRoot}
 use Rattle.t800.specs.State.{blockOf, blocksIn, bandNodes, bandLength, blocksFrom, blocksAt, endOf}
-use Rattle.t800.proofs.Laws.Layout.{band-length, end-after}
-use Rattle.t800.proofs.Laws.Paths.{leaf-path}
+use Rattle.t800_laws.proofs.Laws.Layout.{band-length, end-after}
+use Rattle.t800_laws.proofs.Laws.Paths.{leaf-path}
 use Rattle.tcd_places.proofs.Laws.Before.{Before, below-before, reversed-before, BlockBefore, AllBlocks, From, all-append}
 
 -- a leaf's path lies before place q if the tree does

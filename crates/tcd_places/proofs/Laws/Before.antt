@@ -7,7 +7,7 @@ use lib.ListN.{getD, take, drop}
 use lib.Pow.{shr-shr}
 use lib.Seq.{drop-drop, getD-drop}
 use Rattle.t800.specs.State.{Block}
-use Rattle.t800.proofs.Laws.Paths.{All, AllBelow}
+use Rattle.t800_laws.proofs.Laws.Paths.{All, AllBelow}
 use Rattle.tgt.specs.Path.{nodesOver, pathOver, PathIn}
 
 -- ---- a path

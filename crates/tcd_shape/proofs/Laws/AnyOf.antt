@@ -10,7 +10,7 @@ use lib.Bits.{bitOr}
 use lib.Dec.{eqb, ltb, leb}
 use borrow.Author.Tests.{lt-ltb, le-ltb, le-leb, lt-leb}
 use Rattle.t800.specs.Base.{any}
-use Rattle.t800.proofs.Laws.Tests.{on-lt}
+use Rattle.t800_laws.proofs.Laws.Tests.{on-lt}
 use Rattle.tcd_shape.specs.Parts.{fault}
 
 module _ {ℓ} {A : Type ℓ} (f : A → Bool) where

@@ -11,8 +11,8 @@ use Rattle.t800.specs.declared.Band.{Band}
 use Rattle.t800.specs.Base.{any}
 use Rattle.t800.specs.State.{Block, blocksIn, bandLength, blocksFrom, blocksAt, blocks}
 use Rattle.t800.specs.Ranges.{blockTooDeep}
-use Rattle.t800.proofs.Laws.Tests.{on-le}
-use Rattle.t800.proofs.Laws.Lists.{none-too-deep}
+use Rattle.t800_laws.proofs.Laws.Tests.{on-le}
+use Rattle.t800_laws.proofs.Laws.Lists.{none-too-deep}
 
 -- what stands for the definition while the bands are gone through: the planes that are left, for the bands that are left
 unfoldable pub deepFrom : List Band → List ℕ → Bool

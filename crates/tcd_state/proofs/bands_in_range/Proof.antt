@@ -8,7 +8,7 @@ use mathlib.Core.Bool.{Bool, false, true, _&&_, and-false, and-true}
 use mathlib.Core.List.{List}
 use mathlib.Core.Path.{_∙_, _≡_, ap, ap₂, refl, sym}
 use native.Mathlib.Omega.{arith}
-use Rattle.t800.proofs.Laws.Layout.{band-length, end-after}
+use Rattle.t800_laws.proofs.Laws.Layout.{band-length, end-after}
 use Rattle.t800.specs.Ranges.{bandsInRange}
 use Rattle.t800.specs.State.{bandLength, endOf, stateLength}
 use Rattle.t800.specs.declared.Band.{Band}

@@ -10,8 +10,8 @@ use lib.Pow.{shr-shr}
 use lib.Seq.{length-take-le, drop-cons, getD-take, take-at, take-append-seam}
 use Rattle.t800.specs.declared.Level.{Level}
 use Rattle.t800.specs.TagTree.{noLevel, levels, nodes, pathFrom, pathToRoot}
-use Rattle.t800.proofs.Laws.Levels.{at-most-seven-levels}
-use Rattle.t800.proofs.Laws.Paths.{All, AllBelow, Halves, levels-halve, LeafPath, leaf-path}
+use Rattle.t800_laws.proofs.Laws.Levels.{at-most-seven-levels}
+use Rattle.t800_laws.proofs.Laws.Paths.{All, AllBelow, Halves, levels-halve, LeafPath, leaf-path}
 use Rattle.tgt.specs.Path.{rowFrom, rowOver, nodesOver, pathOver, leafWord, PathIn, SmallLevels}
 
 -- ---- one node more, from the leaf up and from the root down

@@ -7,7 +7,7 @@ use lib.ListN.{set}
 use lib.Seq.{sets}
 use Rattle.t800.specs.TagTree.{setValue, value}
 use Rattle.t800.specs.Start.{freshNodes}
-use Rattle.t800.proofs.Laws.Tests.{if-lt, if-ge}
+use Rattle.t800_laws.proofs.Laws.Tests.{if-lt, if-ge}
 
 module _ (base n : ℕ) (ns : List ℕ) (v : ℕ) (ws : List ℕ) where
   pub set-stop : value ws (base + 3 * n) ≤ v → setValue base (n ∷ ns) v ws ≡ ws

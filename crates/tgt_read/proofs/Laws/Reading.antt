@@ -12,7 +12,7 @@ use Rattle.t800.specs.Bits.{getBit}
 use Rattle.t800.specs.TagTree.{NodeRead, PathRead, value, low, readNode, readPath}
 use Rattle.t800.specs.State.{Block, notYetPlanes}
 use Rattle.t800.specs.ReadHeader.{readZeroPlanesFrom}
-use Rattle.t800.proofs.Laws.Tests.{either, if-true, if-false}
+use Rattle.t800_laws.proofs.Laws.Tests.{either, if-true, if-false}
 use Rattle.bio_read.proofs.Laws.ReadChunks.{getBit-ct, getBit-place}
 use Rattle.tgt_read.specs.Reading.{pathRead, LeafAfter, leafAfter, belowIn, NodeAfter, readAt}
 use Rattle.tgt_read.specs.declared.LeafRead.{LeafRead}

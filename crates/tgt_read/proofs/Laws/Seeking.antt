@@ -12,7 +12,7 @@ use borrow.Author.Tests.{eq-eqb, lt-ltb, ltb-true, eqb-true}
 use Rattle.t800.specs.declared.Bio.{Bio}
 use Rattle.t800.specs.Bits.{Decoded, byteIn, heldBit, getBit}
 use Rattle.t800.specs.TagTree.{NodeRead, readNode}
-use Rattle.t800.proofs.Laws.Tests.{if-lt, if-ge, if-eq, if-ne, on-lt, on-eq}
+use Rattle.t800_laws.proofs.Laws.Tests.{if-lt, if-ge, if-eq, if-ne, on-lt, on-eq}
 use Rattle.bio_bytes.proofs.Laws.HeldWord.{bioOf}
 use Rattle.bio_read.proofs.Laws.ReadChunks.{byteIn-ct, get-held}
 use Rattle.tgt_read.specs.Reading.{seen, LeadingZeros}

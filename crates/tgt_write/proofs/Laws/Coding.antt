@@ -11,7 +11,7 @@ use lib.Seq.{getD-set-other, set-getD}
 use borrow.Author.Tests.{lt-ltb, le-ltb, ltb-true, ltb-false, leb-true, eqb-true}
 use Rattle.t800.specs.declared.Bio.{Bio}
 use Rattle.t800.specs.TagTree.{codePath, lowAfter, nodeBits, knownAfter, value, low, known}
-use Rattle.t800.proofs.Laws.Tests.{if-ne}
+use Rattle.t800_laws.proofs.Laws.Tests.{if-ne}
 use Rattle.bio_bytes.specs.Writing.{Output, output, byteOut, makeRoom, putBit, putBits, holdBit, FreeBitsClear}
 use Rattle.bio_bytes.proofs.Laws.HeldWord.{bioOf}
 use Rattle.bio_write.proofs.Laws.FreeBits.{byteOut-ct, putBits-append, putBits-clear}

@@ -2,7 +2,7 @@
 use borrow.Author.Tests.{le-leb, le-ltb, lt-leb, lt-ltb}
 use mathlib.Core.Path.{_∙_, sym}
 use native.Mathlib.Omega.{arith}
-use Rattle.t800.proofs.Laws.Tests.{on-lt}
+use Rattle.t800_laws.proofs.Laws.Tests.{on-lt}
 use Rattle.t800.specs.Ranges.{badStyle}
 use Rattle.tcd_style.proofs.Style.is_refused.Statement.{statement}
 use Rattle.tcd_style.proofs.Style.is_refused.Tie as tie

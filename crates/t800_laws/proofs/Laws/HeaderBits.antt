@@ -5,14 +5,14 @@ use Prim.Native.Nat.{ℕ, zero, suc, _+_, _-_, _<_}
 use native.Mathlib.Omega.{arith}
 use lib.ListN.{take, drop, replicate}
 use lib.Dec.{ltb, leb, eqb}
 use Rattle.t800.specs.Bits.{bitsOf}
 use Rattle.t800.specs.TagTree.{Coded, lowAfter, nodeBits, codePath}
 use Rattle.t800.specs.PassCount.{passBits}
 use Rattle.t800.specs.Segments.{Segment, segmentsOf, width, increment, commaBits, lengthFields}
 use Rattle.t800.specs.State.{Block}
 use Rattle.t800.specs.WriteHeader.{isNew, lengthBitsBefore, codeInclusion, codeZeroPlanes, codePasses, codeBlock, codeBlocks}
-use Rattle.t800.proofs.Laws.Tests.{either}
-use Rattle.t800.proofs.Laws.Pack.{AreBits}
+use Rattle.t800_laws.proofs.Laws.Tests.{either}
+use Rattle.t800_laws.proofs.Laws.Pack.{AreBits}
 
 pub bitsOf-bits : (n v : ℕ) → AreBits (bitsOf n v)
 unfolding bitsOf

@@ -6,8 +6,8 @@ use mathlib.Core.List.{List, [], _∷_, _++_}
 use Prim.Native.Nat.{ℕ}
 use lib.Dec.{eqb}
 use borrow.Author.Tests.{eqb-true, eqb-false}
 use Rattle.t800.specs.Refusals.{Check, firstOf}
-use Rattle.t800.proofs.Laws.Tests.{if-true, if-false, either}
+use Rattle.t800_laws.proofs.Laws.Tests.{if-true, if-false, either}
 
 -- n is none of the numbers, nor 0
 abbrev pub NotAmong : ℕ → List Check → Type 0

@@ -8,12 +8,12 @@ use native.Mathlib.Omega.{arith}
 use lib.ListN.{length, take, length-take}
 use lib.Dec.{ltb, eqb}
 use borrow.Author.Tests.{ltb-false, eqb-true, eq-eqb, not-false}
 use Rattle.t800.specs.declared.Band.{Band}
 use Rattle.t800.specs.Base.{any}
 use Rattle.t800.specs.State.{Block, notYetPlanes, writer, blocksIn, bandLength, blocksFrom, blocksAt, blocks, stateLength}
 use Rattle.t800.specs.Ranges.{badShape, badStyle, bandTooDeep, blockTooDeep}
 use Rattle.t800.specs.Start.{freshState, setZeroPlanes, startRefusal, start}
-use Rattle.t800.proofs.Laws.Tests.{if-true, or-left, or-right, not-refused}
+use Rattle.t800_laws.proofs.Laws.Tests.{if-true, or-left, or-right, not-refused}
 
 pub record StartAccepted (r n : ℕ) (given : List Band) (s : ℕ) (planes lent : List ℕ) : Type 0 where
   pub shape : badShape n (take n given) ≡ false

@@ -7,16 +7,16 @@ use native.Mathlib.Omega.{arith}
 use lib.ListN.{length}
 use lib.Dec.{eqb}
 use borrow.Author.Tests.{not-false, eqb-true}
 use Rattle.t800.specs.declared.Band.{Band}
 use Rattle.t800.specs.Base.{sum}
 use Rattle.t800.specs.Segments.{segmentsFrom}
 use Rattle.t800.specs.Reports.{SegmentRecord, recordWidth, recordWords}
 use Rattle.t800.specs.State.{Block, blocksFrom}
 use Rattle.t800.specs.Ranges.{blockTooDeep}
 use Rattle.t800.specs.Start.{setZeroPlanes}
 use Rattle.t800.specs.WriteHeader.{Contribution}
 use Rattle.t800.specs.Packet.{wrongLists}
-use Rattle.t800.proofs.Laws.Tests.{or-left, or-right}
+use Rattle.t800_laws.proofs.Laws.Tests.{or-left, or-right}
 
 pub length-from : (at : ℕ) (b : Band) (n i : ℕ) → length (blocksFrom at b n i) ≡ n
 unfolding blocksFrom

@@ -8,9 +8,9 @@ use native.Mathlib.Omega.{arith}
 use lib.ListN.{length}
 use lib.Dec.{leb}
 use borrow.Author.Tests.{leb-true}
 use Rattle.t800.specs.declared.Level.{Level}
 use Rattle.t800.specs.TagTree.{levelsFrom, levels}
-use Rattle.t800.proofs.Laws.Tests.{on-lt}
+use Rattle.t800_laws.proofs.Laws.Tests.{on-lt}
 
 -- the last level is one node across and one down
 abbrev pub EndsInOneNode : List Level → Type 0

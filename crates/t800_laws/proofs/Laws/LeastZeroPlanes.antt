@@ -8,17 +8,17 @@ use native.Mathlib.Omega.{arith}
 use lib.Arith.{digits-lt, digits-div, digits-mod}
 use lib.ListN.{length, getD, set, take, List·getD-eq-default}
 use lib.Seq.{getD-set-same, getD-set-other}
 use Rattle.t800.specs.declared.Band.{Band}
 use Rattle.t800.specs.declared.Level.{Level}
 use Rattle.t800.specs.TagTree.{levelsFrom, levels, nodesIn, nodes, pathFrom, pathToRoot, value, setValue}
 use Rattle.t800.specs.State.{Block, notYetPlanes, writer, blocksIn, bandNodes, bandLength, blockOf, blocksFrom, blocksAt, blocks}
 use Rattle.t800.specs.Start.{freshState, setZeroPlanes, start}
-use Rattle.t800.proofs.Laws.Tests.{on-eq, on-lt}
-use Rattle.t800.proofs.Laws.Paths.{All, Ancestors, size, Halves, levels-halve, row-below, column-below, addresses}
-use Rattle.t800.proofs.Laws.Layout.{Tree, zeroPlanes, notYet, Layout, AllPlaced, NodeFrom, layoutOf, blocks-placed}
-use Rattle.t800.proofs.Laws.FreshState.{fresh-length, fresh-node}
-use Rattle.t800.proofs.Laws.SetLeaf.{lowers, ends, length-setValue, every-word, Ordered, setValue-ordered}
-use Rattle.t800.proofs.Laws.Accepted.{start-accepted, NotTooDeep, not-too-deep}
+use Rattle.t800_laws.proofs.Laws.Tests.{on-eq, on-lt}
+use Rattle.t800_laws.proofs.Laws.Paths.{All, Ancestors, size, Halves, levels-halve, row-below, column-below, addresses}
+use Rattle.t800_laws.proofs.Laws.Layout.{Tree, zeroPlanes, notYet, Layout, AllPlaced, NodeFrom, layoutOf, blocks-placed}
+use Rattle.t800_laws.proofs.Laws.FreshState.{fresh-length, fresh-node}
+use Rattle.t800_laws.proofs.Laws.SetLeaf.{lowers, ends, length-setValue, every-word, Ordered, setValue-ordered}
+use Rattle.t800_laws.proofs.Laws.Accepted.{start-accepted, NotTooDeep, not-too-deep}
 
 -- ---- the claim
 

@@ -9,14 +9,14 @@ use Prim.Native.Nat.{ℕ, zero, suc, _+_, _-_, _*_, _/_, _≤_, _<_}
 use native.Mathlib.Nat.{le-trans, le-refl}
 use native.Mathlib.Omega.{arith}
 use lib.Dec.{ltb}
 use Rattle.t800.specs.declared.Band.{Band}
 use Rattle.t800.specs.TagTree.{pathToRoot}
 use Rattle.t800.specs.State.{notYetIncluded, notYetPlanes, Block, blockOf, blocksIn, bandNodes, bandLength, blocksFrom}
 use Rattle.t800.specs.State.{blocksAt, blocks, endOf}
-use Rattle.t800.proofs.Laws.Tests.{if-lt, if-ge}
-use Rattle.t800.proofs.Laws.Paths.{All, NotIn, Rising, rising-from, AllBelow, Ancestors, parentOf, parent-in-tree, LeafPath}
-use Rattle.t800.proofs.Laws.Paths.{leaf-path, addresses, Apart, AllApart, all-addresses, lower-not-in, reversed-apart}
-use Rattle.t800.proofs.Laws.Paths.{address-ancestors, all-reversed}
+use Rattle.t800_laws.proofs.Laws.Tests.{if-lt, if-ge}
+use Rattle.t800_laws.proofs.Laws.Paths.{All, NotIn, Rising, rising-from, AllBelow, Ancestors, parentOf, parent-in-tree, LeafPath}
+use Rattle.t800_laws.proofs.Laws.Paths.{leaf-path, addresses, Apart, AllApart, all-addresses, lower-not-in, reversed-apart}
+use Rattle.t800_laws.proofs.Laws.Paths.{address-ancestors, all-reversed}
 
 -- ---- the two trees of a band
 

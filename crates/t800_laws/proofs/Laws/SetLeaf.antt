@@ -10,10 +10,10 @@ use native.Mathlib.Omega.{arith}
 use lib.ListN.{length, getD, set, length-set}
 use lib.Seq.{getD-set-same, getD-set-other, set-out}
 use lib.Dec.{ltb}
 use Rattle.t800.specs.TagTree.{value, setValue}
-use Rattle.t800.proofs.Laws.Tests.{on-eq, on-lt, if-lt, if-ge, either}
-use Rattle.t800.proofs.Laws.Paths.{All, NotIn, Ancestors, addresses}
-use Rattle.t800.proofs.Laws.Layout.{Tree, Layout}
+use Rattle.t800_laws.proofs.Laws.Tests.{on-eq, on-lt, if-lt, if-ge, either}
+use Rattle.t800_laws.proofs.Laws.Paths.{All, NotIn, Ancestors, addresses}
+use Rattle.t800_laws.proofs.Laws.Layout.{Tree, Layout}
 
 -- one step: a larger value is lowered, and the path goes on; or it ends
 pub lowers : (base n : ℕ) (ns : List ℕ) (v : ℕ) (ws : List ℕ) → v < value ws (base + 3 * n) → setValue base (n ∷ ns) v ws

@@ -9,9 +9,9 @@ use native.Mathlib.Nat.{le-trans, le-of-eq, mul-comm, zero-mul, mod-lt, div-lt-i
 use native.Mathlib.Omega.{arith}
 use lib.Arith.{digits-lt, digits-div, digits-mod}
 use lib.Dec.{ltb, leb}
 use Rattle.t800.specs.declared.Level.{Level}
 use Rattle.t800.specs.TagTree.{levelsFrom, levels, nodesIn, nodes, pathFrom, pathToRoot}
-use Rattle.t800.proofs.Laws.Tests.{if-lt, if-ge, either, on-lt}
+use Rattle.t800_laws.proofs.Laws.Tests.{if-lt, if-ge, either, on-lt}
 
 -- ---- lists of numbers
 

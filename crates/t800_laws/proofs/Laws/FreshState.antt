@@ -7,14 +7,14 @@ use Prim.Native.Nat.{ℕ, zero, suc, _+_, _*_, _≤_, _<_}
 use native.Mathlib.Omega.{arith}
 use lib.ListN.{length, getD, drop, length-append}
 use lib.Seq.{drop-append-seam, drop-drop, getD-append-add, getD-drop}
 use Rattle.t800.specs.declared.Band.{Band}
 use Rattle.t800.specs.Base.{every}
 use Rattle.t800.specs.TagTree.{value, low, known}
 use Rattle.t800.specs.State.{notYetIncluded, notYetPlanes, bandNodes, blocksIn, bandLength, endOf, bands, bandAt}
 use Rattle.t800.specs.Ranges.{unusedBandsZero}
 use Rattle.t800.specs.Start.{freshNodes, freshBlocks, freshBands, bandWords, freshState}
-use Rattle.t800.proofs.Laws.Layout.{Tree, inclusion, zeroPlanes, notYet, NodeFrom, BlockFrom, treeFrom, band-length}
-use Rattle.t800.proofs.Laws.FirstWords.{FirstWords}
+use Rattle.t800_laws.proofs.Laws.Layout.{Tree, inclusion, zeroPlanes, notYet, NodeFrom, BlockFrom, treeFrom, band-length}
+use Rattle.t800_laws.proofs.Laws.FirstWords.{FirstWords}
 
 -- ---- lengths
 
