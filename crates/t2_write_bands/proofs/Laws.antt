@@ -1,2 +1,4 @@
+pub mod BandRows
+pub mod AllBlocks
 pub mod TwoBands
 pub mod AllBands

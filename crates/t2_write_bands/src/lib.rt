@@ -12,7 +12,7 @@ ghost use Rattle.tgt_write.specs.Coding.{leafCoded, putCoded};
 ghost use Rattle.tcd_layout.specs.Geometry.{AllUpTo64, padded};
 ghost use Rattle.t2_write_codes.specs.PassTable.{isPassTable};
 ghost use Rattle.t2_write_block.specs.Runs.{running, codeAll, AllFit};
-ghost use Rattle.t2_write_new_blocks.specs.Bands.{codeBand};
+ghost use Rattle.t2_write_bands.specs.Bands.{codeBand};
 ghost use Rattle.tcd_places.specs.Places.{BandIn, bandBlocks, gridOf};
 use t2_write_block::Run;
 use t800::Band;

@@ -1,15 +1,13 @@
--- Blocks one after another, with the lists whole and the places in them running on: `Laws.Running` says that this is t800's coding and
--- setting of what is left of the lists.
+-- Blocks one after another, with the lists whole and the places in them running on: `code-is-blocks` (t2_write_bands) says that this is
+-- t800's coding of what is left of the lists.
 use Prim.Native.Nat.{ℕ, _+_, _≤_, _<_}
 use mathlib.Core.Path.{_≡_}
-use mathlib.Core.Bool.{cond, _&&_}
 use mathlib.Core.List.{List, [], _∷_}
-use lib.Dec.{ltb}
 use lib.ListN.{length, getD, take, drop}
 use Rattle.t800.specs.Segments.{segmentsOf}
 use Rattle.t800.specs.State.{Block}
-use Rattle.t800.specs.TagTree.{Coded, setValue}
-use Rattle.t800.specs.WriteHeader.{isNew, codeBlock}
+use Rattle.t800.specs.TagTree.{Coded}
+use Rattle.t800.specs.WriteHeader.{codeBlock}
 use Rattle.bio_bytes.specs.Writing.{Output, output, putBits}
 use Rattle.t2_write_block.specs.declared.Run.{Run}
 use Rattle.t2_write_lengths.specs.Blocks.{PassesFit}
@@ -53,13 +51,3 @@ abbrev pub AllFit : List ℕ → List ℕ → List ℕ → List ℕ → List Blo
 AllFit cs ls ms ws [] block pass = Unit {0}
 AllFit cs ls ms ws (k ∷ ks) block pass = NextFits cs ls ms ws (k .at) block pass
     × AllFit cs ls ms ws ks (block + 1) (pass + getD cs block 0)
-
--- ---- setting
-
--- a block that is new in layer t is set in its inclusion tree
-unfoldable pub setNext : ℕ → Block → ℕ → List ℕ → List ℕ
-setNext t k c ws = cond (isNew ws k && ltb 0 c) (setValue (k .inclTree) (k .path) t ws) ws
-
-unfoldable pub setAll : ℕ → List ℕ → List Block → ℕ → List ℕ → List ℕ
-setAll t cs [] block ws = ws
-setAll t cs (k ∷ ks) block ws = setAll t cs ks (block + 1) (setNext t k (getD cs block 0) ws)

@@ -5,7 +5,7 @@ ghost use lib.ListN.{length};
 ghost use Rattle.t800.specs.TagTree.{levels};
 ghost use Rattle.t800.specs.State.{blocksIn};
 ghost use Rattle.tcd_layout.specs.Geometry.{padded};
-ghost use Rattle.t2_write_block.specs.Runs.{setAll};
+ghost use Rattle.t2_write_new_rows.specs.Setting.{setAll};
 ghost use Rattle.tcd_places.specs.Places.{BandIn, bandBlocks, gridOf};
 use t800::Band;
 use t800::Level;

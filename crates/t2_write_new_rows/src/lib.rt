@@ -3,7 +3,7 @@ ghost use mathlib.Core.Path.{_≡_};
 ghost use Prim.Native.Nat.{_+_, _≤_};
 ghost use lib.ListN.{length};
 ghost use Rattle.tcd_places.specs.Places.{BlockIn, RowIn, blockIn, rowBlocks};
-ghost use Rattle.t2_write_block.specs.Runs.{setNext, setAll};
+ghost use Rattle.t2_write_new_rows.specs.Setting.{setNext, setAll};
 use tcd_places::Place;
 
 fn set_next(words: &mut [u32], p: Place, row: &[usize; 7], layer: u32, count: u32)

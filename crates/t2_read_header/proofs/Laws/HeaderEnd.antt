@@ -13,11 +13,10 @@ use Rattle.t800.specs.declared.Bio.{Bio}
 use Rattle.t800.specs.Base.{overwrite}
 use Rattle.t800.specs.Bits.{endsInFF}
 use Rattle.t800.specs.Reports.{reportWords, recordWords, reportWidth, recordWidth}
-use Rattle.t800.specs.State.{reader, layer, bands, blocks, stateLength, endOf}
+use Rattle.t800.specs.State.{reader, layer, bands, blocks}
 use Rattle.t800.specs.ReadHeader.{HeaderRead, refused, readBlocks, readHeader}
-use Rattle.t800_laws.proofs.Laws.Layout.{end-after}
 use Rattle.round_trip.proofs.Trip.Segments.{readSoFar}
-use Rattle.tcd_state.proofs.Laws.ValidStates.{ValidState}
+use Rattle.tcd_state.proofs.Laws.ValidStates.{ValidState, bands-inside}
 use Rattle.t2_read_segments.specs.declared.Run.{Run}
 use Rattle.t2_read_segments.specs.Reading.{Reading, reading, stopped, nextBlocks, heldBy, BitsIn, Follows}
 use Rattle.t2_read_block_parts.proofs.Laws.Kept.{blocks-keep}
@@ -25,15 +24,6 @@ use Rattle.t2_read_block.proofs.Laws.Follows.{Ends, blocks-end}
 use Rattle.tcd_places.proofs.Laws.BandBlocks.{bands-before}
 use Rattle.t2_read_header.specs.Header.{ReadsHeader}
 use Rattle.t2_read_header.proofs.Laws.BandBlocks.{bands-apart}
-
--- a state that refusal 5 lets pass is as long as its bands ask for
-module _ (ws : List ℕ) (n : ℕ) (valid : ValidState reader ws n) where
-  pub bands-inside : endOf 13 (bands ws) ≤ length ws
-  unfolding stateLength
-  bands-inside = omega (arith, valid .length-is)
-
-  pub thirteen-words : 13 ≤ length ws
-  thirteen-words = omega (arith, bands-inside, end-after 13 (bands ws))
 
 module _ (src reports records ws : List ℕ) (b : Bio) (valid : ValidState reader ws (length ws))
     (lent : length reports ≡ reportWidth * length (blocks (bands ws))) (start : Run)

@@ -20,15 +20,18 @@ use Rattle.bio_bytes.specs.Writing.{output, FreeBitsClear}
 use Rattle.t800_laws.proofs.Laws.Lists.{length-from}
 use Rattle.tgt_write.specs.Coding.{putCoded}
 use Rattle.t2_write_lengths.specs.Blocks.{coded}
-use Rattle.t2_write_block.specs.Runs.{Running, codeNext, codeAll, AllFit, setNext, setAll}
+use Rattle.t2_write_block.specs.Runs.{Running, codeNext, codeAll, AllFit}
+use Rattle.t2_write_new_rows.specs.Setting.{setNext, setAll}
 use Rattle.t2_write_block.proofs.Laws.Rows.{all-still-fit}
-use Rattle.t2_write_new_blocks.specs.Bands.{newSet, codeBand, codeBands}
-use Rattle.t2_write_new_blocks.proofs.Laws.BandRows.{code-append, set-append, all-clear, still-fit-after, first-fit}
+use Rattle.t2_write_bands.specs.Bands.{newSet, codeBand, codeBands}
+use Rattle.t2_write_new_blocks.proofs.Laws.BandRows.{set-append}
+use Rattle.t2_write_bands.proofs.Laws.BandRows.{code-append, all-clear, still-fit-after, first-fit}
 use Rattle.tcd_places.specs.Places.{bandBlocks}
 use Rattle.tcd_places.proofs.Laws.Before.{AllBlocks, Before, From, all-append}
 use Rattle.tcd_places.proofs.Laws.BandBlocks.{blocks-from, leaf-before, band-before}
 use Rattle.t2_write_bands.proofs.Laws.TwoBands.{BlockAfter, next-length, code-then-set}
-use Rattle.t2_write_new_blocks.proofs.Laws.AllBlocks.{set-is-blocks, code-is-blocks}
+use Rattle.t2_write_new_blocks.proofs.Laws.AllBlocks.{set-is-blocks}
+use Rattle.t2_write_bands.proofs.Laws.AllBlocks.{code-is-blocks}
 
 -- ---- setting leaves the words from q on, and the length
 

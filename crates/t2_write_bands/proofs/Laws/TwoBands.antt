@@ -15,8 +15,9 @@ use Rattle.t800.specs.State.{Block, notYetPlanes}
 use Rattle.t800.specs.TagTree.{Coded, codePath, setValue, lowAfter, nodeBits, knownAfter}
 use Rattle.t800.specs.WriteHeader.{isNew, lengthBitsBefore, codeInclusion, codeZeroPlanes, codePasses, codeBlock}
 use Rattle.t800_laws.proofs.Laws.WordCounts.{inclusion-coded, planes-coded, block-coded}
-use Rattle.t2_write_block.specs.Runs.{Running, afterCoded, codeNext, codeAll, setNext, setAll}
-use Rattle.t2_write_new_blocks.specs.Bands.{newSet}
+use Rattle.t2_write_block.specs.Runs.{Running, afterCoded, codeNext, codeAll}
+use Rattle.t2_write_new_rows.specs.Setting.{setNext, setAll}
+use Rattle.t2_write_bands.specs.Bands.{newSet}
 use Rattle.tcd_places.proofs.Laws.Before.{AllBlocks, Before, BlockBefore}
 
 -- ---- coding in the front part

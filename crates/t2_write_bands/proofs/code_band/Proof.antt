@@ -4,7 +4,7 @@ use mathlib.Core.List.{List}
 use Prim.Native.Nat.{ℕ}
 use borrow.Author.Needs.{needs}
 use Rattle.t2_write_block.specs.Runs.{running, codeAll, AllFit}
-use Rattle.t2_write_new_blocks.specs.Bands.{codeBand}
+use Rattle.t2_write_bands.specs.Bands.{codeBand}
 use Rattle.tcd_places.specs.Places.{BandIn, bandBlocks}
 use Rattle.t2_write_bands.proofs.Laws.AllBands.{band-fits}
 use Rattle.t2_write_bands.proofs.code_band.Statement.{statement}

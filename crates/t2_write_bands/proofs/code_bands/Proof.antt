@@ -14,7 +14,7 @@ use Rattle.tcd_layout.specs.Geometry.{noBand, SidesUpTo64}
 use Rattle.tcd_layout.proofs.Laws.Bands.{next-band, no-more-bands, sides-of-first, end-turn, band-levels-at}
 use Rattle.t2_write_block.specs.Runs.{running, AllFit}
 use Rattle.tcd_places.specs.declared.Grid.{Grid}
-use Rattle.t2_write_new_blocks.specs.Bands.{codeBand, codeBands}
+use Rattle.t2_write_bands.specs.Bands.{codeBand, codeBands}
 use Rattle.tcd_places.specs.Places.{BandIn, bandBlocks, gridOf}
 use Rattle.t2_write_bands.proofs.Laws.AllBands.{first-band-fits, other-bands-fit, blocks-of-first, band-clear, band-blocks}
 use Rattle.t2_write_bands.proofs.Laws.AllBands.{bands-turn, bands-coded}

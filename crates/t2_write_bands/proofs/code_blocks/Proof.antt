@@ -13,7 +13,7 @@ use Rattle.tgt.specs.Path.{rowOver, SmallLevels}
 use Rattle.tcd_places.specs.declared.Grid.{Grid}
 use Rattle.bio_bytes.specs.Writing.{FreeBitsClear}
 use Rattle.t2_write_block.specs.Runs.{Running, running, codeAll, AllFit}
-use Rattle.t2_write_new_blocks.proofs.Laws.BandRows.{all-clear, row-fits, left-fit, left-coded}
+use Rattle.t2_write_bands.proofs.Laws.BandRows.{all-clear, row-fits, left-fit, left-coded}
 use Rattle.tcd_places.specs.Places.{BandIn, RowIn, bandBlocks, rowBlocks, rowPlace}
 use Rattle.tcd_places.proofs.Laws.BandRows.{all-left, at-row, none-left, row-ends, row-in, small}
 use Rattle.t2_write_bands.proofs.code_blocks.Statement.{statement}

@@ -13,7 +13,7 @@ use Rattle.tgt_write.specs.Coding.{LeafCoded, putCoded}
 use Rattle.tcd_places.specs.declared.Place.{Place}
 use Rattle.tcd_places.specs.Places.{RowIn, blockIn, placeAt, rowBlocks}
 use Rattle.tcd_places.proofs.Laws.Before.{BlockBefore, From, AllBlocks}
-use Rattle.t2_write_block.specs.Runs.{Running, codeNext, codeAll, NextFits, AllFit, setNext, setAll}
+use Rattle.t2_write_block.specs.Runs.{Running, codeNext, codeAll, NextFits, AllFit}
 use Rattle.t2_write_block.proofs.Laws.OneBlock.{block-keeps, still-fit}
 use Rattle.tcd_places.proofs.Laws.Rows.{row-from, row-turn, before-next}
 
@@ -87,12 +87,3 @@ module _ (size n i : ℕ) (p : Place) (row : List ℕ) (h : i < n) (r : RowIn si
     unfolding codeAll
     codes-then u e = ap (codeAll t cs ls ms (rowBlocks p row 0 (n - (i + 1)) (i + 1))) e
         ∙ sym (ap (λ (ks : List Block). codeAll t cs ls ms ks s) (row-turn p row 0 n i h))
-
-  pub sets-then : (t block : ℕ) (cs ws vs : List ℕ) → vs ≡ setNext t (blockIn (placeAt p i) row 0) (getD cs (block + i) 0) ws
-      → setAll t cs (rowBlocks p row 0 (n - (i + 1)) (i + 1)) (block + (i + 1)) vs
-      ≡ setAll t cs (rowBlocks p row 0 (n - i) i) (block + i) ws
-  unfolding setAll
-  sets-then t block cs ws vs e =
-      let a : block + (i + 1) ≡ block + i + 1 = omega arith in
-      (λ j. setAll t cs (rowBlocks p row 0 (n - (i + 1)) (i + 1)) (a j) (e j))
-      ∙ sym (ap (λ (ks : List Block). setAll t cs ks (block + i) ws) (row-turn p row 0 n i h))

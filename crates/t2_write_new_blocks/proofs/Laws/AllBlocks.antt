@@ -1,24 +1,17 @@
--- Coding and setting with places that run on are t800's coding and setting of what is left of the lists.
+-- Setting with a place that runs on is t800's setting of what is left of the list.
 use mathlib.Core.Path.{_≡_, refl, sym, ap, _∙_}
 use mathlib.Core.Bool.{Bool, false, _&&_, _||_, and-false}
 use mathlib.Core.List.{List, [], _∷_}
 use Prim.Native.Nat.{ℕ, _+_, _≤_}
 use native.Mathlib.Omega.{arith}
 use lib.ListN.{length, getD, take, drop}
-use lib.Seq.{drop-drop}
 use lib.Dec.{ltb}
 use Rattle.t800.specs.Base.{any}
-use Rattle.t800.specs.Segments.{segmentsOf}
 use Rattle.t800.specs.State.{Block}
-use Rattle.t800.specs.TagTree.{Coded}
-use Rattle.t800.specs.WriteHeader.{isNew, setNewBlocks, codeBlock, codeBlocks}
+use Rattle.t800.specs.WriteHeader.{isNew, setNewBlocks}
 use Rattle.t800_laws.proofs.Laws.Tests.{if-false, or-left, or-right}
-use Rattle.bio_bytes.specs.Writing.{Output, putBits}
-use Rattle.bio_write.proofs.Laws.FreeBits.{putBits-append}
-use Rattle.tgt_write.specs.Coding.{putCoded}
 use Rattle.t2_segments.proofs.Laws.Segments.{next-entry}
-use Rattle.t2_write_lengths.specs.Blocks.{coded}
-use Rattle.t2_write_block.specs.Runs.{Running, codeNext, codeAll, setNext, setAll}
+use Rattle.t2_write_new_rows.specs.Setting.{setNext, setAll}
 
 pub set-is-blocks : (t : ℕ) (cs : List ℕ) (ks : List Block) (i : ℕ) (ws : List ℕ) → i + length ks ≤ length cs → setAll t cs ks i ws
     ≡ setNewBlocks t ks (drop i cs) ws
@@ -41,30 +34,3 @@ none-set t cs (k ∷ ks) i ws l h =
     ≡ ws = if-false (isNew ws k && ltb 0 c) _ _
     (ap (λ (b : Bool). isNew ws k && b) (or-left (ltb 0 c) (any (λ (c : ℕ). ltb 0 c) rest) g) ∙ and-false (isNew ws k)) in
     ap (setAll t cs ks (i + 1)) same ∙ none-set t cs ks (i + 1) ws (omega arith) (or-right (ltb 0 c) (any (λ (c : ℕ). ltb 0 c) rest) g)
-
--- one block, then those after it
-blocks-turn : (t : ℕ) (k : Block) (ks : List Block) (c : ℕ) (cs ls ms ws : List ℕ) (o : Output)
-    → putCoded (putBits o (codeBlock t k c (segmentsOf (take c ls) (take c ms)) ws .bits))
-    (codeBlocks t ks cs (drop c ls) (drop c ms) (codeBlock t k c (segmentsOf (take c ls) (take c ms)) ws .words))
-    ≡ putCoded o (codeBlocks t (k ∷ ks) (c ∷ cs) ls ms ws)
-unfolding codeBlocks
-blocks-turn t k ks c cs ls ms ws o =
-    let b : Coded = codeBlock t k c (segmentsOf (take c ls) (take c ms)) ws in
-    let r : Coded = codeBlocks t ks cs (drop c ls) (drop c ms) (b .words) in
-    ap (coded (r .words)) (sym (putBits-append o (b .bits) (r .bits)))
-
-pub code-is-blocks : (t : ℕ) (cs ls ms : List ℕ) (ks : List Block) (s : Running) → s .block + length ks ≤ length cs
-    → coded (codeAll t cs ls ms ks s .words) (codeAll t cs ls ms ks s .output)
-    ≡ putCoded (s .output) (codeBlocks t ks (drop (s .block) cs) (drop (s .pass) ls) (drop (s .pass) ms) (s .words))
-unfolding codeAll codeNext codeBlocks putBits
-code-is-blocks t cs ls ms [] s h = refl
-code-is-blocks t cs ls ms (k ∷ ks) s h =
-    let c : ℕ = getD cs (s .block) 0 in
-    let u : Running = codeNext t cs ls ms k s in
-    let p : drop (s .pass + c) ls ≡ drop c (drop (s .pass) ls) = sym (drop-drop c (s .pass) ls) in
-    let q : drop (s .pass + c) ms ≡ drop c (drop (s .pass) ms) = sym (drop-drop c (s .pass) ms) in
-    code-is-blocks t cs ls ms ks u (omega arith)
-    ∙ (λ i. putCoded (u .output) (codeBlocks t ks (drop (s .block + 1) cs) (p i) (q i) (u .words)))
-    ∙ blocks-turn t k ks c (drop (s .block + 1) cs) (drop (s .pass) ls) (drop (s .pass) ms) (s .words) (s .output)
-    ∙ sym (ap (λ (ds : List ℕ). putCoded (s .output) (codeBlocks t (k ∷ ks) ds (drop (s .pass) ls) (drop (s .pass) ms) (s .words)))
-    (next-entry cs (s .block) (omega arith)))

@@ -13,7 +13,7 @@ use Rattle.tgt.specs.Path.{rowOver, SmallLevels}
 use Rattle.tcd_places.specs.Places.{BandIn, RowIn, bandBlocks, rowBlocks, rowPlace}
 use Rattle.tcd_places.proofs.Laws.BandRows.{all-left, at-row, none-left, row-counts, row-ends, row-in, small}
 use Rattle.tcd_places.specs.declared.Grid.{Grid}
-use Rattle.t2_write_block.specs.Runs.{setAll}
+use Rattle.t2_write_new_rows.specs.Setting.{setAll}
 use Rattle.t2_write_new_blocks.proofs.Laws.BandRows.{left-set}
 use Rattle.t2_write_new_blocks.proofs.set_rows.Statement.{statement}
 use Rattle.t2_write_new_blocks.proofs.set_rows.Tie as tie

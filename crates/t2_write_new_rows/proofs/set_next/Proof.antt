@@ -6,7 +6,7 @@ use borrow.Author.Needs.{needs}
 use borrow.Author.Tests.{eq-eqb, ne-eqb, lt-ltb, le-ltb}
 use Rattle.t800.specs.WriteHeader.{isNew}
 use Rattle.tcd_places.proofs.Laws.Before.{path-wider}
-use Rattle.t2_write_block.specs.Runs.{setNext}
+use Rattle.t2_write_new_rows.specs.Setting.{setNext}
 use Rattle.t2_write_new_rows.proofs.set_next.Statement.{statement}
 use Rattle.t2_write_new_rows.proofs.set_next.Tie as tie
 

@@ -8,8 +8,8 @@ use Rattle.t800.specs.State.{Block}
 use Rattle.tcd_places.specs.declared.Place.{Place}
 use Rattle.tcd_places.specs.Places.{BlockIn, RowIn, blockIn, rowBlocks}
 use Rattle.tcd_places.proofs.Laws.Rows.{block-in, row-end}
-use Rattle.t2_write_block.specs.Runs.{setNext, setAll}
-use Rattle.t2_write_block.proofs.Laws.Rows.{sets-then}
+use Rattle.t2_write_new_rows.specs.Setting.{setNext, setAll}
+use Rattle.t2_write_new_rows.proofs.Laws.Rows.{sets-then}
 use Rattle.t2_write_new_rows.proofs.set_row.Statement.{statement}
 use Rattle.t2_write_new_rows.proofs.set_row.Tie as tie
 
@@ -68,7 +68,7 @@ loop-again c =
     (c .before .before .before .before .before .place-at .ensures) in (
       g .kept .0 ∙ l .inv .0,
       omega arith,
-      sets-then (length (a .words .now)) (a .n) (l .i) (a .p) (a .row .now) t (s .pre .0) (a .layer) (a .block) (a .counts .now)
+      sets-then (a .n) (l .i) (a .p) (a .row .now) t (a .layer) (a .block) (a .counts .now)
           (l .words) _ e ∙ l .inv .2,
     )
 

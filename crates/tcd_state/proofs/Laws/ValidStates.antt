@@ -12,7 +12,7 @@ use Rattle.t800.specs.declared.Band.{Band}
 use Rattle.t800.specs.Base.{every}
 use Rattle.t800.specs.Segments.{termAll, bypass, firstLimit, nextLimit, isLimit}
 use Rattle.t800.specs.State.{writer, notYetIncluded, notYetPlanes, role, bandCount, style, layer, bands, bandNodes, blocksIn}
-use Rattle.t800.specs.State.{bandLength, stateLength, passesSoFar, lengthBits, segmentLimit, segmentPasses}
+use Rattle.t800.specs.State.{bandLength, stateLength, endOf, passesSoFar, lengthBits, segmentLimit, segmentPasses}
 use Rattle.t800.specs.Ranges.{badShape, badStyle, bandTooDeep, nodeInRange, blockInRange, bandInRange, bandsInRange}
 use Rattle.t800.specs.Ranges.{unusedBandsZero, validState}
 use Rattle.t800_laws.proofs.Laws.Tests.{on-eq, and-left, and-right}
@@ -71,9 +71,17 @@ valid-state r ws n v =
       ranges = e₈ .1;
     }
 
+-- it is as long as its bands ask for
+module _ {r : ℕ} (ws : List ℕ) (n : ℕ) (valid : ValidState r ws n) where
+  pub bands-inside : endOf 13 (bands ws) ≤ length ws
+  unfolding stateLength
+  bands-inside = omega (arith, valid .length-is)
+
+  pub thirteen-words : 13 ≤ length ws
+  thirteen-words = omega (arith, bands-inside, end-after 13 (bands ws))
+
 pub long-enough : (r : ℕ) (ws : List ℕ) (n : ℕ) → validState r ws n ≡ true → 13 ≤ length ws
-unfolding stateLength
-long-enough r ws n v = omega (arith, valid-state r ws n v .length-is, end-after 13 (bands ws))
+long-enough r ws n v = thirteen-words ws n (valid-state r ws n v)
 
 pub too-short : (r : ℕ) (ws : List ℕ) (n : ℕ) → length ws < 13 → false ≡ validState r ws n
 too-short r ws n h = go (validState r ws n) refl

@@ -3,7 +3,8 @@ use Prim.Native.Nat.{ℕ, _+_}
 use mathlib.Core.List.{List, [], _∷_}
 use Rattle.t800.specs.declared.Band.{Band}
 use Rattle.t800.specs.State.{Block, bandLength}
-use Rattle.t2_write_block.specs.Runs.{Running, codeAll, setAll}
+use Rattle.t2_write_block.specs.Runs.{Running, codeAll}
+use Rattle.t2_write_new_rows.specs.Setting.{setAll}
 use Rattle.tcd_places.specs.Places.{bandBlocks}
 
 -- blocks that are new set, the first of them having count number i
