@@ -12,7 +12,7 @@ use t800::Segment;
 pub extern "C" fn tonkelvi_state_length(count: u32, bands: &[u32]) -> usize
     ensures { λ r. ⌜ r ≡ stateLengthOf count (now (bands .entry)) ⌝ }
 {
-    tonkelvi_parts::state_length_of(count, bands)
+    tonkelvi_bands::state_length_of(count, bands)
 }
 
 // Gives 0 or a refusal.
@@ -159,5 +159,5 @@ pub extern "C" fn tonkelvi_read(
 pub extern "C" fn tonkelvi_describe(state: &[u32], answer: &mut [u64]) -> u32
     ensures { λ r. ⌜ record { refusal = r; answer = now (answer .exit) } ≡ describeCall (now (state .entry)) (now (answer .entry)) ⌝ }
 {
-    tonkelvi_parts::describe(state, answer)
+    tonkelvi_state::describe(state, answer)
 }

@@ -25,7 +25,7 @@ pub fn measure(
         return Refusal::LIST;
     }
     let r = t2_measure::measure(state, scratch, counts, lengths, marks, Markers { sop, eph });
-    tonkelvi_parts::put_two(answer, r.header, r.body);
+    tonkelvi_answers::put_two(answer, r.header, r.body);
     r.refusal
 }
 
@@ -69,6 +69,6 @@ pub fn write(
         number,
         output,
     );
-    tonkelvi_parts::put_one(answer, r.bytes);
+    tonkelvi_answers::put_one(answer, r.bytes);
     r.refusal
 }

@@ -38,7 +38,7 @@ pub fn read_words(
     }
     let markers = Markers { sop, eph };
     let r = t2_read_numbers::read_numbers(state, scratch, src, markers, reports, work, room);
-    tonkelvi_parts::put_five(
+    tonkelvi_answers::put_five(
         answer,
         r.present as u64,
         r.taken,

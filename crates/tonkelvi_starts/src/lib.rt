@@ -12,7 +12,7 @@ pub fn start_writer(count: u32, bands: &[u32], style: u8, planes: &[u32], state:
     if bands.len() != 9 {
         return Refusal::LIST;
     }
-    let given = tonkelvi_parts::bands_in(bands);
+    let given = tonkelvi_bands::bands_in(bands);
     t2_start::start_writer(count, given, style, planes, state)
 }
 
@@ -24,6 +24,6 @@ pub fn start_reader(count: u32, bands: &[u32], style: u8, planes: &[u32], state:
     if bands.len() != 9 {
         return Refusal::LIST;
     }
-    let given = tonkelvi_parts::bands_in(bands);
+    let given = tonkelvi_bands::bands_in(bands);
     t2_start::start_reader(count, given, style, planes, state)
 }
