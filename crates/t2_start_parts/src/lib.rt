@@ -146,9 +146,9 @@ fn fresh_band(state: &mut [u32], at: usize, nodes: usize, blocks: usize)
         ≡ sets (now (state .entry)) at (freshNodes notYetIncluded nodes ++ freshNodes notYetPlanes nodes ++ freshBlocks blocks) ⌝ }
 {
     let tree = 3 * nodes;
-    tgt::opj_tgt_reset(state, at, nodes, NOT_YET_INCLUDED);
+    tgt_set::opj_tgt_reset(state, at, nodes, NOT_YET_INCLUDED);
     let second = at + tree;
-    tgt::opj_tgt_reset(state, second, nodes, NOT_YET_PLANES);
+    tgt_set::opj_tgt_reset(state, second, nodes, NOT_YET_PLANES);
     let after = second + tree;
     zero_blocks(state, after, blocks);
 }

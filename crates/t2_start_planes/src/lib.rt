@@ -30,7 +30,7 @@ fn set_row(
     let mut x: usize = 0;
     while x < planes.len() {
         let zero = most - planes[x];
-        tgt::opj_tgt_setvalue(state, base, row, depth, x, zero);
+        tgt_set::opj_tgt_setvalue(state, base, row, depth, x, zero);
         x += 1;
     }
 }

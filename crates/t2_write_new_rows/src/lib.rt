@@ -17,7 +17,7 @@ fn set_next(words: &mut [u32], p: Place, row: &[usize; 7], layer: u32, count: u3
     if count == 0 {
         return;
     }
-    tgt::opj_tgt_setvalue(words, p.incl, row, p.depth, p.x, layer);
+    tgt_set::opj_tgt_setvalue(words, p.incl, row, p.depth, p.x, layer);
 }
 
 // n blocks, of which the first has count number `block`.

@@ -1,11 +1,8 @@
 // Tag trees of a packet header in a lent list of words (tgt.rs): a node is value, low and known, and is found from its level and place.
 ghost use mathlib.Core.Path.{_≡_};
 ghost use Prim.Native.Nat.{_+_, _-_, _*_, _/_, _^_, _<_, _≤_};
-ghost use lib.ListN.{length, replicate};
-ghost use lib.Seq.{sets};
-ghost use Rattle.t800.specs.TagTree.{setValue};
-ghost use Rattle.t800.specs.Start.{freshNodes};
-ghost use Rattle.tgt.specs.Path.{rowOver, pathOver, PathIn, SmallLevels};
+ghost use lib.ListN.{replicate};
+ghost use Rattle.tgt.specs.Path.{rowOver, SmallLevels};
 use t800::Bio;
 use t800::Level;
 
@@ -14,8 +11,6 @@ pub struct AfterNode {
     pub low: u32,
     pub bio: Bio,
 }
-
-// ---- bits
 
 // After k bits of the held word, read, or put as zeros.
 pub fn after_bits(b: Bio, k: u32) -> Bio
@@ -28,8 +23,6 @@ pub fn after_bits(b: Bio, k: u32) -> Bio
         ct: b.ct - k,
     }
 }
-
-// ---- places
 
 // The first node on each level of the row over row y of the leaves, into zeros: the same for both trees of a band.
 pub fn opj_tgt_row(levels: [Level; 7], depth: usize, y: usize, row: &mut [usize; 7])
@@ -61,46 +54,4 @@ pub fn first_word(base: usize, start: usize, x: usize, level: usize) -> usize
     let node = start + column;
     let words = 3 * node;
     base + words
-}
-
-// In what follows a tree of `depth` levels begins at the word `base`, and its leaf is in column x of the row that `row` was made for.
-
-// ---- setting
-
-// So many nodes from the word `from` on: a value that says "not yet", low 0, known 0.
-pub fn opj_tgt_reset(words: &mut [u32], from: usize, nodes: usize, fresh: u32)
-    requires { ⌜ from + 3 * nodes ≤ length (now words) ⌝ }
-    ensures { λ _. ⌜ now (words .exit) ≡ sets (now (words .entry)) from (freshNodes fresh nodes) ⌝ }
-{
-    let mut at = from;
-    let mut left = nodes;
-    while 0 < left {
-        words[at] = fresh;
-        words[at + 1] = 0;
-        words[at + 2] = 0;
-        at += 3;
-        left -= 1;
-    }
-}
-
-pub fn opj_tgt_setvalue(
-    words: &mut [u32],
-    base: usize,
-    row: &[usize; 7],
-    depth: usize,
-    x: usize,
-    value: u32,
-)
-    requires { ⌜ PathIn (length (now words)) base (now row) depth x ⌝ }
-    ensures { λ _. ⌜ now (words .exit) ≡ setValue base (pathOver (now (row .entry)) depth x) value (now (words .entry)) ⌝ }
-{
-    let mut i: usize = 0;
-    while i < depth {
-        let at = first_word(base, row[i], x, i);
-        if words[at] <= value {
-            return;
-        }
-        words[at] = value;
-        i += 1;
-    }
 }

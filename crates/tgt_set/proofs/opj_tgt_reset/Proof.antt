@@ -1,4 +1,4 @@
--- `tgt::opj_tgt_reset` meets its contract. The invariant: the nodes that are left, set in the present words, give the whole.
+-- `tgt_set::opj_tgt_reset` meets its contract. The invariant: the nodes that are left, set in the present words, give the whole.
 -- Assumes nothing.
 use mathlib.Core.Path.{_≡_, refl, _∙_}
 use Prim.Native.Nat.{_+_, _*_, _≤_}
@@ -6,9 +6,9 @@ use native.Mathlib.Omega.{arith}
 use lib.ListN.{length, set, length-set}
 use lib.Seq.{sets, lt-length-set}
 use Rattle.t800.specs.Start.{freshNodes}
-use Rattle.tgt.proofs.Laws.Setting.{fresh-turn}
-use Rattle.tgt.proofs.opj_tgt_reset.Statement.{statement}
-use Rattle.tgt.proofs.opj_tgt_reset.Tie as tie
+use Rattle.tgt_set.proofs.Laws.Setting.{fresh-turn}
+use Rattle.tgt_set.proofs.opj_tgt_reset.Statement.{statement}
+use Rattle.tgt_set.proofs.opj_tgt_reset.Tie as tie
 
 abbrev Inv-loop : tie.InvT-loop
 Inv-loop words₀ from nodes fresh at₀ left₀ words at left = (length words ≡ length words₀) × (at + 3 * left ≤ length words₀)

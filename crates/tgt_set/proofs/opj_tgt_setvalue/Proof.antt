@@ -1,4 +1,4 @@
--- `tgt::opj_tgt_setvalue` meets its contract. The invariant: what is left of the path, set in the present words, gives the whole.
+-- `tgt_set::opj_tgt_setvalue` meets its contract. The invariant: what is left of the path, set in the present words, gives the whole.
 -- Assumes nothing.
 use mathlib.Core.Path.{_≡_, refl, sym, ap, _∙_, subst}
 use mathlib.Core.List.{List, []}
@@ -7,12 +7,12 @@ use native.Mathlib.Omega.{arith}
 use lib.ListN.{length, getD, set, take, drop, length-set, drop-of-length-le}
 use lib.Seq.{length-take-le}
 use Rattle.t800.specs.TagTree.{setValue}
 use Rattle.tgt.specs.Path.{nodesOver}
 use Rattle.tgt.proofs.Laws.Path.{node-up}
-use Rattle.tgt.proofs.Laws.Setting.{set-stop, set-on}
+use Rattle.tgt_set.proofs.Laws.Setting.{set-stop, set-on}
 use borrow.Author.Needs.{needs}
-use Rattle.tgt.proofs.opj_tgt_setvalue.Statement.{statement}
-use Rattle.tgt.proofs.opj_tgt_setvalue.Tie as tie
+use Rattle.tgt_set.proofs.opj_tgt_setvalue.Statement.{statement}
+use Rattle.tgt_set.proofs.opj_tgt_setvalue.Tie as tie
 
 abbrev Inv-loop : tie.InvT-loop
 Inv-loop words₀ base row depth x value i₀ words i = (length words ≡ length words₀)
