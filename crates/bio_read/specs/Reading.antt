@@ -1,15 +1,6 @@
--- Bits of a packet header as they are read: t800's own steps, in the code's structs; and the header's end.
-use mathlib.Core.Bool.{not}
-use mathlib.Core.List.{List}
-use Prim.Native.Nat.{ℕ}
-use Rattle.t800.specs.declared.Bio.{Bio}
+-- Bits of a packet header as they are read: t800's own steps, in the code's structs.
 use Rattle.t800.specs.Bits as t800
 use Rattle.bio_read.specs.declared.Decoded.{Decoded}
-use Rattle.bio_read.specs.declared.Aligned.{Aligned}
 
 abbrev pub decoded : Decoded → t800.Decoded
 decoded r = record { value = r .value; bio = r .bio }
-
--- to the start of the byte after the header, or `ok` is false: the last bit read lies in a byte FF and the input ends with it
-unfoldable pub alignedAt : List ℕ → Bio → Aligned
-alignedAt src b = record { ok = not (t800.endsInFF src b); bio = t800.bioAt (t800.bytesTaken src b) }

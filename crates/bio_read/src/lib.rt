@@ -1,21 +1,14 @@
 // Bits of a packet header out of bytes, high bit first, without the 0 that is stuffed after a byte FF (bio.rs).
 ghost use mathlib.Core.Path.{_≡_};
-ghost use Prim.Native.Nat.{_+_, _≤_, min};
-ghost use lib.ListN.{length};
+ghost use Prim.Native.Nat.{_≤_};
 ghost use Rattle.t800.specs.Bits.{bioAt, byteIn, getBit, readBits};
 ghost use Rattle.bio_read.specs.Chunks.{refill, heldBits};
-ghost use Rattle.bio_read.specs.Reading.{decoded, alignedAt};
+ghost use Rattle.bio_read.specs.Reading.{decoded};
 use t800::Bio;
 
 // A number that was read, and where reading goes on.
 pub struct Decoded {
     pub value: u32,
-    pub bio: Bio,
-}
-
-// Whether the header ends within the input, and where.
-pub struct Aligned {
-    pub ok: bool,
     pub bio: Bio,
 }
 
@@ -118,27 +111,4 @@ pub fn opj_bio_read(src: &[u8], b: Bio, n: u32) -> Decoded
         return held_bits(b, n);
     }
     read_chunks(src, b, n)
-}
-
-fn smaller(a: usize, b: usize) -> usize
-    ensures { λ r. ⌜ r ≡ min a b ⌝ }
-{
-    if a < b { a } else { b }
-}
-
-pub fn opj_bio_inalign(src: &[u8], b: Bio) -> Aligned
-    requires { ⌜ b .bp ≤ length (now src) + 1 ⌝ }
-    ensures { λ r. ⌜ r ≡ alignedAt (now (src .entry)) b ⌝ }
-{
-    let bp = b.bp;
-    let n = src.len();
-    if (b.buf & 0xff) == 0xff {
-        let next = opj_bio_init_dec(bp + 1);
-        return Aligned {
-            ok: bp != n,
-            bio: next,
-        };
-    }
-    let bio = opj_bio_init_dec(smaller(bp, n));
-    Aligned { ok: true, bio }
 }

@@ -39,7 +39,7 @@ pub fn opj_t2_read_packet_header(
     if run.refusal != 0 {
         return run;
     }
-    let end = bio_read::opj_bio_inalign(src, run.bio);
+    let end = bio_read_end::opj_bio_inalign(src, run.bio);
     if end.ok {
         return run;
     }

@@ -59,7 +59,7 @@ pub fn done(
     requires { ⌜ b .bp ≤ length (now src) + 1 ⌝ }
     ensures { λ r. ⌜ r ≡ doneAnswer m (now (src .entry)) (markerRead s) b present segments ⌝ }
 {
-    let end = bio_read::opj_bio_inalign(src, b);
+    let end = bio_read_end::opj_bio_inalign(src, b);
     let after = end.bio;
     let at = after.bp;
     let e = read_marker(m.eph, Marker::EPH, src, at);

@@ -1,5 +1,5 @@
 // A tag tree's nodes read on the way to a leaf (tgt.rs), from the bits of a packet header.
-// As in crate `tgt_set`, a tree of `depth` levels begins at the word `base`, and its leaf is in column x of the row that `row` was made for.
+// A tree of `depth` levels begins at the word `base`, and its leaf is in column x of the row that `row` was made for.
 ghost use mathlib.Core.Path.{_≡_};
 ghost use mathlib.Core.Bool.{_&&_};
 ghost use mathlib.Core.List.{reverse};

@@ -2,8 +2,8 @@
 use mathlib.Core.Path.{ap}
 use native.Mathlib.Omega.{arith}
 use Rattle.t800.specs.MarkerSegments.{MarkerRead}
-use Rattle.bio_read.specs.declared.Aligned.{Aligned}
-use Rattle.bio_read.specs.Reading.{alignedAt}
+use Rattle.bio_read_end.specs.declared.Aligned.{Aligned}
+use Rattle.bio_read_end.specs.HeaderEnd.{alignedAt}
 use Rattle.t2_read_marks.specs.Marks.{markerRead}
 use Rattle.t2_read_marks.proofs.Laws.Markers.{skip-inside, taken-up-to, done-is}
 use borrow.Author.Needs.{needs}

@@ -1,4 +1,4 @@
--- `bio_read::opj_bio_inalign` meets its contract.
+-- `bio_read_end::opj_bio_inalign` meets its contract.
 -- Assumes nothing.
 use mathlib.Core.Path.{sym, ap, _∙_}
 use mathlib.Core.Bool.{true, not}
@@ -8,9 +8,9 @@ use lib.Bits.{and-mask}
 use borrow.Author.Needs.{needs}
 use borrow.Author.Tests.{eq-eqb, ne-eqb}
 use Rattle.t800.specs.Bits.{inFF, endsInFF, bytesTaken, bioAt}
-use Rattle.bio_read.specs.Reading.{alignedAt}
-use Rattle.bio_read.proofs.opj_bio_inalign.Statement.{statement}
-use Rattle.bio_read.proofs.opj_bio_inalign.Tie as tie
+use Rattle.bio_read_end.specs.HeaderEnd.{alignedAt}
+use Rattle.bio_read_end.proofs.opj_bio_inalign.Statement.{statement}
+use Rattle.bio_read_end.proofs.opj_bio_inalign.Tie as tie
 
 returns : tie.Need-returns
 unfolding alignedAt endsInFF bytesTaken inFF
