@@ -4,7 +4,7 @@ ghost use Prim.Native.Nat.{_<_, _≤_};
 ghost use lib.ListN.{length, take};
 ghost use Rattle.t800.specs.TagTree.{levels};
 ghost use Rattle.t800.specs.State.{layer, bands, blocks, endOf, notYetIncluded};
-ghost use Rattle.tcd_layout.specs.Geometry.{AllUpTo64, padded};
+ghost use Rattle.tcd_levels.specs.Geometry.{AllUpTo64, padded};
 ghost use Rattle.t2_read_segments.specs.Reading.{reading, nextBlocks, BitsIn};
 ghost use Rattle.tcd_places.specs.Places.{BandIn, bandBlocks, gridOf};
 ghost use Rattle.t2_read_bands.specs.Bands.{BandFits, BandsFit};
@@ -79,7 +79,7 @@ pub fn read_bands(
         ≡ nextBlocks (now (src .entry)) layer 0 (blocks (take n bands))
         (reading (now (words .entry)) (now (reports .entry)) (now (records .entry)) r) ⌝ }
 {
-    let trees = tcd_layout::band_levels(bands);
+    let trees = tcd_levels::band_levels(bands);
     let mut run = r;
     let mut start: usize = 13;
     let mut block: usize = 0;

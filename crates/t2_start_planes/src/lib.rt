@@ -9,7 +9,7 @@ ghost use Rattle.t800.specs.TagTree.{levels};
 ghost use Rattle.t800.specs.State.{blocksIn, bandNodes, bandLength, blocksFrom, blocks, stateLength};
 ghost use Rattle.t800.specs.Ranges.{blockTooDeep};
 ghost use Rattle.t800.specs.Start.{setZeroPlanes};
-ghost use Rattle.tcd_layout.specs.Geometry.{padded, SidesUpTo64, AllUpTo64};
+ghost use Rattle.tcd_levels.specs.Geometry.{padded, SidesUpTo64, AllUpTo64};
 ghost use Rattle.t2_start_planes.specs.Rows.{setRow, ColumnsIn};
 use t800::Band;
 use t800::Level;
@@ -71,8 +71,8 @@ fn set_band(state: &mut [u32], at: usize, band: Band, planes: &[u32])
     ensures { λ _. ⌜ now (state .exit) ≡ setZeroPlanes (blocksFrom at band (blocksIn band) 0) (now (planes .entry)) (now (state .entry)) ⌝ }
 {
     let nodes = tcd_layout::band_nodes(band);
-    let tree = tcd_layout::levels(band.across, band.down);
-    let depth = tcd_layout::num_levels(band.across, band.down);
+    let tree = tcd_levels::levels(band.across, band.down);
+    let depth = tcd_levels::num_levels(band.across, band.down);
     set_rows(state, at, nodes, band, tree, depth, planes);
 }
 

@@ -9,7 +9,7 @@ ghost use Rattle.t800.specs.State.{blocksIn, blocks, stateLength, notYetInclude
 ghost use Rattle.t800.specs.WriteHeader.{setNewBlocks, codeBlocks};
 ghost use Rattle.bio_bytes.specs.Writing.{output, FreeBitsClear};
 ghost use Rattle.tgt_write.specs.Coding.{leafCoded, putCoded};
-ghost use Rattle.tcd_layout.specs.Geometry.{AllUpTo64, padded};
+ghost use Rattle.tcd_levels.specs.Geometry.{AllUpTo64, padded};
 ghost use Rattle.t2_write_codes.specs.PassTable.{isPassTable};
 ghost use Rattle.t2_write_block.specs.Runs.{running, codeAll, AllFit};
 ghost use Rattle.t2_write_bands.specs.Bands.{codeBand};
@@ -124,7 +124,7 @@ pub fn code_bands(
         (codeBlocks layer (blocks (take n bands)) (now (counts .entry)) (now (lengths .entry)) (now (marks .entry))
         (setNewBlocks layer (blocks (take n bands)) (now (counts .entry)) (now (words .entry)))) ⌝ }
 {
-    let trees = tcd_layout::band_levels(bands);
+    let trees = tcd_levels::band_levels(bands);
     let mut run = Run {
         bio: b,
         block: 0,

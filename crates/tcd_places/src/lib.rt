@@ -2,7 +2,7 @@
 ghost use mathlib.Core.Path.{_≡_};
 ghost use Prim.Native.Nat.{_+_, _*_, _^_, _<_, _≤_};
 ghost use Rattle.t800.specs.State.{bandLength};
-ghost use Rattle.tcd_layout.specs.Geometry.{SidesUpTo64};
+ghost use Rattle.tcd_levels.specs.Geometry.{SidesUpTo64};
 ghost use Rattle.tcd_places.specs.Places.{placeAt, gridOf, rowPlace};
 use t800::Band;
 
@@ -42,7 +42,7 @@ pub fn grid_of(band: Band, start: usize) -> Grid
     ensures { λ r. ⌜ r ≡ gridOf start band ⌝ }
 {
     let nodes = tcd_layout::band_nodes(band);
-    let depth = tcd_layout::num_levels(band.across, band.down);
+    let depth = tcd_levels::num_levels(band.across, band.down);
     Grid {
         start,
         nodes,

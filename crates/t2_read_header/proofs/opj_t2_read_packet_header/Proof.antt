@@ -9,7 +9,7 @@ use Rattle.t800.specs.declared.Bio.{Bio}
 use Rattle.t800.specs.declared.Band.{Band}
 use Rattle.t800.specs.Bits.{endsInFF}
 use Rattle.t800.specs.State.{reader, layer, blocks, endOf}
-use Rattle.tcd_layout.specs.Geometry.{AllUpTo64}
+use Rattle.tcd_levels.specs.Geometry.{AllUpTo64}
 use Rattle.bio_read_end.specs.declared.Aligned.{Aligned}
 use Rattle.bio_read_end.specs.HeaderEnd.{alignedAt}
 use Rattle.tcd_first_words.proofs.Laws.FirstWords.{first-bands}

@@ -13,8 +13,8 @@ use Rattle.t800.specs.Ranges.{validState}
 use Rattle.t800.specs.WriteHeader.{Contribution}
 use Rattle.t800.specs.Packet.{wrongLists}
 use Rattle.t800_laws.proofs.Laws.Lists.{lists-right}
-use Rattle.tcd_layout.specs.Geometry.{AllUpTo64}
-use Rattle.tcd_layout.proofs.Laws.Bands.{blocks-up-to-12288}
+use Rattle.tcd_levels.specs.Geometry.{AllUpTo64}
+use Rattle.tcd_levels.proofs.Laws.Bands.{blocks-up-to-12288}
 use Rattle.tcd_shape.specs.Parts.{threeBands}
 use Rattle.tcd_first_words.proofs.Laws.FirstWords.{first-bands}
 use Rattle.tcd_state.proofs.Laws.ValidStates.{valid-state, long-enough}

@@ -9,7 +9,7 @@ use native.Mathlib.Omega.{arith}
 use Rattle.t800.specs.State.{blocks}
 use Rattle.t800.specs.Packet.{wrongLists}
 use Rattle.t800.specs.declared.Band.{Band}
-use Rattle.tcd_layout.proofs.Laws.Bands.{blocks-up-to-12288}
+use Rattle.tcd_levels.proofs.Laws.Bands.{blocks-up-to-12288}
 use Rattle.t2_widths.specs.Widths.{segmentsRefusal}
 use Rattle.t800.specs.WriteHeader.{contribution}
 use Rattle.t800_laws.proofs.Laws.Lists.{lists-right}

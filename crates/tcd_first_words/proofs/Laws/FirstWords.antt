@@ -11,8 +11,8 @@ use Rattle.t800.specs.declared.Band.{Band}
 use Rattle.t800.specs.Base.{every}
 use Rattle.t800.specs.State.{notYetIncluded, role, bandCount, style, layer, bandAt, bands}
 use Rattle.t800.specs.Ranges.{badShape, badStyle, bandTooDeep, unusedBandsZero}
-use Rattle.tcd_layout.specs.Geometry.{AllUpTo64}
-use Rattle.tcd_layout.proofs.Laws.Bands.{shape-not-refused}
+use Rattle.tcd_levels.specs.Geometry.{AllUpTo64}
+use Rattle.tcd_levels.proofs.Laws.Bands.{shape-not-refused}
 use Rattle.tcd_shape.specs.Parts.{threeBands, shapeInRange, firstWordsInRange}
 use Rattle.t800_laws.proofs.Laws.Tests.{and-right}
 

@@ -10,7 +10,7 @@ use Rattle.t800.specs.declared.Band.{Band}
 use Rattle.t800.specs.State.{notYetIncluded, bandCount, style, layer, bands, bandLength, stateLength}
 use Rattle.t800.specs.Ranges.{badStyle, bandTooDeep, bandInRange, bandsInRange, unusedBandsZero, validState}
 use Rattle.t800_laws.proofs.Laws.Tests.{and-left}
-use Rattle.tcd_layout.specs.Geometry.{AllUpTo64}
+use Rattle.tcd_levels.specs.Geometry.{AllUpTo64}
 use Rattle.tcd_shape.specs.Parts.{threeBands, shapeInRange, firstWordsInRange}
 use Rattle.tcd_first_words.proofs.Laws.FirstWords.{first-bands, shape-known}
 

@@ -9,7 +9,7 @@ use borrow.Author.Tests.{eq-eqb, ne-eqb}
 use Rattle.t800.specs.State.{writer, reader, bandCount, role, layer, bands, blocks}
 use Rattle.t800.specs.Ranges.{validState}
 use Rattle.t800.specs.Exports.{anyState, describeCall}
-use Rattle.tcd_layout.specs.Geometry.{AllUpTo64}
+use Rattle.tcd_levels.specs.Geometry.{AllUpTo64}
 use Rattle.tcd_state.proofs.Laws.ValidStates.{valid-state, long-enough}
 
 module _ (ws : List ℕ) where

@@ -6,7 +6,7 @@ use lib.ListN.{length}
 use borrow.Author.Needs.{needs}
 use Rattle.t800.specs.declared.Band.{Band}
 use Rattle.t800.specs.State.{blocks}
-use Rattle.tcd_layout.specs.Geometry.{AllUpTo64}
+use Rattle.tcd_levels.specs.Geometry.{AllUpTo64}
 use Rattle.tcd_first_words.proofs.Laws.FirstWords.{first-bands}
 use Rattle.tonkelvi_state.proofs.Laws.States.{any-known}
 use Rattle.tonkelvi_state.proofs.num_blocks.Statement.{statement}

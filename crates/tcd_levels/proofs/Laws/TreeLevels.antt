@@ -13,8 +13,8 @@ use Rattle.t800.specs.declared.Level.{Level}
 use Rattle.t800.specs.TagTree.{levelsFrom, noLevel, levels, nodesIn, nodes}
 use Rattle.t800_laws.proofs.Laws.Tests.{if-le, if-gt, either}
 use Rattle.t800_laws.proofs.Laws.Levels.{at-most-seven-levels}
-use Rattle.tcd_layout.specs.Geometry.{padded}
-use Rattle.tcd_layout.proofs.Laws.Lists.{drop-replicate}
+use Rattle.tcd_levels.specs.Geometry.{padded}
+use Rattle.tcd_levels.proofs.Laws.Lists.{drop-replicate}
 
 abbrev pub level : ℕ → ℕ → Level
 level w h = record { w = w; h = h }

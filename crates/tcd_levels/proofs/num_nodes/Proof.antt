@@ -1,11 +1,11 @@
--- `tcd_layout::num_nodes` meets its contract.
+-- `tcd_levels::num_nodes` meets its contract.
 use Prim.Native.Nat.{_*_, _+_, _-_, _≤_}
 use mathlib.Core.Path.{_≡_}
 use native.Mathlib.Omega.{arith}
 use Rattle.t800.specs.TagTree.{levels, levelsFrom, nodes, nodesIn}
-use Rattle.tcd_layout.proofs.Laws.TreeLevels.{area-up-to-4096, summed-stop, summed-turn}
-use Rattle.tcd_layout.proofs.num_nodes.Statement.{statement}
-use Rattle.tcd_layout.proofs.num_nodes.Tie as tie
+use Rattle.tcd_levels.proofs.Laws.TreeLevels.{area-up-to-4096, summed-stop, summed-turn}
+use Rattle.tcd_levels.proofs.num_nodes.Statement.{statement}
+use Rattle.tcd_levels.proofs.num_nodes.Tie as tie
 
 abbrev Inv-loop : tie.InvT-loop
 Inv-loop w h x₀ y₀ sum₀ left₀ x y sum left = (x ≤ 64) × (y ≤ 64) × (left ≤ 7) × (sum ≤ 4096 * (7 - left))

@@ -1,10 +1,10 @@
--- `tcd_layout::band_levels` meets its contract.
+-- `tcd_levels::band_levels` meets its contract.
 use borrow.Author.Needs.{needs}
 use lib.ListN.{length}
 use mathlib.Core.Path.{_≡_}
-use Rattle.tcd_layout.proofs.Laws.Bands.{levels-of-three}
-use Rattle.tcd_layout.proofs.band_levels.Statement.{statement}
-use Rattle.tcd_layout.proofs.band_levels.Tie as tie
+use Rattle.tcd_levels.proofs.Laws.Bands.{levels-of-three}
+use Rattle.tcd_levels.proofs.band_levels.Statement.{statement}
+use Rattle.tcd_levels.proofs.band_levels.Tie as tie
 
 returns : tie.Need-returns
 returns c =

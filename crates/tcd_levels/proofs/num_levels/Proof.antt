@@ -1,12 +1,12 @@
--- `tcd_layout::num_levels` meets its contract.
+-- `tcd_levels::num_levels` meets its contract.
 use Prim.Native.Nat.{_+_, _-_, _≤_}
 use lib.ListN.{length}
 use mathlib.Core.Path.{_∙_, _≡_, ap}
 use native.Mathlib.Omega.{arith}
 use Rattle.t800.specs.TagTree.{levels, levelsFrom}
-use Rattle.tcd_layout.proofs.Laws.TreeLevels.{counted-turn, levels-stop}
-use Rattle.tcd_layout.proofs.num_levels.Statement.{statement}
-use Rattle.tcd_layout.proofs.num_levels.Tie as tie
+use Rattle.tcd_levels.proofs.Laws.TreeLevels.{counted-turn, levels-stop}
+use Rattle.tcd_levels.proofs.num_levels.Statement.{statement}
+use Rattle.tcd_levels.proofs.num_levels.Tie as tie
 
 abbrev Inv-loop : tie.InvT-loop
 Inv-loop w h x₀ y₀ i₀ x y i = (i ≤ 7) × (i + length (levelsFrom (7 - i) x y) ≡ length (levels w h))

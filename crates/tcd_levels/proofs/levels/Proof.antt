@@ -1,4 +1,4 @@
--- `tcd_layout::levels` meets its contract.
+-- `tcd_levels::levels` meets its contract.
 use Prim.Native.Nat.{_-_, _≤_}
 use lib.ListN.{length, length-set}
 use lib.Seq.{sets}
@@ -7,10 +7,10 @@ use mathlib.Core.Path.{_∙_, _≡_, ap, refl, sym}
 use native.Mathlib.Omega.{arith}
 use Rattle.t800.specs.TagTree.{levels, levelsFrom}
 use Rattle.t800.specs.declared.Level.{Level}
-use Rattle.tcd_layout.proofs.Laws.TreeLevels.{levels-over-none, levels-stop, stored-turn}
-use Rattle.tcd_layout.specs.Geometry.{padded}
-use Rattle.tcd_layout.proofs.levels.Statement.{statement}
-use Rattle.tcd_layout.proofs.levels.Tie as tie
+use Rattle.tcd_levels.proofs.Laws.TreeLevels.{levels-over-none, levels-stop, stored-turn}
+use Rattle.tcd_levels.specs.Geometry.{padded}
+use Rattle.tcd_levels.proofs.levels.Statement.{statement}
+use Rattle.tcd_levels.proofs.levels.Tie as tie
 
 abbrev Inv-loop : tie.InvT-loop
 Inv-loop w h tree₀ x₀ y₀ i₀ tree x y i = (length tree ≡ 7) × (i ≤ 7) × (sets tree i (levelsFrom (7 - i) x y) ≡ padded (levels w h))
