@@ -2,7 +2,8 @@
 ghost use mathlib.Core.Path.{_≡_};
 ghost use Prim.Native.Nat.{_+_, _^_, _<_, _≤_};
 ghost use lib.ListN.{length};
-ghost use Rattle.t2_read_segments.specs.Reading.{reading, nextNew, nextOld, nextBlock, nextBlocks, SegmentFits, BlockFits};
+ghost use Rattle.t2_read_segments.specs.Reading.{reading, SegmentFits, BlockFits};
+ghost use Rattle.t2_read_block_parts.specs.Blocks.{nextNew, nextOld, nextBlock, nextBlocks};
 ghost use Rattle.t2_read_segments.specs.Reading.{BlocksFit, BitsIn};
 ghost use Rattle.tcd_places.specs.Places.{BlockIn, RowIn, blockAt, blockIn, rowBlocks};
 use t2_read_segments::Run;

@@ -13,7 +13,8 @@ use Rattle.t800_laws.proofs.Laws.Layout.{band-length}
 use Rattle.t800_laws.proofs.Laws.Lists.{length-from}
 use Rattle.t800_laws.proofs.Laws.Tests.{and-right}
 use Rattle.tcd_state.proofs.Laws.ValidStates.{block-known, block-bounds}
-use Rattle.t2_read_segments.specs.Reading.{Reading, nextBlocks}
+use Rattle.t2_read_segments.specs.Reading.{Reading}
+use Rattle.t2_read_block_parts.specs.Blocks.{nextBlocks}
 use Rattle.t2_read_block_parts.proofs.Laws.Kept.{Keeps, blocks-keep}
 use Rattle.t2_read_block.proofs.Laws.Rows.{block-fits, keeps-later, blocks-then, blocks-refused}
 use Rattle.tcd_places.specs.Places.{bandBlocks}

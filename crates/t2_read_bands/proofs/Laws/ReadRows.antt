@@ -13,7 +13,8 @@ use Rattle.t800_laws.proofs.Laws.Lists.{length-from}
 use Rattle.tcd_levels.proofs.Laws.Bands.{blocks-up-to-4096}
 use Rattle.tgt.specs.Path.{rowOver}
 use Rattle.tcd_places.specs.declared.Place.{Place}
-use Rattle.t2_read_segments.specs.Reading.{Reading, nextBlocks, BlockFits, BlocksFit}
+use Rattle.t2_read_segments.specs.Reading.{Reading, BlockFits, BlocksFit}
+use Rattle.t2_read_block_parts.specs.Blocks.{nextBlocks}
 use Rattle.t2_read_block_parts.proofs.Laws.Kept.{Keeps, blocks-keep}
 use Rattle.t2_read_block.proofs.Laws.Rows.{block-fits, keeps-later, blocks-then, blocks-refused}
 use Rattle.tcd_places.specs.Places.{BandIn, gridOf, rowBlocks, rowPlace}

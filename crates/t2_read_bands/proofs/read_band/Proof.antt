@@ -11,7 +11,8 @@ use Rattle.tcd_levels.specs.Geometry.{padded}
 use Rattle.tcd_levels.proofs.Laws.Bands.{blocks-up-to-4096}
 use Rattle.tgt.specs.Path.{rowOver, SmallLevels}
 use Rattle.tcd_places.specs.declared.Grid.{Grid}
-use Rattle.t2_read_segments.specs.Reading.{reading, nextBlocks, BlocksFit}
+use Rattle.t2_read_segments.specs.Reading.{reading, BlocksFit}
+use Rattle.t2_read_block_parts.specs.Blocks.{nextBlocks}
 use Rattle.t2_read_block_parts.proofs.Laws.Kept.{Keeps}
 use Rattle.tcd_places.specs.Places.{BandIn, RowIn, bandBlocks, rowBlocks, rowPlace}
 use Rattle.tcd_places.proofs.Laws.BandRows.{all-left, at-row, none-left, row-counts, row-ends, row-in, small}

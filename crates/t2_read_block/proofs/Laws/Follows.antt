@@ -30,8 +30,10 @@ use Rattle.lists.specs.Rows.{putRow}
 use Rattle.t2_read_codes.specs.CommaCode.{mostOnes, readCommaLimited}
 use Rattle.t2_read_codes.proofs.Laws.PassCount.{passes-between}
 use Rattle.t2_read_codes.proofs.Laws.CommaCode.{comma-below, comma-value}
-use Rattle.t2_read_segments.specs.Reading.{Reading, stopped, movedOn, reported, nextSegment, nextSegments, passesRead}
-use Rattle.t2_read_segments.specs.Reading.{segmentsAfter, nextFirst, nextAgain, nextNew, nextOld, nextBlock, nextBlocks, heldBy}
+use Rattle.t2_read_segments.specs.Reading.{Reading, stopped, movedOn, reported, nextSegment, nextSegments}
+use Rattle.t2_read_block_parts.specs.Blocks.{passesRead}
+use Rattle.t2_read_segments.specs.Reading.{heldBy}
+use Rattle.t2_read_block_parts.specs.Blocks.{segmentsAfter, nextFirst, nextAgain, nextNew, nextOld, nextBlock, nextBlocks}
 use Rattle.t2_read_segments.proofs.Laws.ManySegments.{no-segments}
 use Rattle.tcd_places.proofs.Laws.Before.{AllBlocks, Before, same-word}
 use Rattle.t2_read_block_parts.proofs.Laws.Kept.{path-keeps}

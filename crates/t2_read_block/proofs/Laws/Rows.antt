@@ -10,7 +10,8 @@ use lib.ListN.{length, drop}
 use Rattle.t800.specs.State.{Block}
 use Rattle.t800_laws.proofs.Laws.Tests.{if-eq, if-ne, on-eq}
 use Rattle.tcd_places.specs.declared.Place.{Place}
-use Rattle.t2_read_segments.specs.Reading.{Reading, nextBlock, nextBlocks, BlockFits}
+use Rattle.t2_read_segments.specs.Reading.{Reading, BlockFits}
+use Rattle.t2_read_block_parts.specs.Blocks.{nextBlock, nextBlocks}
 use Rattle.t2_read_segments.proofs.Laws.ManySegments.{fits-same}
 use Rattle.tcd_places.specs.Places.{RowIn, blockIn, placeAt, rowBlocks}
 use Rattle.tcd_places.proofs.Laws.Before.{same-word, drop-later}

@@ -6,7 +6,8 @@ use native.Mathlib.Omega.{arith}
 use lib.ListN.{length}
 use Rattle.t800.specs.State.{Block}
 use Rattle.tcd_places.specs.declared.Place.{Place}
-use Rattle.t2_read_segments.specs.Reading.{reading, nextBlock, nextBlocks, BlockFits}
+use Rattle.t2_read_segments.specs.Reading.{reading, BlockFits}
+use Rattle.t2_read_block_parts.specs.Blocks.{nextBlock, nextBlocks}
 use Rattle.tcd_places.specs.Places.{BlockIn, RowIn, blockIn, rowBlocks}
 use Rattle.tcd_places.proofs.Laws.Rows.{block-in, row-end}
 use Rattle.t2_read_block_parts.proofs.Laws.Kept.{Keeps}

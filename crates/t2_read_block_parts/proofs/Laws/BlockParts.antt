@@ -5,9 +5,10 @@ use mathlib.Core.Bool.{true, false, cond}
 use mathlib.Core.List.{List, reverse}
 use Prim.Native.Nat.{ℕ, zero, suc, _+_, _-_, _%_, _^_}
 use lib.Dec.{eqb, ltb}
-use lib.ListN.{getD}
+use lib.ListN.{getD, set}
 use Rattle.t800.specs.declared.Bio.{Bio}
 use Rattle.t800.specs.Bits.{Decoded, getBit}
+use Rattle.t800.specs.PassCount.{readPasses}
 use Rattle.t800.specs.TagTree.{PathRead, value, readPath}
 use Rattle.t800.specs.State.{Block, notYetPlanes}
 use Rattle.t800.specs.WriteHeader.{isNew}
@@ -16,10 +17,11 @@ use Rattle.t800_laws.proofs.Laws.Tests.{if-true, if-false, if-eq, if-ne}
 use Rattle.lists.specs.Rows.{putRow}
 use Rattle.tgt.specs.Path.{pathOver, leafWord}
 use Rattle.tgt_read.specs.Reading.{LeafAfter, belowIn, ValueAfter, valueIn, leafOf}
+use Rattle.t2_read_codes.specs.CommaCode.{readCommaLimited}
 use Rattle.tcd_places.specs.declared.Place.{Place}
 use Rattle.t2_read_segments.specs.declared.Run.{Run}
-use Rattle.t2_read_segments.specs.Reading.{Reading, reading, movedOn, reported, nextSegment, nextSegments, passesRead, nextFirst}
-use Rattle.t2_read_segments.specs.Reading.{nextAgain, nextNew, nextOld, nextBlock}
+use Rattle.t2_read_segments.specs.Reading.{Reading, reading, movedOn, reported, nextSegment, nextSegments}
+use Rattle.t2_read_block_parts.specs.Blocks.{passesRead, nextFirst, nextAgain, nextNew, nextOld, nextBlock}
 use Rattle.tcd_places.specs.Places.{blockAt, blockIn}
 
 -- ---- of a block only its own words count for its segments, and only a tree and a leaf for its zero planes
@@ -188,3 +190,15 @@ module _ (src : List ℕ) (t i : ℕ) (k : Block) (a o : Reading) where
   pub block-old : getD (a .words) (k .at) 0 ≢ 0 → o ≡ nextOld src i (blockAt (k .at)) a → o ≡ nextBlock src t i k a
   unfolding nextBlock isNew
   block-old z e = e ∙ same-old src i k a ∙ sym (if-ne _ 0 _ _ z)
+
+-- ---- pass count and increment
+
+pub passes-stored : (src : List ℕ) (at before bits : ℕ) (ws : List ℕ) (b : Bio) (n more : Decoded) → n ≡ readPasses src b → more
+    ≡ readCommaLimited src (n .bio)
+    → _≡_ {A = ValueAfter}
+    (record { words = set (set ws at (before + n .value)) (at + 1) (bits + more .value); bio = more .bio; value = n .value })
+    (passesRead src at before bits ws b)
+unfolding passesRead
+passes-stored src at before bits ws b n more p q =
+    let e : more ≡ readCommaLimited src (readPasses src b .bio) = q ∙ ap (λ (d : Decoded). readCommaLimited src (d .bio)) p in
+    λ j. record { words = set (set ws at (before + p j .value)) (at + 1) (bits + e j .value); bio = e j .bio; value = p j .value }

@@ -22,8 +22,10 @@ use Rattle.tgt_read.proofs.Laws.Reading.{readPath-ct, readPath-place, raising-c
 use Rattle.t2_read_codes.specs.CommaCode.{onesLimit, readCommaLimited}
 use Rattle.t2_read_codes.proofs.Laws.PassCount.{passes-ct, passes-place, passes-between}
 use Rattle.t2_read_codes.proofs.Laws.CommaCode.{ones-ct, ones-place}
-use Rattle.t2_read_segments.specs.Reading.{Reading, stopped, nextSegment, nextSegments, passesRead, nextFirst, nextAgain, nextNew}
-use Rattle.t2_read_segments.specs.Reading.{nextOld, nextBlock, nextBlocks, BitsIn}
+use Rattle.t2_read_segments.specs.Reading.{Reading, stopped, nextSegment, nextSegments}
+use Rattle.t2_read_block_parts.specs.Blocks.{passesRead, nextFirst, nextAgain, nextNew}
+use Rattle.t2_read_segments.specs.Reading.{BitsIn}
+use Rattle.t2_read_block_parts.specs.Blocks.{nextOld, nextBlock, nextBlocks}
 use Rattle.tcd_places.proofs.Laws.Before.{AllBlocks, Before, BlockBefore}
 
 -- ---- trees

@@ -5,7 +5,7 @@ use lib.ListN.{length-set}
 use Rattle.t800.specs.Bits.{Decoded}
 use Rattle.t2_read_codes.proofs.Laws.PassCount.{ct-kept, passes-ct, passes-between}
 use Rattle.t2_read_codes.proofs.Laws.CommaCode.{comma-value}
-use Rattle.t2_read_segments.proofs.Laws.OneSegment.{passes-stored}
+use Rattle.t2_read_block_parts.proofs.Laws.BlockParts.{passes-stored}
 use borrow.Author.Needs.{needs}
 use Rattle.t2_read_block_parts.proofs.read_passes.Statement.{statement}
 use Rattle.t2_read_block_parts.proofs.read_passes.Tie as tie

@@ -18,7 +18,8 @@ use Rattle.t800.specs.ReadHeader.{HeaderRead, refused, readBlocks, readHeader}
 use Rattle.round_trip.proofs.Trip.Segments.{readSoFar}
 use Rattle.tcd_state.proofs.Laws.ValidStates.{ValidState, bands-inside}
 use Rattle.t2_read_segments.specs.declared.Run.{Run}
-use Rattle.t2_read_segments.specs.Reading.{Reading, reading, stopped, nextBlocks, heldBy, BitsIn, Follows}
+use Rattle.t2_read_segments.specs.Reading.{Reading, reading, stopped, heldBy, BitsIn, Follows}
+use Rattle.t2_read_block_parts.specs.Blocks.{nextBlocks}
 use Rattle.t2_read_block_parts.proofs.Laws.Kept.{blocks-keep}
 use Rattle.t2_read_block.proofs.Laws.Follows.{Ends, blocks-end}
 use Rattle.tcd_places.proofs.Laws.BandBlocks.{bands-before}

@@ -15,7 +15,8 @@ use Rattle.bio_read_end.specs.HeaderEnd.{alignedAt}
 use Rattle.tcd_first_words.proofs.Laws.FirstWords.{first-bands}
 use Rattle.tcd_state.proofs.Laws.ValidStates.{valid-state, bands-inside, thirteen-words}
 use Rattle.t2_read_segments.specs.declared.Run.{Run}
-use Rattle.t2_read_segments.specs.Reading.{reading, nextBlocks}
+use Rattle.t2_read_segments.specs.Reading.{reading}
+use Rattle.t2_read_block_parts.specs.Blocks.{nextBlocks}
 use Rattle.t2_read_bands.specs.Bands.{BandsFit}
 use Rattle.t2_read_bands.proofs.Laws.ReadBands.{bands-fit}
 use Rattle.t2_read_header.proofs.Laws.HeaderEnd.{bits-in, header-refused, header-done, header-cut}

@@ -1,24 +1,20 @@
--- One segment: which one it is, and its parts together; pass count and increment.
+-- One segment: which one it is, and its parts together.
 use mathlib.Core.Path.{_≡_, sym, ap, _∙_, subst}
 use mathlib.Core.Logic.{_≢_}
 use mathlib.Core.List.{List}
 use Prim.Native.Nat.{ℕ, _+_, _/_, _≤_, _<_}
 use lib.ListN.{length, getD, set}
 use borrow.Author.Tests.{eq-eqb, ne-eqb}
-use Rattle.t800.specs.declared.Bio.{Bio}
 use Rattle.t800.specs.Bits.{Decoded, readBits}
-use Rattle.t800.specs.PassCount.{readPasses}
 use Rattle.t800.specs.Segments.{width}
 use Rattle.t800.specs.ReadHeader.{opensSegment, currentLimit, currentPasses}
 use Rattle.t800.specs.Reports.{recordWidth}
 use Rattle.t800_laws.proofs.Laws.Tests.{if-lt, if-ge, if-le, if-gt}
 use Rattle.lists.specs.Rows.{putRecord}
-use Rattle.tgt_read.specs.Reading.{ValueAfter}
-use Rattle.t2_read_codes.specs.CommaCode.{readCommaLimited}
 use Rattle.tcd_places.specs.Places.{blockAt}
 use Rattle.t2_read_segments.specs.declared.Segment.{Segment}
 use Rattle.t2_read_segments.specs.Segments.{limitAfter, currentSegment}
-use Rattle.t2_read_segments.specs.Reading.{Reading, stopped, nextSegment, passesRead}
+use Rattle.t2_read_segments.specs.Reading.{Reading, stopped, nextSegment}
 
 -- ---- the segment that the next passes go into
 
@@ -66,15 +62,3 @@ module _ (src : List ℕ) (i at n : ℕ) (a : Reading) (w : ℕ) (is : w ≡ wid
       ap (stored s len) u
       ∙ (λ j. stored (p j) (e j) (putRecord (a .records) (a .count) i (p j .opens) n (e j .value)))
       ∙ sym (if-ge 32 _ _ _ (subst (λ (z : ℕ). z ≤ 32) is h) ∙ if-gt _ _ _ _ l)
-
--- ---- pass count and increment
-
-pub passes-stored : (src : List ℕ) (at before bits : ℕ) (ws : List ℕ) (b : Bio) (n more : Decoded) → n ≡ readPasses src b → more
-    ≡ readCommaLimited src (n .bio)
-    → _≡_ {A = ValueAfter}
-    (record { words = set (set ws at (before + n .value)) (at + 1) (bits + more .value); bio = more .bio; value = n .value })
-    (passesRead src at before bits ws b)
-unfolding passesRead
-passes-stored src at before bits ws b n more p q =
-    let e : more ≡ readCommaLimited src (readPasses src b .bio) = q ∙ ap (λ (d : Decoded). readCommaLimited src (d .bio)) p in
-    λ j. record { words = set (set ws at (before + p j .value)) (at + 1) (bits + e j .value); bio = e j .bio; value = p j .value }
