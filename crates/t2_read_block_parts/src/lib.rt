@@ -54,7 +54,7 @@ pub fn read_first(
         ≡ nextFirst (now (src .entry)) block (blockIn p (now (row .entry)) planes)
         (reading (now (words .entry)) (now (reports .entry)) (now (records .entry)) r) ⌝ }
 {
-    let z = tgt_read::opj_tgt_decode_value(words, src, r.bio, p.zero, row, p.depth, p.x);
+    let z = tgt_read_value::opj_tgt_decode_value(words, src, r.bio, p.zero, row, p.depth, p.x);
     let n = read_passes(words, src, z.bio, p.at, 0, 3);
     let left = tcd_style::block_planes(planes, z.value);
     lists::put_report(reports, block, 1, z.value, left, n.value);

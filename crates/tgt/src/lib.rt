@@ -1,8 +1,8 @@
 // Tag trees of a packet header in a lent list of words (tgt.rs): a node is value, low and known, and is found from its level and place.
 ghost use mathlib.Core.Path.{_≡_};
 ghost use Prim.Native.Nat.{_+_, _-_, _*_, _/_, _^_, _<_, _≤_};
-ghost use lib.ListN.{replicate};
-ghost use Rattle.tgt.specs.Path.{rowOver, SmallLevels};
+ghost use lib.ListN.{length, getD, replicate};
+ghost use Rattle.tgt.specs.Path.{rowOver, leafWord, PathIn, SmallLevels};
 use t800::Bio;
 use t800::Level;
 
@@ -54,4 +54,13 @@ pub fn first_word(base: usize, start: usize, x: usize, level: usize) -> usize
     let node = start + column;
     let words = 3 * node;
     base + words
+}
+
+// The value of the leaf in column x of the row that `row` was made for, in a tree that begins at the word `base`.
+pub fn leaf_value(words: &[u32], base: usize, row: &[usize; 7], depth: usize, x: usize) -> u32
+    requires { ⌜ PathIn (length (now words)) base (now row) depth x ⌝ }
+    ensures { λ r. ⌜ r ≡ getD (now (words .entry)) (leafWord base (now (row .entry)) x) 0 ⌝ }
+{
+    let at = first_word(base, row[0], x, 0);
+    words[at]
 }

@@ -5,14 +5,10 @@ ghost use mathlib.Core.Bool.{_&&_};
 ghost use mathlib.Core.List.{reverse};
 ghost use Prim.Native.Nat.{_+_, _%_, _^_, _<_, _≤_};
 ghost use lib.Dec.{eqb, ltb};
-ghost use lib.ListN.{length, getD};
+ghost use lib.ListN.{length};
 ghost use Rattle.t800.specs.TagTree.{readNode, readPath};
-ghost use Rattle.t800.specs.State.{notYetPlanes};
-ghost use Rattle.t800.specs.ReadHeader.{readZeroPlanesFrom};
 ghost use Rattle.tgt.specs.Path.{pathOver, leafWord, PathIn, NodesIn};
-ghost use Rattle.tgt_read.specs.Reading.{pathRead, leafAfter, belowIn, valueAfter, valueIn, leafOf, nodeRead, nodeAfter};
-ghost use Rattle.tgt_read.specs.Reading.{readAt, LeadingZeros};
-use bio_read::Decoded;
+ghost use Rattle.tgt_read.specs.Reading.{pathRead, leafAfter, belowIn, nodeRead, nodeAfter, readAt, LeadingZeros};
 use t800::Bio;
 use tgt::AfterNode;
 
@@ -196,14 +192,6 @@ fn decode_path(
     decode_below(words, src, r.bio, base, row, top, x, threshold, r.low)
 }
 
-fn leaf_value(words: &[u32], base: usize, row: &[usize; 7], depth: usize, x: usize) -> u32
-    requires { ⌜ PathIn (length (now words)) base (now row) depth x ⌝ }
-    ensures { λ r. ⌜ r ≡ getD (now (words .entry)) (leafWord base (now (row .entry)) x) 0 ⌝ }
-{
-    let at = tgt::first_word(base, row[0], x, 0);
-    words[at]
-}
-
 pub fn opj_tgt_decode(
     words: &mut [u32],
     src: &[u8],
@@ -220,82 +208,9 @@ pub fn opj_tgt_decode(
         (readPath (now (src .entry)) base threshold (reverse (pathOver (now (row .entry)) depth x)) 0 (now (words .entry)) b) ⌝ }
 {
     let bio = decode_path(words, src, b, base, row, depth, x, threshold);
-    let value = leaf_value(words, base, row, depth, x);
+    let value = tgt::leaf_value(words, base, row, depth, x);
     LeafRead {
         below: value < threshold,
         bio,
     }
-}
-
-// A value is at most NOT_YET_PLANES, so that it lies below this threshold at the latest.
-const LAST_THRESHOLD: u32 = tcd_style::NOT_YET_PLANES + 1;
-
-// The threshold is raised until the leaf's value lies below it.
-fn raise(
-    words: &mut [u32],
-    src: &[u8],
-    b: Bio,
-    base: usize,
-    row: &[usize; 7],
-    depth: usize,
-    x: usize,
-) -> Bio
-    requires { ⌜ (b .ct ≤ 8) × (PathIn (length (now words)) base (now row) depth x) ⌝ }
-    ensures { λ r. ⌜ pathRead (now (words .exit)) r
-        ≡ readZeroPlanesFrom (now (src .entry)) (leafOf base (now (row .entry)) depth x) (notYetPlanes + 2) 0 (now (words .entry)) b
-        ⌝ }
-{
-    let mut bio = b;
-    let mut threshold: u32 = 0;
-    while threshold <= LAST_THRESHOLD {
-        let r = opj_tgt_decode(words, src, bio, base, row, depth, x, threshold);
-        bio = r.bio;
-        if r.below {
-            return bio;
-        }
-        threshold += 1;
-    }
-    bio
-}
-
-// In a tree of one node the thresholds up to the last are read at once.
-fn read_planes(
-    words: &mut [u32],
-    src: &[u8],
-    b: Bio,
-    base: usize,
-    row: &[usize; 7],
-    depth: usize,
-    x: usize,
-) -> Bio
-    requires { ⌜ (b .ct ≤ 8) × (PathIn (length (now words)) base (now row) depth x) ⌝ }
-    ensures { λ r. ⌜ pathRead (now (words .exit)) r
-        ≡ readZeroPlanesFrom (now (src .entry)) (leafOf base (now (row .entry)) depth x) (notYetPlanes + 2) 0 (now (words .entry)) b
-        ⌝ }
-{
-    if depth == 1 {
-        return decode_path(words, src, b, base, row, depth, x, LAST_THRESHOLD);
-    }
-    raise(words, src, b, base, row, depth, x)
-}
-
-// The leaf's value, as zero planes are read.
-pub fn opj_tgt_decode_value(
-    words: &mut [u32],
-    src: &[u8],
-    b: Bio,
-    base: usize,
-    row: &[usize; 7],
-    depth: usize,
-    x: usize,
-) -> Decoded
-    requires { ⌜ (b .ct ≤ 8) × (PathIn (length (now words)) base (now row) depth x) ⌝ }
-    ensures { λ r. ⌜ valueAfter (now (words .exit)) r
-        ≡ valueIn (leafWord base (now (row .entry)) x)
-        (readZeroPlanesFrom (now (src .entry)) (leafOf base (now (row .entry)) depth x) (notYetPlanes + 2) 0 (now (words .entry)) b)
-        ⌝ }
-{
-    let bio = read_planes(words, src, b, base, row, depth, x);
-    let value = leaf_value(words, base, row, depth, x);
-    Decoded { value, bio }
 }

@@ -1,12 +1,12 @@
--- `tgt_read::leaf_value` meets its contract.
+-- `tgt::leaf_value` meets its contract.
 -- Assumes nothing.
 use mathlib.Core.Path.{_≡_, ap}
 use Prim.Native.Nat.{ℕ, _+_, _*_, _<_}
 use native.Mathlib.Omega.{arith}
 use lib.ListN.{length, getD}
 use borrow.Author.Needs.{needs}
-use Rattle.tgt_read.proofs.leaf_value.Statement.{statement}
-use Rattle.tgt_read.proofs.leaf_value.Tie as tie
+use Rattle.tgt.proofs.leaf_value.Statement.{statement}
+use Rattle.tgt.proofs.leaf_value.Tie as tie
 
 first-word-requires : tie.Need-first-word-requires
 first-word-requires c κs = let s = c .before .before in

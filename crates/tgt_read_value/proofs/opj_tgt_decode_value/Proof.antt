@@ -1,12 +1,12 @@
--- `tgt_read::opj_tgt_decode_value` meets its contract.
+-- `tgt_read_value::opj_tgt_decode_value` meets its contract.
 -- Assumes nothing.
 use mathlib.Core.Path.{sym, ap, _∙_, subst}
 use Prim.Native.Nat.{ℕ}
 use Rattle.tgt.specs.Path.{leafWord, PathIn}
 use Rattle.tgt_read.specs.Reading.{valueIn}
 use borrow.Author.Needs.{needs}
-use Rattle.tgt_read.proofs.opj_tgt_decode_value.Statement.{statement}
-use Rattle.tgt_read.proofs.opj_tgt_decode_value.Tie as tie
+use Rattle.tgt_read_value.proofs.opj_tgt_decode_value.Statement.{statement}
+use Rattle.tgt_read_value.proofs.opj_tgt_decode_value.Tie as tie
 
 leaf-value-requires : tie.Need-leaf-value-requires
 leaf-value-requires c κs = let s = c .before .before .before .before .before .before .before in

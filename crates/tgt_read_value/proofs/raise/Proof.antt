@@ -1,4 +1,4 @@
--- `tgt_read::raise` meets its contract. The invariant: raising the threshold on from here gives the whole.
+-- `tgt_read_value::raise` meets its contract. The invariant: raising the threshold on from here gives the whole.
 -- Assumes nothing.
 use mathlib.Core.Path.{_≡_, refl, sym, _∙_, subst}
 use mathlib.Core.List.{reverse}
@@ -9,10 +9,10 @@ use Rattle.t800.specs.TagTree.{PathRead, readPath}
 use Rattle.t800.specs.ReadHeader.{readZeroPlanesFrom}
 use Rattle.t800.specs.State.{notYetPlanes}
 use Rattle.tgt.specs.Path.{pathOver, leafWord, PathIn}
 use Rattle.tgt_read.specs.Reading.{pathRead, leafOf}
 use Rattle.tgt_read.proofs.Laws.Reading.{readPath-ct, leaf-says, raise-stop, raise-on, raise-end}
-use Rattle.tgt_read.proofs.raise.Statement.{statement}
-use Rattle.tgt_read.proofs.raise.Tie as tie
+use Rattle.tgt_read_value.proofs.raise.Statement.{statement}
+use Rattle.tgt_read_value.proofs.raise.Tie as tie
 
 abbrev Inv-loop : tie.InvT-loop
 Inv-loop words₀ src base row depth x bio₀ threshold₀ words bio threshold = (bio .ct ≤ 8)
