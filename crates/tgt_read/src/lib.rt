@@ -172,7 +172,7 @@ fn decode_below(
 }
 
 // The root stands apart: it has no low over it.
-fn decode_path(
+pub fn decode_path(
     words: &mut [u32],
     src: &[u8],
     b: Bio,

@@ -57,8 +57,7 @@ fn read_planes(
         ⌝ }
 {
     if depth == 1 {
-        let r = tgt_read::opj_tgt_decode(words, src, b, base, row, depth, x, LAST_THRESHOLD);
-        return r.bio;
+        return tgt_read::decode_path(words, src, b, base, row, depth, x, LAST_THRESHOLD);
     }
     raise(words, src, b, base, row, depth, x)
 }
