@@ -799,23 +799,11 @@ fn packet_call(list: &[u8], at: usize, kind: u64, state: &mut [u32]) -> Compared
     contribute(list, asked, state)
 }
 
-// The place after a call, the words of the state in use, and 1 for an answer as listed.
+// The place after a call, the words of the state in use, and whether it had an answer, as listed.
 struct Done {
     next: usize,
     words: usize,
-    good: u32,
-}
-
-fn one_if(good: bool) -> u32 {
-    if good { 1 } else { 0 }
-}
-
-fn ended(c: Compared, words: usize) -> Done {
-    Done {
-        next: c.next,
-        words,
-        good: one_if(c.good),
-    }
+    good: bool,
 }
 
 fn load(list: &[u8], at: usize, state: &mut [u32]) -> Done {
@@ -825,7 +813,7 @@ fn load(list: &[u8], at: usize, state: &mut [u32]) -> Done {
     Done {
         next,
         words: size,
-        good: 0,
+        good: false,
     }
 }
 
@@ -842,7 +830,7 @@ fn poke(list: &[u8], at: usize, words: usize, state: &mut [u32]) -> Done {
     Done {
         next: value.next,
         words,
-        good: 0,
+        good: false,
     }
 }
 
@@ -878,13 +866,21 @@ fn start(list: &[u8], at: usize, state: &mut [u32]) -> Done {
     let size = fit(s.words, state);
     let begun = s.begun;
     let c = start_in(list, s.next, begun, &mut state[..size]);
-    ended(c, size)
+    Done {
+        next: c.next,
+        words: size,
+        good: c.good,
+    }
 }
 
 fn packet(list: &[u8], at: usize, kind: u64, words: usize, state: &mut [u32]) -> Done {
     let size = fit(words as u64, state);
     let c = packet_call(list, at, kind, &mut state[..size]);
-    ended(c, size)
+    Done {
+        next: c.next,
+        words: size,
+        good: c.good,
+    }
 }
 
 fn call(list: &[u8], at: usize, words: usize, state: &mut [u32]) -> Done {
@@ -908,6 +904,10 @@ struct Score {
     whole: bool,
 }
 
+fn count(sum: u64, good: bool) -> u64 {
+    if good { plus(sum, 1) } else { sum }
+}
+
 fn plus(sum: u64, n: u32) -> u64 {
     if sum < 0xffff_ffff {
         sum + n as u64
@@ -929,7 +929,7 @@ fn run_on(list: &[u8], state: &mut [u32]) -> Score {
         let d = call(list, next, words, state);
         next = d.next;
         words = d.words;
-        good = plus(good, d.good);
+        good = count(good, d.good);
     }
     Score {
         good,
