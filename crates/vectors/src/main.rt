@@ -54,23 +54,28 @@ fn long_number(list: &[u8], at: usize, bytes: u32) -> Taken {
     Taken { value, next }
 }
 
-// A byte below 252 is the number itself; above, it says how many bytes the number takes.
+// How many bytes the number takes that such a byte begins.
+fn width(first: u64) -> u32 {
+    if first == 252 {
+        return 1;
+    }
+    if first == 253 {
+        return 2;
+    }
+    if first == 254 {
+        return 4;
+    }
+    8
+}
+
+// A byte below 252 is the number itself.
 fn number(list: &[u8], at: usize) -> Taken {
     let first = wide(byte(list, at));
     let next = skip(at, 1);
     if first < 252 {
         return Taken { value: first, next };
     }
-    if first == 252 {
-        return long_number(list, next, 1);
-    }
-    if first == 253 {
-        return long_number(list, next, 2);
-    }
-    if first == 254 {
-        return long_number(list, next, 4);
-    }
-    long_number(list, next, 8)
+    long_number(list, next, width(first))
 }
 
 // The number as a word; none of a list's words is larger.
@@ -93,14 +98,6 @@ struct Repeated {
     value: u64,
     left: u64,
     next: usize,
-}
-
-fn begin(at: usize) -> Repeated {
-    Repeated {
-        value: 0,
-        left: 0,
-        next: at,
-    }
 }
 
 fn one_less(n: u64) -> u64 {
@@ -139,7 +136,11 @@ fn turn(list: &[u8], r: Repeated) -> Repeated {
 
 // The place after the row.
 fn fill(list: &[u8], at: usize, to: &mut [u32]) -> usize {
-    let mut r = begin(at);
+    let mut r = Repeated {
+        value: 0,
+        left: 0,
+        next: at,
+    };
     let mut i: usize = 0;
     while i < to.len() {
         r = turn(list, r);
@@ -147,17 +148,6 @@ fn fill(list: &[u8], at: usize, to: &mut [u32]) -> usize {
         i += 1;
     }
     r.next
-}
-
-fn fill_bytes(list: &[u8], at: usize, to: &mut [u8]) -> usize {
-    let mut next = at;
-    let mut i: usize = 0;
-    while i < to.len() {
-        to[i] = byte(list, next);
-        next = skip(next, 1);
-        i += 1;
-    }
-    next
 }
 
 // ---- what is lent
@@ -247,7 +237,11 @@ fn expect_checksum(list: &[u8], so_far: Compared, words: &[u32]) -> Compared {
 
 // So many words of a row, and from there on one word over and over.
 fn expect_row(list: &[u8], at: usize, listed: usize, rest: u64, words: &[u32]) -> Compared {
-    let mut r = begin(at);
+    let mut r = Repeated {
+        value: 0,
+        left: 0,
+        next: at,
+    };
     let mut good = true;
     let mut i: usize = 0;
     while i < words.len() {
@@ -327,28 +321,59 @@ fn reports_room(value: u32) -> [u32; 49152]
     [value; 49152]
 }
 
-fn blocks_room() -> [u32; 12288]
-    ensures { λ r. ⌜ 12288 ≡ length r ⌝ }
-{
-    [0; 12288]
-}
-
-fn passes_room() -> [u32; 700]
-    ensures { λ r. ⌜ 700 ≡ length r ⌝ }
-{
-    [0; 700]
-}
-
-fn marks_room() -> [u8; 700]
-    ensures { λ r. ⌜ 700 ≡ length r ⌝ }
-{
-    [0; 700]
-}
-
 fn bytes_room(value: u8) -> [u8; 4000]
     ensures { λ r. ⌜ 4000 ≡ length r ⌝ }
 {
     [value; 4000]
+}
+
+// A list in its room, of which it takes the first so many.
+struct Scratch {
+    words: [u32; 147463],
+    size: usize,
+}
+
+fn scratch_of(n: u64) -> Scratch
+    ensures { λ r. ⌜ Counts (r .size) (r .words) ⌝ }
+{
+    let words = state_room(SCRATCH);
+    let size = fit(n, &words);
+    Scratch { words, size }
+}
+
+struct Reports {
+    words: [u32; 49152],
+    size: usize,
+}
+
+fn reports_of(n: u64, value: u32) -> Reports
+    ensures { λ r. ⌜ Counts (r .size) (r .words) ⌝ }
+{
+    let words = reports_room(value);
+    let size = fit(n, &words);
+    Reports { words, size }
+}
+
+struct Bytes {
+    bytes: [u8; 4000],
+    size: usize,
+}
+
+fn output_of(n: u64) -> Bytes
+    ensures { λ r. ⌜ Counts (r .size) (r .bytes) ⌝ }
+{
+    let bytes = bytes_room(OUTPUT);
+    let size = fit_bytes(n, &bytes);
+    Bytes { bytes, size }
+}
+
+fn body_of(n: u64) -> Bytes
+    ensures { λ r. ⌜ Counts (r .size) (r .bytes) ⌝ }
+{
+    let mut bytes = bytes_room(0);
+    fill_body(&mut bytes);
+    let size = fit_bytes(n, &bytes);
+    Bytes { bytes, size }
 }
 
 // What fills a list before it is lent.
@@ -373,13 +398,6 @@ const READ: u64 = 4;
 
 const POKE: u64 = 5;
 
-fn so_far(at: usize) -> Compared {
-    Compared {
-        next: at,
-        good: true,
-    }
-}
-
 fn markers_of(n: u64) -> Markers {
     Markers {
         sop: n % 2 == 1,
@@ -387,93 +405,137 @@ fn markers_of(n: u64) -> Markers {
     }
 }
 
-fn bands_of(g: [u32; 9]) -> [Band; 3] {
-    [
-        Band {
-            across: g[0],
-            down: g[1],
-            planes: g[2],
-        },
-        Band {
-            across: g[3],
-            down: g[4],
-            planes: g[5],
-        },
-        Band {
-            across: g[6],
-            down: g[7],
-            planes: g[8],
-        },
-    ]
+// ---- the lists of a call
+
+// A row, of which so many words are in use, and the place after it.
+struct Words {
+    words: [u32; 49152],
+    size: usize,
+    next: usize,
+}
+
+// How many, and the row.
+fn row(list: &[u8], at: usize) -> Words
+    ensures { λ r. ⌜ Counts (r .size) (r .words) ⌝ }
+{
+    let n = number(list, at);
+    let room = reports_of(n.value, 0);
+    let mut words = room.words;
+    let size = room.size;
+    let next = fill(list, n.next, &mut words[..size]);
+    Words { words, size, next }
+}
+
+// Where bytes stand in the list.
+struct Part {
+    from: usize,
+    to: usize,
+}
+
+// How many, and the bytes: no more than there are in a list that is cut.
+fn part_at(list: &[u8], at: usize) -> Part
+    ensures { λ r. ⌜ (r .from ≤ r .to) × (r .to ≤ length (now (list .entry))) ⌝ }
+{
+    let n = number(list, at);
+    let end = list.len();
+    let from = least(n.next as u64, end);
+    let left = end - from;
+    let size = least(n.value, left);
+    let to = from + size;
+    Part { from, to }
 }
 
 // ---- start
 
-fn start_for(
+// What a start was asked besides its lists.
+struct Begun {
     role: u32,
     count: u32,
     bands: [Band; 3],
     style: u8,
-    planes: &[u32],
-    state: &mut [u32],
-) -> u32 {
-    if role == 1 {
-        return t2::start_writer(count, bands, style, planes, state);
-    }
-    t2::start_reader(count, bands, style, planes, state)
 }
 
-fn start_with(
-    list: &[u8],
-    at: usize,
-    role: u32,
-    count: u32,
+// A band, and the row after it.
+struct BandTaken {
+    band: Band,
+    row: Repeated,
+}
+
+fn band(list: &[u8], r: Repeated) -> BandTaken {
+    let across = turn(list, r);
+    let down = turn(list, across);
+    let row = turn(list, down);
+    let band = Band {
+        across: to_word(across.value),
+        down: to_word(down.value),
+        planes: to_word(row.value),
+    };
+    BandTaken { band, row }
+}
+
+// Three bands, and the place after them.
+struct BandsTaken {
     bands: [Band; 3],
-    style: u8,
-    planes: &mut [u32],
-    state: &mut [u32],
-) -> Compared {
-    let next = fill(list, at, planes);
-    let answer = start_for(role, count, bands, style, planes, state);
-    let a = expect(list, so_far(next), answer as u64);
+    next: usize,
+}
+
+fn bands_at(list: &[u8], at: usize) -> BandsTaken {
+    let before = Repeated {
+        value: 0,
+        left: 0,
+        next: at,
+    };
+    let a = band(list, before);
+    let b = band(list, a.row);
+    let c = band(list, b.row);
+    let first = a.band;
+    let second = b.band;
+    let third = c.band;
+    let bands = [first, second, third];
+    BandsTaken {
+        bands,
+        next: c.row.next,
+    }
+}
+
+fn start_for(begun: Begun, planes: &[u32], state: &mut [u32]) -> u32 {
+    let bands = begun.bands;
+    if begun.role == 1 {
+        return t2::start_writer(begun.count, bands, begun.style, planes, state);
+    }
+    t2::start_reader(begun.count, bands, begun.style, planes, state)
+}
+
+fn start_with(list: &[u8], at: usize, begun: Begun, planes: &[u32], state: &mut [u32]) -> Compared {
+    set_all(state, STATE);
+    let answer = start_for(begun, planes, state);
+    let fresh = Compared {
+        next: at,
+        good: true,
+    };
+    let a = expect(list, fresh, answer as u64);
     expect_checksum(list, a, state)
 }
 
-fn start_in(
-    list: &[u8],
-    at: usize,
-    role: u32,
-    count: u32,
-    bands: [Band; 3],
-    style: u8,
-    state: &mut [u32],
-) -> Compared {
-    set_all(state, STATE);
-    let n = number(list, at);
-    let mut planes = blocks_room();
-    let size = fit(n.value, &planes);
-    start_with(
-        list,
-        n.next,
-        role,
-        count,
-        bands,
-        style,
-        &mut planes[..size],
-        state,
-    )
+fn start_in(list: &[u8], at: usize, begun: Begun, state: &mut [u32]) -> Compared {
+    let r = row(list, at);
+    let planes = r.words;
+    let size = r.size;
+    start_with(list, r.next, begun, &planes[..size], state)
 }
 
 // ---- measure and write
 
-// What a packet call was asked besides its lists.
+// What a packet call was asked besides its lists, the words of scratch, and the place after these.
 struct Asked {
     kind: u64,
     markers: Markers,
     packet: u32,
+    scratch: u64,
+    next: usize,
 }
 
-fn measured(
+fn measured_in(
     list: &[u8],
     at: usize,
     asked: Asked,
@@ -487,8 +549,36 @@ fn measured(
     expect_measured(list, at, r, scratch)
 }
 
+fn measured(
+    list: &[u8],
+    at: usize,
+    asked: Asked,
+    counts: &[u32],
+    lengths: &[u32],
+    marks: &[u8],
+    state: &[u32],
+) -> Compared {
+    let room = scratch_of(asked.scratch);
+    let mut scratch = room.words;
+    let size = room.size;
+    measured_in(
+        list,
+        at,
+        asked,
+        counts,
+        lengths,
+        marks,
+        state,
+        &mut scratch[..size],
+    )
+}
+
 fn expect_measured(list: &[u8], at: usize, r: MeasureAnswer, scratch: &[u32]) -> Compared {
-    let a = expect(list, so_far(at), r.refusal as u64);
+    let fresh = Compared {
+        next: at,
+        good: true,
+    };
+    let a = expect(list, fresh, r.refusal as u64);
     let b = expect(list, a, r.header);
     let c = expect(list, b, r.body);
     expect_checksum(list, c, scratch)
@@ -502,7 +592,11 @@ fn expect_written(
     scratch: &[u32],
     output: &[u8],
 ) -> Compared {
-    let a = expect(list, so_far(at), r.refusal as u64);
+    let fresh = Compared {
+        next: at,
+        good: true,
+    };
+    let a = expect(list, fresh, r.refusal as u64);
     let b = expect(list, a, r.bytes);
     let c = expect_output(list, b, output);
     let d = expect_checksum(list, c, state);
@@ -535,35 +629,6 @@ fn written_to(
     expect_written(list, at, r, state, scratch, output)
 }
 
-fn written_of(
-    list: &[u8],
-    at: usize,
-    asked: Asked,
-    counts: &[u32],
-    lengths: &[u32],
-    marks: &[u8],
-    body: &mut [u8],
-    state: &mut [u32],
-    scratch: &mut [u32],
-) -> Compared {
-    fill_body(body);
-    let n = number(list, at);
-    let mut output = bytes_room(OUTPUT);
-    let size = fit_bytes(n.value, &output);
-    written_to(
-        list,
-        n.next,
-        asked,
-        counts,
-        lengths,
-        marks,
-        body,
-        state,
-        scratch,
-        &mut output[..size],
-    )
-}
-
 fn written(
     list: &[u8],
     at: usize,
@@ -572,21 +637,29 @@ fn written(
     lengths: &[u32],
     marks: &[u8],
     state: &mut [u32],
-    scratch: &mut [u32],
 ) -> Compared {
-    let n = number(list, at);
-    let mut body = bytes_room(0);
-    let size = fit_bytes(n.value, &body);
-    written_of(
+    let room = scratch_of(asked.scratch);
+    let mut scratch = room.words;
+    let size = room.size;
+    let b = number(list, at);
+    let o = number(list, b.next);
+    let body_room = body_of(b.value);
+    let output_room = output_of(o.value);
+    let body = body_room.bytes;
+    let mut output = output_room.bytes;
+    let body_size = body_room.size;
+    let output_size = output_room.size;
+    written_to(
         list,
-        n.next,
+        o.next,
         asked,
         counts,
         lengths,
         marks,
-        &mut body[..size],
+        &body[..body_size],
         state,
-        scratch,
+        &mut scratch[..size],
+        &mut output[..output_size],
     )
 }
 
@@ -596,82 +669,36 @@ fn with_marks(
     asked: Asked,
     counts: &[u32],
     lengths: &[u32],
-    marks: &mut [u8],
     state: &mut [u32],
-    scratch: &mut [u32],
 ) -> Compared {
-    let next = fill_bytes(list, at, marks);
+    let p = part_at(list, at);
+    let from = p.from;
+    let to = p.to;
+    let marks = &list[from..to];
     if asked.kind == MEASURE {
-        return measured(list, next, asked, counts, lengths, marks, state, scratch);
+        return measured(list, to, asked, counts, lengths, marks, state);
     }
-    written(list, next, asked, counts, lengths, marks, state, scratch)
+    written(list, to, asked, counts, lengths, marks, state)
 }
 
-fn with_lengths(
-    list: &[u8],
-    at: usize,
-    asked: Asked,
-    counts: &[u32],
-    lengths: &mut [u32],
-    state: &mut [u32],
-    scratch: &mut [u32],
-) -> Compared {
-    let next = fill(list, at, lengths);
-    let n = number(list, next);
-    let mut marks = marks_room();
-    let size = fit_bytes(n.value, &marks);
-    with_marks(
-        list,
-        n.next,
-        asked,
-        counts,
-        lengths,
-        &mut marks[..size],
-        state,
-        scratch,
-    )
-}
-
-fn with_counts(
-    list: &[u8],
-    at: usize,
-    asked: Asked,
-    counts: &mut [u32],
-    state: &mut [u32],
-    scratch: &mut [u32],
-) -> Compared {
-    let next = fill(list, at, counts);
-    let n = number(list, next);
-    let mut lengths = passes_room();
-    let size = fit(n.value, &lengths);
-    with_lengths(
-        list,
-        n.next,
-        asked,
-        counts,
-        &mut lengths[..size],
-        state,
-        scratch,
-    )
-}
-
-fn contribute(
-    list: &[u8],
-    at: usize,
-    asked: Asked,
-    state: &mut [u32],
-    scratch: &mut [u32],
-) -> Compared {
-    let n = number(list, at);
-    let mut counts = blocks_room();
-    let size = fit(n.value, &counts);
-    with_counts(list, n.next, asked, &mut counts[..size], state, scratch)
+fn contribute(list: &[u8], asked: Asked, state: &mut [u32]) -> Compared {
+    let c = row(list, asked.next);
+    let l = row(list, c.next);
+    let counts = c.words;
+    let lengths = l.words;
+    let n = c.size;
+    let m = l.size;
+    with_marks(list, l.next, asked, &counts[..n], &lengths[..m], state)
 }
 
 // ---- read
 
 fn expect_answer(list: &[u8], at: usize, r: ReadAnswer) -> Compared {
-    let a = expect(list, so_far(at), r.refusal as u64);
+    let fresh = Compared {
+        next: at,
+        good: true,
+    };
+    let a = expect(list, fresh, r.refusal as u64);
     let b = expect(list, a, r.present as u64);
     let c = expect(list, b, r.taken);
     let d = expect(list, c, r.segments);
@@ -698,124 +725,85 @@ fn expect_read(
 fn read_into(
     list: &[u8],
     at: usize,
-    markers: Markers,
+    asked: Asked,
     input: &[u8],
     state: &mut [u32],
     scratch: &mut [u32],
     reports: &mut [u32],
     records: &mut [u32],
 ) -> Compared {
-    let r = t2::read(state, scratch, input, markers, reports, records);
+    let r = t2::read(state, scratch, input, asked.markers, reports, records);
     expect_read(list, at, r, state, scratch, reports, records)
 }
 
-fn with_reports(
-    list: &[u8],
-    at: usize,
-    markers: Markers,
-    input: &[u8],
-    state: &mut [u32],
-    scratch: &mut [u32],
-    reports: &mut [u32],
-) -> Compared {
+fn read_from(list: &[u8], at: usize, asked: Asked, input: &[u8], state: &mut [u32]) -> Compared {
+    let room = scratch_of(asked.scratch);
+    let mut scratch = room.words;
+    let size = room.size;
     let n = number(list, at);
-    let mut records = reports_room(RECORDS);
-    let size = fit(n.value, &records);
+    let m = number(list, n.next);
+    let reports_room = reports_of(n.value, REPORTS);
+    let records_room = reports_of(m.value, RECORDS);
+    let mut reports = reports_room.words;
+    let mut records = records_room.words;
+    let reports_size = reports_room.size;
+    let records_size = records_room.size;
     read_into(
         list,
-        n.next,
-        markers,
+        m.next,
+        asked,
         input,
         state,
-        scratch,
-        reports,
-        &mut records[..size],
+        &mut scratch[..size],
+        &mut reports[..reports_size],
+        &mut records[..records_size],
     )
 }
 
-fn with_input(
-    list: &[u8],
-    at: usize,
-    markers: Markers,
-    input: &mut [u8],
-    state: &mut [u32],
-    scratch: &mut [u32],
-) -> Compared {
-    let next = fill_bytes(list, at, input);
-    let n = number(list, next);
-    let mut reports = reports_room(REPORTS);
-    let size = fit(n.value, &reports);
-    with_reports(
-        list,
-        n.next,
-        markers,
-        input,
-        state,
-        scratch,
-        &mut reports[..size],
-    )
-}
-
-fn read_in(
-    list: &[u8],
-    at: usize,
-    markers: Markers,
-    state: &mut [u32],
-    scratch: &mut [u32],
-) -> Compared {
-    let n = number(list, at);
-    let mut input = bytes_room(0);
-    let size = fit_bytes(n.value, &input);
-    with_input(list, n.next, markers, &mut input[..size], state, scratch)
+fn read_in(list: &[u8], asked: Asked, state: &mut [u32]) -> Compared {
+    let p = part_at(list, asked.next);
+    let from = p.from;
+    let to = p.to;
+    read_from(list, to, asked, &list[from..to], state)
 }
 
 // ---- one call after another
 
-fn packet_call(
-    list: &[u8],
-    at: usize,
-    kind: u64,
-    state: &mut [u32],
-    scratch: &mut [u32],
-) -> Compared {
-    let m = number(list, at);
-    let markers = markers_of(m.value);
+// A read has no number.
+fn packet_number(list: &[u8], at: usize, kind: u64) -> Taken {
     if kind == READ {
-        return read_in(list, m.next, markers, state, scratch);
+        return Taken { value: 0, next: at };
     }
-    let packet = number(list, m.next);
-    let asked = Asked {
+    number(list, at)
+}
+
+fn asked_at(list: &[u8], at: usize, kind: u64) -> Asked {
+    let s = number(list, at);
+    let m = number(list, s.next);
+    let p = packet_number(list, m.next, kind);
+    let markers = markers_of(m.value);
+    Asked {
         kind,
         markers,
-        packet: to_word(packet.value),
-    };
-    contribute(list, packet.next, asked, state, scratch)
+        packet: to_word(p.value),
+        scratch: s.value,
+        next: p.next,
+    }
 }
 
-fn with_scratch(list: &[u8], at: usize, kind: u64, state: &mut [u32]) -> Compared {
-    let n = number(list, at);
-    let mut scratch = state_room(SCRATCH);
-    let size = fit(n.value, &scratch);
-    packet_call(list, n.next, kind, state, &mut scratch[..size])
+fn packet_call(list: &[u8], at: usize, kind: u64, state: &mut [u32]) -> Compared {
+    let asked = asked_at(list, at, kind);
+    if kind == READ {
+        return read_in(list, asked, state);
+    }
+    contribute(list, asked, state)
 }
 
-// The place after a call, the words of the state in use, and 1 for an answer as listed.
+// The place after a call, the words of the state in use, and whether it had an answer, as listed.
 struct Done {
     next: usize,
     words: usize,
-    good: u32,
-}
-
-fn one_if(good: bool) -> u32 {
-    if good { 1 } else { 0 }
-}
-
-fn ended(c: Compared, words: usize) -> Done {
-    Done {
-        next: c.next,
-        words,
-        good: one_if(c.good),
-    }
+    good: bool,
 }
 
 fn load(list: &[u8], at: usize, state: &mut [u32]) -> Done {
@@ -825,7 +813,7 @@ fn load(list: &[u8], at: usize, state: &mut [u32]) -> Done {
     Done {
         next,
         words: size,
-        good: 0,
+        good: false,
     }
 }
 
@@ -842,44 +830,71 @@ fn poke(list: &[u8], at: usize, words: usize, state: &mut [u32]) -> Done {
     Done {
         next: value.next,
         words,
-        good: 0,
+        good: false,
+    }
+}
+
+// What a start was asked, the words of the state, and the place after.
+struct Opening {
+    begun: Begun,
+    words: u64,
+    next: usize,
+}
+
+fn starting(list: &[u8], at: usize) -> Opening {
+    let role = number(list, at);
+    let count = number(list, role.next);
+    let b = bands_at(list, count.next);
+    let bands = b.bands;
+    let style = number(list, b.next);
+    let n = number(list, style.next);
+    let begun = Begun {
+        role: to_word(role.value),
+        count: to_word(count.value),
+        bands,
+        style: to_byte(style.value),
+    };
+    Opening {
+        begun,
+        words: n.value,
+        next: n.next,
     }
 }
 
 fn start(list: &[u8], at: usize, state: &mut [u32]) -> Done {
-    let role = number(list, at);
-    let count = number(list, role.next);
-    let mut g = [0u32; 9];
-    let after = fill(list, count.next, &mut g);
-    let style = number(list, after);
-    let n = number(list, style.next);
-    let size = fit(n.value, state);
-    let c = start_in(
-        list,
-        n.next,
-        to_word(role.value),
-        to_word(count.value),
-        bands_of(g),
-        to_byte(style.value),
-        &mut state[..size],
-    );
-    ended(c, size)
+    let s = starting(list, at);
+    let size = fit(s.words, state);
+    let begun = s.begun;
+    let c = start_in(list, s.next, begun, &mut state[..size]);
+    Done {
+        next: c.next,
+        words: size,
+        good: c.good,
+    }
+}
+
+fn packet(list: &[u8], at: usize, kind: u64, words: usize, state: &mut [u32]) -> Done {
+    let size = fit(words as u64, state);
+    let c = packet_call(list, at, kind, &mut state[..size]);
+    Done {
+        next: c.next,
+        words: size,
+        good: c.good,
+    }
 }
 
 fn call(list: &[u8], at: usize, words: usize, state: &mut [u32]) -> Done {
     let kind = number(list, at);
-    if kind.value == LOAD {
-        return load(list, kind.next, state);
-    }
     if kind.value == START {
         return start(list, kind.next, state);
+    }
+    if kind.value == LOAD {
+        return load(list, kind.next, state);
     }
     if kind.value == POKE {
         return poke(list, kind.next, words, state);
     }
-    let size = fit(words as u64, state);
-    let c = with_scratch(list, kind.next, kind.value, &mut state[..size]);
-    ended(c, size)
+    packet(list, kind.next, kind.value, words, state)
 }
 
 // How many answers were as listed, of how many, and whether the lists were there and whole.
@@ -889,19 +904,15 @@ struct Score {
     whole: bool,
 }
 
+fn count(sum: u64, good: bool) -> u64 {
+    if good { plus(sum, 1) } else { sum }
+}
+
 fn plus(sum: u64, n: u32) -> u64 {
     if sum < 0xffff_ffff {
         sum + n as u64
     } else {
         sum
-    }
-}
-
-fn no_score(whole: bool) -> Score {
-    Score {
-        good: 0,
-        of: 0,
-        whole,
     }
 }
 
@@ -918,7 +929,7 @@ fn run_on(list: &[u8], state: &mut [u32]) -> Score {
         let d = call(list, next, words, state);
         next = d.next;
         words = d.words;
-        good = plus(good, d.good);
+        good = count(good, d.good);
     }
     Score {
         good,
@@ -937,7 +948,11 @@ fn run_file(fd: i32) -> Score {
     let mut room = io::large_buffer();
     let n = io::read_full(fd, &mut room);
     if n == 65536 {
-        return no_score(false);
+        return Score {
+            good: 0,
+            of: 0,
+            whole: false,
+        };
     }
     run(&room[..n])
 }
@@ -945,7 +960,11 @@ fn run_file(fd: i32) -> Score {
 fn score_of(file: &[u8]) -> Score {
     let fd = os::open_read(file);
     if fd < 0 {
-        return no_score(false);
+        return Score {
+            good: 0,
+            of: 0,
+            whole: false,
+        };
     }
     let s = run_file(fd);
     libc::close(fd);
@@ -984,7 +1003,11 @@ fn listed(i: usize, before: Score) -> Score {
 }
 
 fn run_all(arguments: usize) -> Score {
-    let mut all = no_score(true);
+    let mut all = Score {
+        good: 0,
+        of: 0,
+        whole: true,
+    };
     let mut i: usize = 1;
     while i < arguments {
         all = listed(i, all);
