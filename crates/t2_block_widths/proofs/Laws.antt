@@ -6,7 +6,7 @@ use Prim.Native.Nat.{ℕ, _+_, _≤_, _<_}
 use lib.ListN.{length, drop}
 use Rattle.t800.specs.Base.{any}
 use Rattle.t800.specs.Segments.{Segment, segmentsOf}
-use Rattle.tcd_shape.proofs.Laws.AnyOf.{any-here, any-later}
+use Rattle.tcd_laws.proofs.Laws.AnyOf.{any-here, any-later}
 use Rattle.t2_segments.specs.Segments.{segment, firstSegment}
 use Rattle.t2_segments.proofs.Laws.Segments.{Next, next-segment, no-segment-left}
 

@@ -23,7 +23,7 @@ use Rattle.t800_laws.proofs.Laws.Lists.{no-planes}
 use Rattle.t800_laws.proofs.Laws.FreshState.{fresh-length}
 use Rattle.t800_laws.proofs.Laws.Accepted.{start-accepted}
 use Rattle.round_trip.proofs.Trip.Calls as trip
-use Rattle.tcd_state.proofs.Laws.ValidStates.{valid-state}
+use Rattle.tcd_laws.proofs.Laws.ValidStates.{valid-state}
 use Rattle.t2_layer.specs.Layer.{FirstLayer, Lent, bookOf, writeCallOf, owedOf, readCallOf, writeOfLayer, layerResult, layerBy}
 use Rattle.t2_layer.specs.Layer.{LayerResult, writeAndRead, Premises, LayerReadBack}
 

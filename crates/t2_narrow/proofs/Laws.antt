@@ -1,2 +1,1 @@
 pub mod FewBytes
-pub mod Sums

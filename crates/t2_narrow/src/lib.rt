@@ -6,7 +6,7 @@ ghost use lib.ListN.{length, take};
 ghost use lib.Dec.{ltb, leb};
 ghost use Rattle.t800.specs.Base.{every, sum};
 ghost use Rattle.t800.specs.State.{stateLength, lengthBits};
-ghost use Rattle.tcd_levels.specs.Geometry.{AllUpTo64};
+ghost use Rattle.tcd_laws.specs.Geometry.{AllUpTo64};
 ghost use Rattle.t2_narrow.specs.Narrow.{bitsUpTo25};
 use t800::Band;
 

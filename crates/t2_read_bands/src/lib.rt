@@ -4,7 +4,7 @@ ghost use Prim.Native.Nat.{_<_, _≤_};
 ghost use lib.ListN.{length, take};
 ghost use Rattle.t800.specs.TagTree.{levels};
 ghost use Rattle.t800.specs.State.{layer, bands, blocks, endOf, notYetIncluded};
-ghost use Rattle.tcd_levels.specs.Geometry.{AllUpTo64, padded};
+ghost use Rattle.tcd_laws.specs.Geometry.{AllUpTo64, padded};
 ghost use Rattle.t2_read_segments.specs.Reading.{reading, BitsIn};
 ghost use Rattle.t2_read_block_parts.specs.Blocks.{nextBlocks};
 ghost use Rattle.tcd_places.specs.Places.{BandIn, bandBlocks, gridOf};

@@ -1,3 +1,2 @@
 pub mod ScratchLength
 pub mod RefusalParts
-pub mod NotRefused

@@ -7,7 +7,7 @@ ghost use Rattle.t800.specs.State.{writer};
 ghost use Rattle.t800.specs.Ranges.{validState};
 ghost use Rattle.t800.specs.Packet.{wrongLists};
 ghost use Rattle.t800.specs.WriteHeader.{contribution};
-ghost use Rattle.t2_refusals.specs.Refusals.{contributionRefusal, measureRefusalFor};
+ghost use Rattle.t2_refusal_laws.specs.Refusals.{contributionRefusal, measureRefusalFor};
 use t800::Refusal;
 
 // ---- the lists (3)

@@ -9,7 +9,7 @@ ghost use lib.Seq.{sets};
 ghost use Rattle.t800.specs.State.{notYetIncluded, notYetPlanes, blocks, stateLength};
 ghost use Rattle.t800.specs.Ranges.{bandTooDeep, blockTooDeep};
 ghost use Rattle.t800.specs.Start.{freshNodes, freshBlocks, freshBands, bandWords, freshState, startRefusal};
-ghost use Rattle.tcd_levels.specs.Geometry.{noBand, AllUpTo64};
+ghost use Rattle.tcd_laws.specs.Geometry.{noBand, AllUpTo64};
 ghost use Rattle.t2_start_parts.specs.Parts.{planesWanted};
 use t800::Band;
 use t800::Refusal;

@@ -9,7 +9,7 @@ ghost use Rattle.t800.specs.TagTree.{levels};
 ghost use Rattle.t800.specs.State.{blocksIn, bandNodes, bandLength, blocksFrom, blocks, stateLength};
 ghost use Rattle.t800.specs.Ranges.{blockTooDeep};
 ghost use Rattle.t800.specs.Start.{setZeroPlanes};
-ghost use Rattle.tcd_levels.specs.Geometry.{padded, SidesUpTo64, AllUpTo64};
+ghost use Rattle.tcd_laws.specs.Geometry.{padded, SidesUpTo64, AllUpTo64};
 ghost use Rattle.t2_start_planes.specs.Rows.{setRow, ColumnsIn};
 use t800::Band;
 use t800::Level;

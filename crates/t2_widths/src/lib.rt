@@ -7,7 +7,7 @@ ghost use lib.Dec.{ltb};
 ghost use Rattle.t800.specs.Base.{any};
 ghost use Rattle.t800.specs.State.{blocks, blocksFrom, blocksIn, bandLength, stateLength};
 ghost use Rattle.t800.specs.WriteHeader.{segmentTooLong, fieldTooWide};
-ghost use Rattle.tcd_levels.specs.Geometry.{SidesUpTo64, AllUpTo64};
+ghost use Rattle.tcd_laws.specs.Geometry.{SidesUpTo64, AllUpTo64};
 ghost use Rattle.t2_widths.specs.Widths.{PassesLeft, wideFrom, segmentsRefusal};
 use t800::Band;
 use t800::Refusal;

@@ -9,7 +9,7 @@ ghost use Rattle.t800.specs.State.{blocksIn, blocks, stateLength, notYetInclude
 ghost use Rattle.t800.specs.WriteHeader.{setNewBlocks, codeBlocks};
 ghost use Rattle.bio_bytes.specs.Writing.{output, FreeBitsClear};
 ghost use Rattle.tgt_write.specs.Coding.{leafCoded, putCoded};
-ghost use Rattle.tcd_levels.specs.Geometry.{AllUpTo64, padded};
+ghost use Rattle.tcd_laws.specs.Geometry.{AllUpTo64, padded};
 ghost use Rattle.t2_write_codes.specs.PassTable.{isPassTable};
 ghost use Rattle.t2_write_block.specs.Runs.{running, codeAll, AllFit};
 ghost use Rattle.t2_write_bands.specs.Bands.{codeBand};

@@ -3,7 +3,7 @@ ghost use mathlib.Core.Path.{_≡_};
 ghost use Prim.Native.Nat.{_≤_};
 ghost use lib.ListN.{length};
 ghost use Rattle.t800.specs.WriteHeader.{contribution};
-ghost use Rattle.t2_refusals.specs.Refusals.{measureRefusalFor};
+ghost use Rattle.t2_refusal_laws.specs.Refusals.{measureRefusalFor};
 ghost use Rattle.t2_write_header.specs.Header.{headerCoded, putHeader};
 
 // The place after it. Bytes for which the output has no room are counted and not stored.

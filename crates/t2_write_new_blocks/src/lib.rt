@@ -4,7 +4,7 @@ ghost use Prim.Native.Nat.{_+_, _≤_};
 ghost use lib.ListN.{length};
 ghost use Rattle.t800.specs.TagTree.{levels};
 ghost use Rattle.t800.specs.State.{blocksIn};
-ghost use Rattle.tcd_levels.specs.Geometry.{padded};
+ghost use Rattle.tcd_laws.specs.Geometry.{padded};
 ghost use Rattle.t2_write_new_rows.specs.Setting.{setAll};
 ghost use Rattle.tcd_places.specs.Places.{BandIn, bandBlocks, gridOf};
 use t800::Band;

@@ -7,7 +7,7 @@ ghost use lib.Dec.{leb};
 ghost use lib.ListN.{length};
 ghost use Rattle.t800.specs.MarkerSegments.{sopBytes, ephBytes};
 ghost use Rattle.t800.specs.WriteHeader.{contribution};
-ghost use Rattle.t2_refusals.specs.Refusals.{measureRefusalFor};
+ghost use Rattle.t2_refusal_laws.specs.Refusals.{measureRefusalFor};
 ghost use Rattle.t2_write_header.specs.Header.{headerCoded};
 ghost use Rattle.t2_write_packet.specs.Front.{bytesPut, putBytes, putFront};
 use t800::Markers;

@@ -16,3 +16,4 @@ pub mod HeaderSteps
 pub mod WordCounts
 pub mod StateAfter
 pub mod ManyZeroPlanes
+pub mod Sums

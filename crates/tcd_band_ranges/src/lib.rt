@@ -7,10 +7,17 @@ ghost use lib.Dec.{leb, eqb};
 ghost use Rattle.t800.specs.Base.{every};
 ghost use Rattle.t800.specs.State.{writer, bandNodes, bandLength};
 ghost use Rattle.t800.specs.Ranges.{nodeInRange, blockInRange, bandInRange};
-ghost use Rattle.tcd_shape.specs.Parts.{fault, LimitsOf, isOneOf, lengthBitsInRange, segmentInRange, blockWordsInRange};
+ghost use Rattle.tcd_laws.specs.Parts.{fault};
+ghost use Rattle.tcd_band_ranges.specs.BlockParts.{LimitsOf, isOneOf, lengthBitsInRange, segmentInRange, blockWordsInRange};
 use t800::Band;
-use tcd_shape::Limits;
 use tcd_style::Style;
+
+// The limits that a style gives: of a first segment, and of one after a limit 2 and any other.
+pub struct Limits {
+    pub first: u32,
+    pub second: u32,
+    pub third: u32,
+}
 
 fn node_fault(value: u32, low: u32, known: u32, most: u32) -> u32
     ensures { λ r. ⌜ r ≡ fault (leb value most && leb low most && leb known 1) ⌝ }

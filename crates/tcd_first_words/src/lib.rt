@@ -6,7 +6,7 @@ ghost use lib.ListN.{length, getD};
 ghost use lib.Dec.{ltb, eqb};
 ghost use Rattle.t800.specs.Base.{every};
 ghost use Rattle.t800.specs.State.{bandAt};
-ghost use Rattle.tcd_shape.specs.Parts.{fault, shapeInRange, firstWordsInRange, threeBands};
+ghost use Rattle.tcd_laws.specs.Parts.{fault, shapeInRange, firstWordsInRange, threeBands};
 use t800::Band;
 use tcd_style::Style;
 

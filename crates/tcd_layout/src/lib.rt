@@ -3,7 +3,7 @@ ghost use mathlib.Core.Path.{_≡_};
 ghost use Prim.Native.Nat.{_≤_};
 ghost use lib.ListN.{length, take};
 ghost use Rattle.t800.specs.State.{blocksIn, bandNodes, bandLength, endOf, stateLength, blocks};
-ghost use Rattle.tcd_levels.specs.Geometry.{SidesUpTo64, AllUpTo64};
+ghost use Rattle.tcd_laws.specs.Geometry.{SidesUpTo64, AllUpTo64};
 use t800::Band;
 
 pub fn band_blocks(band: Band) -> usize

@@ -3,7 +3,7 @@ ghost use mathlib.Core.Path.{_≡_};
 ghost use Prim.Native.Nat.{_+_, _*_, _/_, _≤_};
 ghost use lib.ListN.{length};
 ghost use Rattle.t800.specs.TagTree.{levels, nodes};
-ghost use Rattle.tcd_levels.specs.Geometry.{padded, bandLevels};
+ghost use Rattle.tcd_laws.specs.Geometry.{padded, bandLevels};
 use t800::Band;
 use t800::Level;
 

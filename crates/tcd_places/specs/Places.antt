@@ -6,7 +6,7 @@ use Rattle.t800.specs.declared.Band.{Band}
 use Rattle.t800.specs.TagTree.{levels}
 use Rattle.t800.specs.State.{Block, blocksIn, bandNodes, bandLength, blocksFrom}
 use Rattle.tgt.specs.Path.{pathOver, PathIn}
-use Rattle.tcd_levels.specs.Geometry.{SidesUpTo64}
+use Rattle.tcd_laws.specs.Geometry.{SidesUpTo64}
 use Rattle.tcd_places.specs.declared.Grid.{Grid}
 use Rattle.tcd_places.specs.declared.Place.{Place}
 

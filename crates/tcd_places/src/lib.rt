@@ -2,7 +2,7 @@
 ghost use mathlib.Core.Path.{_≡_};
 ghost use Prim.Native.Nat.{_+_, _*_, _^_, _<_, _≤_};
 ghost use Rattle.t800.specs.State.{bandLength};
-ghost use Rattle.tcd_levels.specs.Geometry.{SidesUpTo64};
+ghost use Rattle.tcd_laws.specs.Geometry.{SidesUpTo64};
 ghost use Rattle.tcd_places.specs.Places.{placeAt, gridOf, rowPlace};
 use t800::Band;
 

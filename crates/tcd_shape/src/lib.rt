@@ -7,7 +7,7 @@ ghost use lib.Dec.{ltb, leb};
 ghost use Rattle.t800.specs.Base.{any};
 ghost use Rattle.t800.specs.State.{blocks};
 ghost use Rattle.t800.specs.Ranges.{badShape, bandTooDeep, blockTooDeep};
-ghost use Rattle.tcd_shape.specs.Parts.{fault};
+ghost use Rattle.tcd_laws.specs.Parts.{fault};
 use t800::Band;
 
 fn side_over_64(band: Band) -> bool
@@ -107,11 +107,4 @@ pub fn block_too_deep(bands: [Band; 3], n: usize, planes: &[u32]) -> bool
         i += 1;
     }
     false
-}
-
-// The limits that a style gives: of a first segment, and of one after a limit 2 and any other.
-pub struct Limits {
-    pub first: u32,
-    pub second: u32,
-    pub third: u32,
 }

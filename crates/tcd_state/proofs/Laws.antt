@@ -1,2 +1,1 @@
 pub mod RangeParts
-pub mod ValidStates

@@ -6,7 +6,7 @@ ghost use lib.ListN.{length, take};
 ghost use lib.Dec.{eqb};
 ghost use Rattle.t800.specs.State.{stateLength};
 ghost use Rattle.t800.specs.Ranges.{bandsInRange, validState};
-ghost use Rattle.tcd_levels.specs.Geometry.{AllUpTo64};
+ghost use Rattle.tcd_laws.specs.Geometry.{AllUpTo64};
 use t800::Band;
 
 // The words of the bands end where the state does, and are in range.

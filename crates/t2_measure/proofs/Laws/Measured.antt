@@ -11,7 +11,7 @@ use Rattle.t800.specs.Base.{sum}
 use Rattle.t800.specs.WriteHeader.{Contribution, codeHeader}
 use Rattle.t800.specs.Packet.{measureRefusal, front, MeasureResult, measure}
 use Rattle.t800_laws.proofs.Laws.Tests.{if-eq, if-ne}
-use Rattle.t2_refusals.specs.Refusals.{measureRefusalFor}
+use Rattle.t2_refusal_laws.specs.Refusals.{measureRefusalFor}
 use Rattle.t2_refusals.proofs.Laws.ScratchLength.{refusal-by-scratch-length}
 use Rattle.t2_write_header.specs.Header.{HeaderCoded}
 use Rattle.t2_write_packet.specs.Front.{putFront}

@@ -15,11 +15,11 @@ use Rattle.t800.specs.State.{Block, blocksIn, bandNodes, bandLength, blocks, le
 use Rattle.t800.specs.WriteHeader.{isNew, lengthBitsBefore, segmentTooLong, fieldTooWide}
 use Rattle.t800_laws.proofs.Laws.Layout.{Layout, AllPlaced, BlockFrom, layoutOf, blocks-placed}
 use Rattle.t800_laws.proofs.Laws.Tests.{either, or-left, or-right, and-left, and-right}
-use Rattle.tcd_state.proofs.Laws.ValidStates.{every-true}
+use Rattle.tcd_laws.proofs.Laws.ValidStates.{every-true}
 use Rattle.t2_segments.specs.Segments.{anyTooLong, anyTooWide, blockTooWide}
 use Rattle.t2_segments.proofs.Laws.Segments.{log-up-to}
 use Rattle.t2_narrow.specs.Narrow.{bitsUpTo25}
-use Rattle.t2_narrow.proofs.Laws.Sums.{sum-splits}
+use Rattle.t800_laws.proofs.Laws.Sums.{sum-splits}
 
 -- ---- one block
 

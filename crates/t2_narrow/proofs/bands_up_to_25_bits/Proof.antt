@@ -10,8 +10,8 @@ use native.Mathlib.Omega.{arith}
 use Rattle.t800_laws.proofs.Laws.Layout.{band-length, end-after}
 use Rattle.t800.specs.State.{bandLength, bandNodes, blocksIn, endOf, stateLength}
 use Rattle.t800.specs.declared.Band.{Band}
-use Rattle.tcd_levels.proofs.Laws.Bands.{end-turn, next-band, no-more-bands, sides-of-first}
-use Rattle.tcd_levels.specs.Geometry.{noBand}
+use Rattle.tcd_laws.proofs.Laws.Bands.{end-turn, next-band, no-more-bands, sides-of-first}
+use Rattle.tcd_laws.specs.Geometry.{noBand}
 use Rattle.t2_narrow.specs.Narrow.{bitsUpTo25}
 use Rattle.t2_narrow.proofs.Laws.FewBytes.{bits-turn}
 use Rattle.t2_narrow.proofs.bands_up_to_25_bits.Statement.{statement}

@@ -5,8 +5,8 @@ use mathlib.Core.Path.{_≡_, refl}
 use native.Mathlib.Omega.{arith}
 use Rattle.t800.specs.Base.{every}
 use Rattle.t800.specs.State.{lengthBits}
-use Rattle.tcd_shape.specs.Parts.{fault}
-use Rattle.tcd_first_words.proofs.Laws.Faults.{faults-end, faults-turn}
+use Rattle.tcd_laws.specs.Parts.{fault}
+use Rattle.tcd_laws.proofs.Laws.Faults.{faults-end, faults-turn}
 use Rattle.t2_narrow.proofs.blocks_up_to_25_bits.Statement.{statement}
 use Rattle.t2_narrow.proofs.blocks_up_to_25_bits.Tie as tie
 

@@ -4,7 +4,7 @@ use lib.ListN.{length, drop}
 use mathlib.Core.Path.{_≡_}
 use native.Mathlib.Omega.{arith}
 use Rattle.t800.specs.Base.{sum}
-use Rattle.t2_narrow.proofs.Laws.Sums.{sum-turn, sum-end}
+use Rattle.t800_laws.proofs.Laws.Sums.{sum-turn, sum-end}
 use Rattle.t2_narrow.proofs.total.Statement.{statement}
 use Rattle.t2_narrow.proofs.total.Tie as tie
 

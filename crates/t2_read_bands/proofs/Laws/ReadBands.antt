@@ -12,7 +12,7 @@ use Rattle.t800.specs.Ranges.{bandInRange, bandsInRange}
 use Rattle.t800_laws.proofs.Laws.Layout.{band-length}
 use Rattle.t800_laws.proofs.Laws.Lists.{length-from}
 use Rattle.t800_laws.proofs.Laws.Tests.{and-right}
-use Rattle.tcd_state.proofs.Laws.ValidStates.{block-known, block-bounds}
+use Rattle.tcd_laws.proofs.Laws.ValidStates.{block-known, block-bounds}
 use Rattle.t2_read_segments.specs.Reading.{Reading}
 use Rattle.t2_read_block_parts.specs.Blocks.{nextBlocks}
 use Rattle.t2_read_block_parts.proofs.Laws.Kept.{Keeps, blocks-keep}

@@ -8,9 +8,9 @@ use lib.ListN.{length, drop}
 use Rattle.t800.specs.declared.Band.{Band}
 use Rattle.t800.specs.TagTree.{levels}
 use Rattle.t800.specs.State.{Block, bandNodes, blocksFrom}
-use Rattle.tcd_levels.specs.Geometry.{padded}
+use Rattle.tcd_laws.specs.Geometry.{padded}
 use Rattle.t800_laws.proofs.Laws.Lists.{length-from}
-use Rattle.tcd_levels.proofs.Laws.Bands.{blocks-up-to-4096}
+use Rattle.tcd_laws.proofs.Laws.Bands.{blocks-up-to-4096}
 use Rattle.tgt.specs.Path.{rowOver}
 use Rattle.tcd_places.specs.declared.Place.{Place}
 use Rattle.t2_read_segments.specs.Reading.{Reading, BlockFits, BlocksFit}

@@ -7,8 +7,8 @@ use lib.ListN.{length}
 use Rattle.t800.specs.declared.Level.{Level}
 use Rattle.t800.specs.State.{Block, bandNodes, blocksFrom}
 use Rattle.t800.specs.TagTree.{levels}
-use Rattle.tcd_levels.specs.Geometry.{padded}
-use Rattle.tcd_levels.proofs.Laws.Bands.{blocks-up-to-4096}
+use Rattle.tcd_laws.specs.Geometry.{padded}
+use Rattle.tcd_laws.proofs.Laws.Bands.{blocks-up-to-4096}
 use Rattle.tgt.specs.Path.{rowOver, SmallLevels}
 use Rattle.tcd_places.specs.declared.Grid.{Grid}
 use Rattle.t2_read_segments.specs.Reading.{reading, BlocksFit}

@@ -10,8 +10,8 @@ use Rattle.t800.specs.declared.Band.{Band}
 use Rattle.t800.specs.declared.Level.{Level}
 use Rattle.t800.specs.State.{blocks, blocksAt, bandLength, endOf}
 use Rattle.t800_laws.proofs.Laws.Layout.{end-after}
-use Rattle.tcd_levels.specs.Geometry.{noBand, SidesUpTo64}
-use Rattle.tcd_levels.proofs.Laws.Bands.{next-band, no-more-bands, sides-of-first, blocks-up-to-4096, band-levels-at, end-turn}
+use Rattle.tcd_laws.specs.Geometry.{noBand, SidesUpTo64}
+use Rattle.tcd_laws.proofs.Laws.Bands.{next-band, no-more-bands, sides-of-first, blocks-up-to-4096, band-levels-at, end-turn}
 use Rattle.t2_read_segments.specs.Reading.{reading}
 use Rattle.t2_read_block_parts.specs.Blocks.{nextBlocks}
 use Rattle.t2_read_block_parts.proofs.Laws.Kept.{Keeps}

@@ -16,7 +16,7 @@ use Rattle.t800.specs.Reports.{reportWords, recordWords, reportWidth, recordWid
 use Rattle.t800.specs.State.{reader, layer, bands, blocks}
 use Rattle.t800.specs.ReadHeader.{HeaderRead, refused, readBlocks, readHeader}
 use Rattle.round_trip.proofs.Trip.Segments.{readSoFar}
-use Rattle.tcd_state.proofs.Laws.ValidStates.{ValidState, bands-inside}
+use Rattle.tcd_laws.proofs.Laws.ValidStates.{ValidState, bands-inside}
 use Rattle.t2_read_segments.specs.declared.Run.{Run}
 use Rattle.t2_read_segments.specs.Reading.{Reading, reading, stopped, heldBy, BitsIn, Follows}
 use Rattle.t2_read_block_parts.specs.Blocks.{nextBlocks}

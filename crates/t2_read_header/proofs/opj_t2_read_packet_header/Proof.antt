@@ -9,11 +9,11 @@ use Rattle.t800.specs.declared.Bio.{Bio}
 use Rattle.t800.specs.declared.Band.{Band}
 use Rattle.t800.specs.Bits.{endsInFF}
 use Rattle.t800.specs.State.{reader, layer, blocks, endOf}
-use Rattle.tcd_levels.specs.Geometry.{AllUpTo64}
+use Rattle.tcd_laws.specs.Geometry.{AllUpTo64}
 use Rattle.bio_read_end.specs.declared.Aligned.{Aligned}
 use Rattle.bio_read_end.specs.HeaderEnd.{alignedAt}
-use Rattle.tcd_first_words.proofs.Laws.FirstWords.{first-bands}
-use Rattle.tcd_state.proofs.Laws.ValidStates.{valid-state, bands-inside, thirteen-words}
+use Rattle.tcd_laws.proofs.Laws.FirstWords.{first-bands}
+use Rattle.tcd_laws.proofs.Laws.ValidStates.{valid-state, bands-inside, thirteen-words}
 use Rattle.t2_read_segments.specs.declared.Run.{Run}
 use Rattle.t2_read_segments.specs.Reading.{reading}
 use Rattle.t2_read_block_parts.specs.Blocks.{nextBlocks}

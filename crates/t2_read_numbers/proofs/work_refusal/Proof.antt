@@ -4,7 +4,7 @@ use native.Mathlib.Omega.{arith}
 use lib.ListN.{length}
 use borrow.Author.Tests.{not-true, not-false}
 use Rattle.t800.specs.State.{reader}
-use Rattle.tcd_state.proofs.Laws.ValidStates.{valid-state, thirteen-words}
+use Rattle.tcd_laws.proofs.Laws.ValidStates.{valid-state, thirteen-words}
 use Rattle.t2_read_numbers.proofs.Numbers.{wrong-5, wrong-6, wrong-3}
 use borrow.Author.Needs.{needs}
 use Rattle.t2_read_numbers.proofs.work_refusal.Statement.{statement}

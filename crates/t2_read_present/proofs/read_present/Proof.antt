@@ -7,7 +7,7 @@ use native.Mathlib.Omega.{arith}
 use lib.ListN.{length}
 use Rattle.t800.specs.State.{reader, layer, bands, blocks, notYetIncluded}
 use Rattle.t800.specs.Ranges.{validState}
-use Rattle.tcd_state.proofs.Laws.ValidStates.{valid-state, thirteen-words}
+use Rattle.tcd_laws.proofs.Laws.ValidStates.{valid-state, thirteen-words}
 use Rattle.t2_read_segments.specs.Reading.{reading}
 use Rattle.t2_read_marks.specs.Marks.{markerRead}
 use Rattle.t2_read_present.proofs.Laws.Results.{broken-is, present-is}

@@ -12,7 +12,7 @@ use Rattle.t800.specs.State.{notYetIncluded, reader, layer, bands, blocks}
 use Rattle.t800.specs.Ranges.{validState}
 use Rattle.t800.specs.Packet.{readRefusal}
 use Rattle.t800_laws.proofs.Laws.Tests.{not-refused}
-use Rattle.tcd_state.proofs.Laws.ValidStates.{valid-state}
+use Rattle.tcd_laws.proofs.Laws.ValidStates.{valid-state}
 use Rattle.t800.specs.Reports.{reportWidth}
 
 module _ (ws scratch reports : List ℕ) where

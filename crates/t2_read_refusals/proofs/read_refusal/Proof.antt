@@ -7,10 +7,10 @@ use lib.ListN.{length}
 use borrow.Author.Tests.{not-true, not-false}
 use Rattle.t800.specs.declared.Band.{Band}
 use Rattle.t800.specs.State.{reader, blocks}
-use Rattle.tcd_levels.specs.Geometry.{AllUpTo64}
-use Rattle.tcd_first_words.proofs.Laws.FirstWords.{first-bands}
-use Rattle.tcd_state.proofs.Laws.ValidStates.{valid-state, thirteen-words}
-use Rattle.tcd_levels.proofs.Laws.Bands.{blocks-up-to-12288}
+use Rattle.tcd_laws.specs.Geometry.{AllUpTo64}
+use Rattle.tcd_laws.proofs.Laws.FirstWords.{first-bands}
+use Rattle.tcd_laws.proofs.Laws.ValidStates.{valid-state, thirteen-words}
+use Rattle.tcd_laws.proofs.Laws.Bands.{blocks-up-to-12288}
 use Rattle.t2_read_refusals.proofs.Laws.Refusals.{refusal-5, refusal-6, refusal-3, no-refusal}
 use borrow.Author.Needs.{needs}
 use Rattle.t2_read_refusals.proofs.read_refusal.Statement.{statement}

@@ -3,7 +3,7 @@ use mathlib.Core.Path.{sym}
 use native.Mathlib.Omega.{arith}
 use lib.ListN.{length, length-set}
 use Rattle.t800.specs.State.{reader}
-use Rattle.tcd_state.proofs.Laws.ValidStates.{valid-state, thirteen-words}
+use Rattle.tcd_laws.proofs.Laws.ValidStates.{valid-state, thirteen-words}
 use Rattle.t2_read_marks.specs.Marks.{markerRead}
 use Rattle.t2_read_settle.proofs.Laws.Absent.{absent-is}
 use borrow.Author.Needs.{needs}

@@ -5,7 +5,7 @@ use Prim.Native.Nat.{ℕ}
 use lib.ListN.{length}
 use Rattle.t800.specs.WriteHeader.{Contribution}
 use Rattle.t800.specs.Packet.{measureRefusal}
-use Rattle.t2_refusals.specs.Refusals.{measureRefusalFor}
+use Rattle.t2_refusal_laws.specs.Refusals.{measureRefusalFor}
 
 pub refusal-by-scratch-length : (ws scratch : List ℕ) (p : Contribution) → measureRefusal ws scratch p
     ≡ measureRefusalFor ws (length scratch) p

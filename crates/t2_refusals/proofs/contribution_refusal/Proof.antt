@@ -9,12 +9,13 @@ use native.Mathlib.Omega.{arith}
 use Rattle.t800.specs.State.{blocks}
 use Rattle.t800.specs.Packet.{wrongLists}
 use Rattle.t800.specs.declared.Band.{Band}
-use Rattle.tcd_levels.proofs.Laws.Bands.{blocks-up-to-12288}
+use Rattle.tcd_laws.proofs.Laws.Bands.{blocks-up-to-12288}
 use Rattle.t2_widths.specs.Widths.{segmentsRefusal}
 use Rattle.t800.specs.WriteHeader.{contribution}
 use Rattle.t800_laws.proofs.Laws.Lists.{lists-right}
-use Rattle.t2_refusals.proofs.Laws.RefusalParts.{passes-left, first-words, bands-are, sides-are, length-is, contribution-parts}
-use Rattle.t2_refusals.proofs.Laws.NotRefused.{passes-up-to}
+use Rattle.t2_refusals.proofs.Laws.RefusalParts.{passes-left, contribution-parts}
+use Rattle.t2_refusal_laws.proofs.Laws.WriterState.{first-words, bands-are, sides-are, length-is}
+use Rattle.t2_refusal_laws.proofs.Laws.NotRefused.{passes-up-to}
 use Rattle.t2_refusals.proofs.contribution_refusal.Statement.{statement}
 use Rattle.t2_refusals.proofs.contribution_refusal.Tie as tie
 

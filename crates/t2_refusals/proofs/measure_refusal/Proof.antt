@@ -6,7 +6,8 @@ use mathlib.Core.Path.{_∙_, refl, sym}
 use native.Mathlib.Omega.{arith}
 use Rattle.t800.specs.State.{writer}
 use Rattle.t800.specs.WriteHeader.{contribution}
-use Rattle.t2_refusals.proofs.Laws.RefusalParts.{first-words, scratch-as-long, measure-parts}
+use Rattle.t2_refusals.proofs.Laws.RefusalParts.{measure-parts}
+use Rattle.t2_refusal_laws.proofs.Laws.WriterState.{first-words, scratch-as-long}
 use Rattle.t2_refusals.proofs.measure_refusal.Statement.{statement}
 use Rattle.t2_refusals.proofs.measure_refusal.Tie as tie
 

@@ -3,7 +3,6 @@ use mathlib.Core.Path.{_≡_, refl, sym, ap, ap₂, _∙_, subst}
 use mathlib.Core.Bool.{Bool, true, false, cond, not, _||_, or-false}
 use mathlib.Core.List.{List, [], _∷_}
 use Prim.Native.Nat.{ℕ, zero, suc, _+_, _-_, _/_, _^_, _≤_, _<_, max}
-use native.Mathlib.Numerals.{add-one}
 use native.Mathlib.Omega.{arith}
 use lib.ListN.{length, getD, drop, length-drop, drop-of-length-le}
 use lib.Seq.{drop-cons, drop-drop}
@@ -11,7 +10,7 @@ use lib.Dec.{eqb, ltb, leb}
 use borrow.Author.Tests.{lt-ltb, ltb-false, leb-false}
 use Rattle.t800.specs.Base.{any, halvings, floorLog2}
 use Rattle.t800.specs.Segments.{Segment, segmentsFrom, segmentsOf, width, bitLength, increment}
-use Rattle.t800_laws.proofs.Laws.Lists.{last-pass}
+use Rattle.t800_laws.proofs.Laws.Lists.{last-pass, next-entry}
 use Rattle.t800_laws.proofs.Laws.Tests.{if-true, if-false, either, or-left, or-right}
 use Rattle.t2_segments.specs.Segments.{segment, firstFrom, firstSegment, anyTooLong, anyTooWide}
 
@@ -129,9 +128,6 @@ unfolding segmentsOf segmentsFrom
 no-segment-left ls ms at h = rw (drop-of-length-le ls {i = at} h)
 
 -- ---- loops over them
-
-pub next-entry : (l : List ℕ) (i : ℕ) → i < length l → drop i l ≡ getD l i 0 ∷ drop (i + 1) l
-next-entry l i h = drop-cons l i 0 h ∙ rw (add-one i)
 
 -- pass i into the segment
 module _ (ls ms : List ℕ) (i p b : ℕ) where

@@ -16,8 +16,8 @@ use Rattle.t800_laws.proofs.Laws.Tests.{if-true, if-false, on-eq}
 use Rattle.t800_laws.proofs.Laws.Lists.{no-planes}
 use Rattle.t800_laws.proofs.Laws.FreshState.{fresh-length}
 use Rattle.t800_laws.proofs.Laws.Accepted.{StartAccepted, start-accepted}
-use Rattle.tcd_levels.specs.Geometry.{AllUpTo64}
-use Rattle.tcd_levels.proofs.Laws.Bands.{shape-not-refused}
+use Rattle.tcd_laws.specs.Geometry.{AllUpTo64}
+use Rattle.tcd_laws.proofs.Laws.Bands.{shape-not-refused}
 use Rattle.t2_start_parts.specs.Parts.{answered, begun, planesWanted}
 
 abbrev pub wrongList : ℕ → List Band → List ℕ → List ℕ → Bool

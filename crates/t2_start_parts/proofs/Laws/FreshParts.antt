@@ -10,7 +10,7 @@ use Rattle.t800.specs.Base.{wiped}
 use Rattle.t800.specs.State.{notYetIncluded, notYetPlanes, blocksIn, bandNodes, stateLength}
 use Rattle.t800.specs.Start.{freshNodes, freshBlocks, freshBands, bandWords, freshState}
 use Rattle.t800_laws.proofs.Laws.FreshState.{length-nodes, length-blocks, fresh-length}
-use Rattle.tcd_levels.specs.Geometry.{noBand}
+use Rattle.tcd_laws.specs.Geometry.{noBand}
 use Rattle.t2_start_planes.proofs.Laws.Runs.{sets-after, sets-whole, part-length, part-set}
 
 -- ---- the words of bands in front

@@ -10,8 +10,8 @@ use Rattle.t800.specs.declared.Band.{Band}
 use Rattle.t800.specs.State.{bandLength, endOf, stateLength}
 use Rattle.t800.specs.Start.{freshBands}
 use Rattle.t800_laws.proofs.Laws.Layout.{band-length}
-use Rattle.tcd_levels.specs.Geometry.{noBand}
-use Rattle.tcd_levels.proofs.Laws.Bands.{next-band, sides-of-first, end-turn}
+use Rattle.tcd_laws.specs.Geometry.{noBand}
+use Rattle.tcd_laws.proofs.Laws.Bands.{next-band, sides-of-first, end-turn}
 use Rattle.t2_start_parts.proofs.Laws.FreshParts.{own-turn}
 use Rattle.t2_start_planes.proofs.Laws.BlockRows.{band-inside}
 use Rattle.t2_start_parts.proofs.fresh_bands.Statement.{statement}

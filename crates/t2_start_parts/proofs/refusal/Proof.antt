@@ -1,7 +1,7 @@
 -- `t2_start_parts::refusal` meets its contract.
 use mathlib.Core.Path.{_≡_, _∙_, sym}
 use lib.ListN.{length}
-use Rattle.tcd_levels.proofs.Laws.Bands.{shape-not-refused}
+use Rattle.tcd_laws.proofs.Laws.Bands.{shape-not-refused}
 use Rattle.t2_start_parts.proofs.Laws.Checks.{gives-1, gives-2, gives-3, gives-4, gives-none}
 use borrow.Author.Needs.{needs}
 use Rattle.t2_start_parts.proofs.refusal.Statement.{statement}

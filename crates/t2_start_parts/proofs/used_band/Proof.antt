@@ -3,7 +3,7 @@ use native.Mathlib.Omega.{arith}
 use mathlib.Core.Path.{sym}
 use lib.ListN.{take, length-take, List·getD-eq-default}
 use lib.Seq.{getD-take}
-use Rattle.tcd_levels.specs.Geometry.{noBand}
+use Rattle.tcd_laws.specs.Geometry.{noBand}
 use borrow.Author.Needs.{needs}
 use Rattle.t2_start_parts.proofs.used_band.Statement.{statement}
 use Rattle.t2_start_parts.proofs.used_band.Tie as tie

@@ -11,9 +11,9 @@ use Rattle.t800.specs.declared.Level.{Level}
 use Rattle.t800.specs.TagTree.{levels, nodes, pathToRoot}
 use Rattle.t800.specs.State.{blocksIn, bandNodes, bandLength, blocksFrom, endOf}
 use Rattle.t800_laws.proofs.Laws.Layout.{band-length, end-after}
-use Rattle.tcd_levels.specs.Geometry.{noBand, padded}
-use Rattle.tcd_levels.proofs.Laws.Bands.{end-turn, blocks-split}
-use Rattle.tcd_levels.proofs.Laws.TreeLevels.{padded-front}
+use Rattle.tcd_laws.specs.Geometry.{noBand, padded}
+use Rattle.tcd_laws.proofs.Laws.Bands.{end-turn, blocks-split}
+use Rattle.tcd_laws.proofs.Laws.TreeLevels.{padded-front}
 use Rattle.tgt.specs.Path.{rowOver, pathOver, PathIn}
 use Rattle.tgt.proofs.Laws.Path.{TreeLevels, climb, path-climbs, path-in}
 use Rattle.t2_start_planes.specs.Rows.{ColumnsIn}

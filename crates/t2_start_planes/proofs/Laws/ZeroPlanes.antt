@@ -16,7 +16,7 @@ use Rattle.t800.specs.State.{Block, blockOf, blocksIn, bandNodes, bandLength, b
 use Rattle.t800.specs.Start.{setZeroPlanes}
 use Rattle.t800_laws.proofs.Laws.Tests.{or-left, or-right}
 use Rattle.t800_laws.proofs.Laws.Lists.{length-from, no-planes}
-use Rattle.tcd_shape.proofs.Laws.BlockPlanes.{deepFrom}
+use Rattle.tcd_laws.proofs.Laws.BlockPlanes.{deepFrom}
 use Rattle.tgt.specs.Path.{rowOver, pathOver}
 use Rattle.tgt.proofs.Laws.Path.{TreeLevels}
 use Rattle.t2_start_planes.specs.Rows.{setRow}

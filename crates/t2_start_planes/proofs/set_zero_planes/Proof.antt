@@ -10,9 +10,9 @@ use Rattle.t800.specs.declared.Band.{Band}
 use Rattle.t800.specs.Base.{sum}
 use Rattle.t800.specs.State.{blocksIn, blocksAt, blocks, endOf, stateLength}
 use Rattle.t800.specs.Start.{setZeroPlanes}
-use Rattle.tcd_levels.specs.Geometry.{noBand}
-use Rattle.tcd_levels.proofs.Laws.Bands.{next-band, sides-of-first, end-turn, length-blocks, blocks-turn}
-use Rattle.tcd_shape.proofs.Laws.BlockPlanes.{deepFrom, deep-is}
+use Rattle.tcd_laws.specs.Geometry.{noBand}
+use Rattle.tcd_laws.proofs.Laws.Bands.{next-band, sides-of-first, end-turn, length-blocks, blocks-turn}
+use Rattle.tcd_laws.proofs.Laws.BlockPlanes.{deepFrom, deep-is}
 use Rattle.t2_start_planes.proofs.Laws.Runs.{part-length}
 use Rattle.t2_start_planes.proofs.Laws.BlockRows.{band-inside}
 use Rattle.t2_start_planes.proofs.Laws.ZeroPlanes.{shallow-turn, band-turn}

@@ -13,11 +13,11 @@ use Rattle.t800.specs.State.{Block, blocksIn, bandNodes, bandLength, blocksFrom
 use Rattle.t800.specs.WriteHeader.{isNew, lengthBitsBefore, segmentTooLong, fieldTooWide}
 use Rattle.t800_laws.proofs.Laws.Tests.{or-left, or-right}
 use Rattle.t800_laws.proofs.Laws.Lists.{length-from}
-use Rattle.tcd_shape.proofs.Laws.BlockPlanes.{or-group}
+use Rattle.tcd_laws.proofs.Laws.BlockPlanes.{or-group}
 use Rattle.t2_segments.specs.Segments.{bitsBefore, anyTooLong, blockTooWide}
-use Rattle.t2_segments.proofs.Laws.Segments.{next-entry}
+use Rattle.t800_laws.proofs.Laws.Lists.{next-entry}
 use Rattle.t2_widths.specs.Widths.{wideFrom}
-use Rattle.t2_narrow.proofs.Laws.Sums.{sum-splits}
+use Rattle.t800_laws.proofs.Laws.Sums.{sum-splits}
 
 -- the passes of a block: those from `from` up to `to`
 module _ (from to c : ℕ) (e : to ≡ from + c) where

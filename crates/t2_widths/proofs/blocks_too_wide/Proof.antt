@@ -10,7 +10,7 @@ use native.Mathlib.Omega.{arith}
 use Rattle.t800.specs.Base.{sum}
 use Rattle.t800.specs.WriteHeader.{segmentTooLong}
 use Rattle.t2_widths.specs.Widths.{PassesLeft, wideFrom}
-use Rattle.t2_narrow.proofs.Laws.Sums.{sum-turn}
+use Rattle.t800_laws.proofs.Laws.Sums.{sum-turn}
 use Rattle.t2_widths.proofs.Laws.Lists.{part-lists}
 use Rattle.t2_widths.proofs.Laws.BlocksLeft.{none-long-here, wide-turn, wide-end}
 use Rattle.t2_widths.proofs.blocks_too_wide.Statement.{statement}

@@ -14,10 +14,10 @@ use Rattle.t800.specs.State.{blocks, blocksAt, blocksFrom, blocksIn, bandLength
 use Rattle.t800.specs.WriteHeader.{segmentTooLong, fieldTooWide}
 use Rattle.t800.specs.declared.Band.{Band}
 use Rattle.t800_laws.proofs.Laws.Layout.{band-length, end-after}
-use Rattle.tcd_levels.specs.Geometry.{noBand}
-use Rattle.tcd_levels.proofs.Laws.Bands.{next-band, sides-of-first, blocks-turn, end-turn, length-blocks, blocks-up-to-12288}
+use Rattle.tcd_laws.specs.Geometry.{noBand}
+use Rattle.tcd_laws.proofs.Laws.Bands.{next-band, sides-of-first, blocks-turn, end-turn, length-blocks, blocks-up-to-12288}
 use Rattle.t2_widths.specs.Widths.{PassesLeft}
-use Rattle.t2_narrow.proofs.Laws.Sums.{sum-splits}
+use Rattle.t800_laws.proofs.Laws.Sums.{sum-splits}
 use Rattle.t2_widths.proofs.Laws.Lists.{passes-left-after, of-rests, on-rests, part-length}
 use Rattle.t2_widths.proofs.Laws.BlocksLeft.{band-wide-turn, passes-after-band, none-long-after-band, passes-here, no-band-left}
 use Rattle.t2_widths.proofs.field_too_wide.Statement.{statement}

@@ -6,7 +6,7 @@ use mathlib.Core.Path.{_≡_, _∙_, refl, sym}
 use native.Mathlib.Omega.{arith}
 use Rattle.t800.specs.Base.{sum}
 use Rattle.t800.specs.WriteHeader.{segmentTooLong}
-use Rattle.t2_narrow.proofs.Laws.Sums.{sum-turn}
+use Rattle.t800_laws.proofs.Laws.Sums.{sum-turn}
 use Rattle.t2_widths.proofs.Laws.Lists.{part-lists}
 use Rattle.t2_widths.proofs.Laws.BlocksLeft.{long-turn, long-end}
 use Rattle.t2_widths.proofs.segment_too_long.Statement.{statement}

@@ -15,7 +15,7 @@ use Rattle.t800.specs.WriteHeader.{Contribution, codeHeader}
 use Rattle.t800.specs.Packet.{measureChecks, measureRefusal, front, packet, packetChecks, writeRefusal, WriteResult, write}
 use Rattle.t800_laws.proofs.Laws.Tests.{if-true, if-false, if-ne}
 use Rattle.t800_laws.proofs.Laws.Checks.{not-first, first-later, first-earlier}
-use Rattle.t2_refusals.specs.Refusals.{measureRefusalFor}
+use Rattle.t2_refusal_laws.specs.Refusals.{measureRefusalFor}
 use Rattle.t2_refusals.proofs.Laws.ScratchLength.{refusal-by-scratch-length}
 use Rattle.t2_write_header.specs.Header.{HeaderCoded}
 use Rattle.t2_write_packet.specs.Front.{BytesPut, bytesPut, putBytes, putFront}

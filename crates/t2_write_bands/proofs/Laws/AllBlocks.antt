@@ -12,7 +12,7 @@ use Rattle.t800.specs.WriteHeader.{codeBlock, codeBlocks}
 use Rattle.bio_bytes.specs.Writing.{Output, putBits}
 use Rattle.bio_write.proofs.Laws.FreeBits.{putBits-append}
 use Rattle.tgt_write.specs.Coding.{putCoded}
-use Rattle.t2_segments.proofs.Laws.Segments.{next-entry}
+use Rattle.t800_laws.proofs.Laws.Lists.{next-entry}
 use Rattle.t2_write_lengths.specs.Blocks.{coded}
 use Rattle.t2_write_block.specs.Runs.{Running, codeNext, codeAll}
 

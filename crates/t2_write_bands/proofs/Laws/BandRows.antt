@@ -9,7 +9,7 @@ use Rattle.t800.specs.TagTree.{levels}
 use Rattle.t800.specs.State.{Block, bandNodes, blocksFrom}
 use Rattle.t800.specs.WriteHeader.{isNew, lengthBitsBefore, codeInclusion, codeZeroPlanes, codePasses, codeBlock}
 use Rattle.bio_bytes.specs.Writing.{FreeBitsClear}
-use Rattle.tcd_levels.specs.Geometry.{padded}
+use Rattle.tcd_laws.specs.Geometry.{padded}
 use Rattle.tgt.specs.Path.{rowOver}
 use Rattle.tcd_places.specs.declared.Place.{Place}
 use Rattle.t2_write_block.specs.Runs.{Running, codeNext, codeAll, AllFit}

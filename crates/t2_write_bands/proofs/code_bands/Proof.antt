@@ -10,8 +10,8 @@ use Rattle.t800.specs.declared.Level.{Level}
 use Rattle.t800.specs.State.{bandLength, blocksAt, blocks, endOf, stateLength}
 use Rattle.t800_laws.proofs.Laws.Layout.{end-after}
 use Rattle.bio_bytes.specs.Writing.{FreeBitsClear}
-use Rattle.tcd_levels.specs.Geometry.{noBand, SidesUpTo64}
-use Rattle.tcd_levels.proofs.Laws.Bands.{next-band, no-more-bands, sides-of-first, end-turn, band-levels-at}
+use Rattle.tcd_laws.specs.Geometry.{noBand, SidesUpTo64}
+use Rattle.tcd_laws.proofs.Laws.Bands.{next-band, no-more-bands, sides-of-first, end-turn, band-levels-at}
 use Rattle.t2_write_block.specs.Runs.{running, AllFit}
 use Rattle.tcd_places.specs.declared.Grid.{Grid}
 use Rattle.t2_write_bands.specs.Bands.{codeBand, codeBands}

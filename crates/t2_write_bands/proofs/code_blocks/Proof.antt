@@ -8,7 +8,7 @@ use borrow.Author.Needs.{needs}
 use Rattle.t800.specs.declared.Level.{Level}
 use Rattle.t800.specs.State.{Block, blocksFrom}
 use Rattle.t800.specs.TagTree.{levels}
-use Rattle.tcd_levels.specs.Geometry.{padded}
+use Rattle.tcd_laws.specs.Geometry.{padded}
 use Rattle.tgt.specs.Path.{rowOver, SmallLevels}
 use Rattle.tcd_places.specs.declared.Grid.{Grid}
 use Rattle.bio_bytes.specs.Writing.{FreeBitsClear}

@@ -14,11 +14,11 @@ use Rattle.t800.specs.Ranges.{validState}
 use Rattle.t800.specs.WriteHeader.{Contribution, isNew, lengthBitsBefore, segmentTooLong, fieldTooWide}
 use Rattle.t800_laws.proofs.Laws.Layout.{Layout, AllPlaced, layoutOf, blocks-placed}
 use Rattle.t800_laws.proofs.Laws.Tests.{either}
-use Rattle.tcd_state.proofs.Laws.ValidStates.{valid-state, block-known, block-bounds}
+use Rattle.tcd_laws.proofs.Laws.ValidStates.{valid-state, block-known, block-bounds}
 use Rattle.t2_segments.specs.Segments.{blockTooWide}
-use Rattle.t2_segments.proofs.Laws.Segments.{next-entry}
-use Rattle.t2_narrow.proofs.Laws.Sums.{sum-turn}
-use Rattle.t2_refusals.proofs.Laws.NotRefused.{NotRefused, count-up-to-164, none-long-first, none-wide-first}
+use Rattle.t800_laws.proofs.Laws.Lists.{next-entry}
+use Rattle.t800_laws.proofs.Laws.Sums.{sum-turn}
+use Rattle.t2_refusal_laws.proofs.Laws.NotRefused.{NotRefused, count-up-to-164, none-long-first, none-wide-first}
 use Rattle.t2_write_lengths.specs.Blocks.{PassesFit}
 use Rattle.t2_write_block.specs.Runs.{AllFit}
 use Rattle.tcd_places.proofs.Laws.Before.{AllBlocks}

@@ -16,10 +16,10 @@ use Rattle.round_trip.proofs.Trip.HeaderLength.{packed-up-to, header-up-to}
 use Rattle.round_trip.proofs.Trip.WriterState.{headerBlocks}
 use Rattle.bio_bytes.specs.Writing.{Output, output, emptyAt, lastPlace, putBit, putBits, flush}
 use Rattle.bio_write.proofs.Laws.Packed.{flushed-is-packed, packed-place}
-use Rattle.tcd_state.proofs.Laws.ValidStates.{valid-state, block-known, block-bounds}
+use Rattle.tcd_laws.proofs.Laws.ValidStates.{valid-state, block-known, block-bounds}
 use Rattle.tgt_write.specs.Coding.{LeafCoded, putCoded}
-use Rattle.t2_refusals.proofs.Laws.NotRefused.{NotRefused}
-use Rattle.t2_refusals.proofs.Laws.RefusalParts.{blocks-of-valid}
+use Rattle.t2_refusal_laws.proofs.Laws.NotRefused.{NotRefused}
+use Rattle.t2_refusal_laws.proofs.Laws.WriterState.{blocks-of-valid}
 use Rattle.t2_write_header.specs.Header.{headerCoded, putHeader}
 
 module _ (ws : List ℕ) (n : ℕ) (p : Contribution) (r : NotRefused ws n p) where

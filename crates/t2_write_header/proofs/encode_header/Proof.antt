@@ -16,8 +16,8 @@ use Rattle.bio_write.proofs.Laws.FreeBits.{emptyAt-clear, putBit-clear}
 use Rattle.t2_write_codes.specs.PassTable.{sameBits, isCodeword, isPassTable}
 use Rattle.t2_write_block.specs.Runs.{AllFit}
 use Rattle.t800.specs.WriteHeader.{contribution}
-use Rattle.t2_refusals.proofs.Laws.NotRefused.{not-refused-for}
-use Rattle.t2_refusals.proofs.Laws.RefusalParts.{first-words, bands-are, sides-are, length-is}
+use Rattle.t2_refusal_laws.proofs.Laws.NotRefused.{not-refused-for}
+use Rattle.t2_refusal_laws.proofs.Laws.WriterState.{first-words, bands-are, sides-are, length-is}
 use Rattle.t2_write_header.proofs.Laws.Fits.{all-fit}
 use Rattle.t2_write_header.proofs.Laws.Header.{layer-left, header-is}
 use Rattle.t2_write_header.proofs.encode_header.Statement.{statement}

@@ -10,7 +10,7 @@ use Rattle.t800.specs.Base.{any}
 use Rattle.t800.specs.State.{Block}
 use Rattle.t800.specs.WriteHeader.{isNew, setNewBlocks}
 use Rattle.t800_laws.proofs.Laws.Tests.{if-false, or-left, or-right}
-use Rattle.t2_segments.proofs.Laws.Segments.{next-entry}
+use Rattle.t800_laws.proofs.Laws.Lists.{next-entry}
 use Rattle.t2_write_new_rows.specs.Setting.{setNext, setAll}
 
 pub set-is-blocks : (t : ℕ) (cs : List ℕ) (ks : List Block) (i : ℕ) (ws : List ℕ) → i + length ks ≤ length cs → setAll t cs ks i ws

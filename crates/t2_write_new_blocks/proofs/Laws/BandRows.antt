@@ -8,7 +8,7 @@ use Rattle.t800.specs.declared.Band.{Band}
 use Rattle.t800.specs.TagTree.{levels}
 use Rattle.t800.specs.State.{Block, blocksFrom}
 use Rattle.t800.specs.WriteHeader.{isNew}
-use Rattle.tcd_levels.specs.Geometry.{padded}
+use Rattle.tcd_laws.specs.Geometry.{padded}
 use Rattle.t800_laws.proofs.Laws.Lists.{length-from}
 use Rattle.tgt.specs.Path.{rowOver}
 use Rattle.tcd_places.specs.declared.Place.{Place}

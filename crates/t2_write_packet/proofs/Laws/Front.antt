@@ -15,7 +15,7 @@ use Rattle.t800.specs.WriteHeader.{Contribution, codeHeader}
 use Rattle.t800.specs.Packet.{front}
 use Rattle.t800_laws.proofs.Laws.Tests.{on-le}
 use Rattle.t2_write_header.specs.Header.{HeaderCoded, headerCoded, putHeader}
-use Rattle.t2_refusals.proofs.Laws.NotRefused.{NotRefused}
+use Rattle.t2_refusal_laws.proofs.Laws.NotRefused.{NotRefused}
 use Rattle.t2_write_header.proofs.Laws.Header.{header-small}
 use Rattle.t2_write_packet.specs.Front.{BytesPut, bytesPut, putBytes, putFront}
 

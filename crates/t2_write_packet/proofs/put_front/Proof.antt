@@ -5,7 +5,7 @@ use native.Mathlib.Omega.{arith}
 use lib.ListN.{length}
 use borrow.Author.Needs.{needs}
 use Rattle.t800.specs.WriteHeader.{contribution}
-use Rattle.t2_refusals.proofs.Laws.NotRefused.{not-refused-for}
+use Rattle.t2_refusal_laws.proofs.Laws.NotRefused.{not-refused-for}
 use Rattle.t2_write_packet.specs.Front.{BytesPut}
 use Rattle.t2_write_packet.proofs.Laws.Front.{sop-up-to, front-put, header-ends}
 use Rattle.t2_write_packet.proofs.put_front.Statement.{statement}

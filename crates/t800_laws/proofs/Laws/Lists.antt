@@ -1,10 +1,12 @@
--- How long the lists of the definitions are, and what they come to at an empty list or at a last element.
-use mathlib.Core.Path.{_≡_, refl, ap}
+-- A list from a place on; how long the lists of the definitions are, and what they come to at an empty list or at a last element.
+use mathlib.Core.Path.{_≡_, refl, ap, _∙_}
 use mathlib.Core.Bool.{Bool, false, or-true, not, _||_}
 use mathlib.Core.List.{List, [], _∷_}
-use Prim.Native.Nat.{ℕ, zero, suc, _+_, _*_}
+use Prim.Native.Nat.{ℕ, zero, suc, _+_, _*_, _<_}
+use native.Mathlib.Numerals.{add-one}
 use native.Mathlib.Omega.{arith}
-use lib.ListN.{length}
+use lib.ListN.{length, getD, drop}
+use lib.Seq.{drop-cons}
 use lib.Dec.{eqb}
 use borrow.Author.Tests.{not-false, eqb-true}
 use Rattle.t800.specs.declared.Band.{Band}
@@ -17,6 +19,10 @@ use Rattle.t800.specs.Start.{setZeroPlanes}
 use Rattle.t800.specs.WriteHeader.{Contribution}
 use Rattle.t800.specs.Packet.{wrongLists}
 use Rattle.t800_laws.proofs.Laws.Tests.{or-left, or-right}
+
+-- a list from place i on, in the code's numbers
+pub next-entry : (l : List ℕ) (i : ℕ) → i < length l → drop i l ≡ getD l i 0 ∷ drop (i + 1) l
+next-entry l i h = drop-cons l i 0 h ∙ rw (add-one i)
 
 pub length-from : (at : ℕ) (b : Band) (n i : ℕ) → length (blocksFrom at b n i) ≡ n
 unfolding blocksFrom

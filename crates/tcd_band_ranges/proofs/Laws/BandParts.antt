@@ -15,8 +15,8 @@ use Rattle.t800.specs.Segments.{isLimit}
 use Rattle.t800.specs.State.{writer, notYetIncluded, notYetPlanes, role, style, layer, bandNodes, blocksIn}
 use Rattle.t800.specs.Ranges.{nodeInRange, blockInRange, bandInRange}
 use Rattle.t800_laws.proofs.Laws.Tests.{on-eq}
-use Rattle.tcd_shape.specs.declared.Limits.{Limits}
-use Rattle.tcd_shape.specs.Parts.{LimitsOf, isOneOf, lengthBitsInRange, segmentInRange, blockWordsInRange}
+use Rattle.tcd_band_ranges.specs.declared.Limits.{Limits}
+use Rattle.tcd_band_ranges.specs.BlockParts.{LimitsOf, isOneOf, lengthBitsInRange, segmentInRange, blockWordsInRange}
 
 pub at-most-zero : (n : ℕ) → leb n 0 ≡ eqb n 0
 at-most-zero n = on-eq n 0 (λ e. simp (le-leb n 0 (omega arith), eq-eqb n 0 e)) (λ e. simp (lt-leb n 0 (omega arith), ne-eqb n 0 e))

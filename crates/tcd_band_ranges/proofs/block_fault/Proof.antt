@@ -2,8 +2,8 @@
 use Prim.Native.Nat.{_*_}
 use borrow.Author.Needs.{needs}
 use lib.Dec.{leb}
-use Rattle.tcd_first_words.proofs.Laws.Faults.{fault-three}
-use Rattle.tcd_shape.specs.Parts.{blockWordsInRange, lengthBitsInRange, segmentInRange}
+use Rattle.tcd_laws.proofs.Laws.Faults.{fault-three}
+use Rattle.tcd_band_ranges.specs.BlockParts.{blockWordsInRange, lengthBitsInRange, segmentInRange}
 use Rattle.tcd_band_ranges.proofs.block_fault.Statement.{statement}
 use Rattle.tcd_band_ranges.proofs.block_fault.Tie as tie
 

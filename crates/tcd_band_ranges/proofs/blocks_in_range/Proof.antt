@@ -5,9 +5,9 @@ use native.Mathlib.Omega.{arith}
 use Rattle.t800.specs.Base.{every}
 use Rattle.t800.specs.Ranges.{blockInRange}
 use Rattle.t800.specs.State.{layer, role}
-use Rattle.tcd_first_words.proofs.Laws.Faults.{faults-end, faults-turn}
+use Rattle.tcd_laws.proofs.Laws.Faults.{faults-end, faults-turn}
 use Rattle.tcd_band_ranges.proofs.Laws.BandParts.{block-words}
-use Rattle.tcd_shape.specs.Parts.{fault}
+use Rattle.tcd_laws.specs.Parts.{fault}
 use Rattle.tcd_band_ranges.proofs.blocks_in_range.Statement.{statement}
 use Rattle.tcd_band_ranges.proofs.blocks_in_range.Tie as tie
 

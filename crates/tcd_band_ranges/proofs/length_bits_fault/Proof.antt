@@ -3,9 +3,9 @@ use borrow.Author.Needs.{needs}
 use lib.Bits.{bitOr}
 use lib.Dec.{leb}
 use mathlib.Core.Path.{_∙_, ap, ap₂}
-use Rattle.tcd_first_words.proofs.Laws.Faults.{fault-both}
+use Rattle.tcd_laws.proofs.Laws.Faults.{fault-both}
 use Rattle.tcd_band_ranges.proofs.Laws.BandParts.{length-bits-parts}
-use Rattle.tcd_shape.specs.Parts.{fault}
+use Rattle.tcd_laws.specs.Parts.{fault}
 use Rattle.tcd_band_ranges.proofs.length_bits_fault.Statement.{statement}
 use Rattle.tcd_band_ranges.proofs.length_bits_fault.Tie as tie
 

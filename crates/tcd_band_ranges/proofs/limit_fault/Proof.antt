@@ -4,8 +4,8 @@ use lib.Bits.{bitAnd}
 use lib.Dec.{eqb}
 use mathlib.Core.Bool.{_||_}
 use mathlib.Core.Path.{_∙_, ap₂}
-use Rattle.tcd_first_words.proofs.Laws.Faults.{fault-either}
-use Rattle.tcd_shape.specs.Parts.{isOneOf}
+use Rattle.tcd_laws.proofs.Laws.Faults.{fault-either}
+use Rattle.tcd_band_ranges.specs.BlockParts.{isOneOf}
 use Rattle.tcd_band_ranges.proofs.limit_fault.Statement.{statement}
 use Rattle.tcd_band_ranges.proofs.limit_fault.Tie as tie
 

@@ -1,7 +1,7 @@
 -- `tcd_band_ranges::node_fault` meets its contract.
 use borrow.Author.Needs.{needs}
 use lib.Dec.{leb}
-use Rattle.tcd_first_words.proofs.Laws.Faults.{fault-three}
+use Rattle.tcd_laws.proofs.Laws.Faults.{fault-three}
 use Rattle.tcd_band_ranges.proofs.node_fault.Statement.{statement}
 use Rattle.tcd_band_ranges.proofs.node_fault.Tie as tie
 

@@ -4,8 +4,8 @@ use mathlib.Core.Path.{_≡_, refl}
 use native.Mathlib.Omega.{arith}
 use Rattle.t800.specs.Base.{every}
 use Rattle.t800.specs.Ranges.{nodeInRange}
-use Rattle.tcd_first_words.proofs.Laws.Faults.{faults-end, faults-turn}
-use Rattle.tcd_shape.specs.Parts.{fault}
+use Rattle.tcd_laws.proofs.Laws.Faults.{faults-end, faults-turn}
+use Rattle.tcd_laws.specs.Parts.{fault}
 use Rattle.tcd_band_ranges.proofs.nodes_in_range.Statement.{statement}
 use Rattle.tcd_band_ranges.proofs.nodes_in_range.Tie as tie
 

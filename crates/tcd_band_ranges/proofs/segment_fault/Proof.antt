@@ -3,9 +3,10 @@ use borrow.Author.Needs.{needs}
 use lib.Dec.{eqb, leb}
 use mathlib.Core.Bool.{cond}
 use mathlib.Core.Path.{_∙_, ap, ap₂}
-use Rattle.tcd_first_words.proofs.Laws.Faults.{chosen-fault, fault-three}
+use Rattle.tcd_laws.proofs.Laws.Faults.{chosen-fault, fault-three}
 use Rattle.tcd_band_ranges.proofs.Laws.BandParts.{segment-parts}
-use Rattle.tcd_shape.specs.Parts.{fault, isOneOf}
+use Rattle.tcd_laws.specs.Parts.{fault}
+use Rattle.tcd_band_ranges.specs.BlockParts.{isOneOf}
 use Rattle.tcd_band_ranges.proofs.segment_fault.Statement.{statement}
 use Rattle.tcd_band_ranges.proofs.segment_fault.Tie as tie
 

@@ -1,7 +1,7 @@
 -- `tcd_first_words::band_at` meets its contract.
 use borrow.Author.Needs.{needs}
 use mathlib.Core.Path.{refl}
-use Rattle.tcd_first_words.proofs.Laws.FirstWords.{band-words}
+use Rattle.tcd_laws.proofs.Laws.FirstWords.{band-words}
 use Rattle.tcd_first_words.proofs.band_at.Statement.{statement}
 use Rattle.tcd_first_words.proofs.band_at.Tie as tie
 

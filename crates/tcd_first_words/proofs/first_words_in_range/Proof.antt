@@ -6,7 +6,7 @@ use mathlib.Core.Path.{_∙_, ap, refl, sym}
 use native.Mathlib.Omega.{arith}
 use Rattle.t800.specs.Ranges.{badStyle, bandTooDeep}
 use Rattle.t800.specs.State.{layer, notYetIncluded}
-use Rattle.tcd_first_words.proofs.Laws.FirstWords.{first-bands, first-words-parts, shape-known, unused-zero}
+use Rattle.tcd_laws.proofs.Laws.FirstWords.{first-bands, first-words-parts, shape-known, unused-zero}
 use Rattle.tcd_first_words.proofs.first_words_in_range.Statement.{statement}
 use Rattle.tcd_first_words.proofs.first_words_in_range.Tie as tie
 

@@ -3,7 +3,7 @@ use borrow.Author.Needs.{needs}
 use borrow.Author.Tests.{eq-eqb, ne-eqb}
 use mathlib.Core.Bool.{false, true}
 use mathlib.Core.Path.{_∙_, refl, sym}
-use Rattle.tcd_first_words.proofs.Laws.FirstWords.{shape-parts}
+use Rattle.tcd_laws.proofs.Laws.FirstWords.{shape-parts}
 use Rattle.tcd_first_words.proofs.shape_in_range.Statement.{statement}
 use Rattle.tcd_first_words.proofs.shape_in_range.Tie as tie
 

@@ -6,8 +6,8 @@ use mathlib.Core.Bool.{_||_}
 use mathlib.Core.Path.{_≡_, refl}
 use native.Mathlib.Omega.{arith}
 use Rattle.t800.specs.Base.{every}
-use Rattle.tcd_first_words.proofs.Laws.Faults.{faults-end, faults-turn}
-use Rattle.tcd_shape.specs.Parts.{fault}
+use Rattle.tcd_laws.proofs.Laws.Faults.{faults-end, faults-turn}
+use Rattle.tcd_laws.specs.Parts.{fault}
 use Rattle.tcd_first_words.proofs.unused_bands_zero.Statement.{statement}
 use Rattle.tcd_first_words.proofs.unused_bands_zero.Tie as tie
 

@@ -2,7 +2,7 @@
 use borrow.Author.Needs.{needs}
 use native.Mathlib.Omega.{arith}
 use Rattle.t800.specs.State.{bandLength}
-use Rattle.tcd_levels.proofs.Laws.Bands.{blocks-up-to-4096, nodes-of-band-up-to}
+use Rattle.tcd_laws.proofs.Laws.Bands.{blocks-up-to-4096, nodes-of-band-up-to}
 use Rattle.tcd_layout.proofs.band_length.Statement.{statement}
 use Rattle.tcd_layout.proofs.band_length.Tie as tie
 

@@ -6,8 +6,8 @@ use mathlib.Core.Path.{_∙_, _≡_, ap, refl}
 use native.Mathlib.Omega.{arith}
 use Rattle.t800.specs.State.{endOf}
 use Rattle.t800.specs.declared.Band.{Band}
-use Rattle.tcd_levels.proofs.Laws.Bands.{band-length-up-to, end-turn, no-more-bands, sides-of-first}
-use Rattle.tcd_levels.specs.Geometry.{noBand}
+use Rattle.tcd_laws.proofs.Laws.Bands.{band-length-up-to, end-turn, no-more-bands, sides-of-first}
+use Rattle.tcd_laws.specs.Geometry.{noBand}
 use Rattle.tcd_layout.proofs.band_start.Statement.{statement}
 use Rattle.tcd_layout.proofs.band_start.Tie as tie
 

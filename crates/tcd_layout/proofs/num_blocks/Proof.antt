@@ -7,8 +7,8 @@ use mathlib.Core.Path.{_≡_}
 use native.Mathlib.Omega.{arith}
 use Rattle.t800.specs.Base.{sum}
 use Rattle.t800.specs.State.{blocks, blocksIn}
-use Rattle.tcd_levels.proofs.Laws.Bands.{blocks-turn, blocks-up-to-4096, length-blocks, no-more-bands, sides-of-first}
-use Rattle.tcd_levels.specs.Geometry.{noBand}
+use Rattle.tcd_laws.proofs.Laws.Bands.{blocks-turn, blocks-up-to-4096, length-blocks, no-more-bands, sides-of-first}
+use Rattle.tcd_laws.specs.Geometry.{noBand}
 use Rattle.tcd_layout.proofs.num_blocks.Statement.{statement}
 use Rattle.tcd_layout.proofs.num_blocks.Tie as tie
 

@@ -2,7 +2,7 @@
 use borrow.Author.Needs.{needs}
 use lib.ListN.{length}
 use mathlib.Core.Path.{_≡_}
-use Rattle.tcd_levels.proofs.Laws.Bands.{levels-of-three}
+use Rattle.tcd_laws.proofs.Laws.Bands.{levels-of-three}
 use Rattle.tcd_levels.proofs.band_levels.Statement.{statement}
 use Rattle.tcd_levels.proofs.band_levels.Tie as tie
 

@@ -7,8 +7,8 @@ use mathlib.Core.Path.{_∙_, _≡_, ap, refl, sym}
 use native.Mathlib.Omega.{arith}
 use Rattle.t800.specs.TagTree.{levels, levelsFrom}
 use Rattle.t800.specs.declared.Level.{Level}
-use Rattle.tcd_levels.proofs.Laws.TreeLevels.{levels-over-none, levels-stop, stored-turn}
-use Rattle.tcd_levels.specs.Geometry.{padded}
+use Rattle.tcd_laws.proofs.Laws.TreeLevels.{levels-over-none, levels-stop, stored-turn}
+use Rattle.tcd_laws.specs.Geometry.{padded}
 use Rattle.tcd_levels.proofs.levels.Statement.{statement}
 use Rattle.tcd_levels.proofs.levels.Tie as tie
 

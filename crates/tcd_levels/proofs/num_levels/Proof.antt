@@ -4,7 +4,7 @@ use lib.ListN.{length}
 use mathlib.Core.Path.{_∙_, _≡_, ap}
 use native.Mathlib.Omega.{arith}
 use Rattle.t800.specs.TagTree.{levels, levelsFrom}
-use Rattle.tcd_levels.proofs.Laws.TreeLevels.{counted-turn, levels-stop}
+use Rattle.tcd_laws.proofs.Laws.TreeLevels.{counted-turn, levels-stop}
 use Rattle.tcd_levels.proofs.num_levels.Statement.{statement}
 use Rattle.tcd_levels.proofs.num_levels.Tie as tie
 

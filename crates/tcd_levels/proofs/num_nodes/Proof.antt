@@ -3,7 +3,7 @@ use Prim.Native.Nat.{_*_, _+_, _-_, _≤_}
 use mathlib.Core.Path.{_≡_}
 use native.Mathlib.Omega.{arith}
 use Rattle.t800.specs.TagTree.{levels, levelsFrom, nodes, nodesIn}
-use Rattle.tcd_levels.proofs.Laws.TreeLevels.{area-up-to-4096, summed-stop, summed-turn}
+use Rattle.tcd_laws.proofs.Laws.TreeLevels.{area-up-to-4096, summed-stop, summed-turn}
 use Rattle.tcd_levels.proofs.num_nodes.Statement.{statement}
 use Rattle.tcd_levels.proofs.num_nodes.Tie as tie
 

@@ -10,8 +10,8 @@ use Rattle.t800.specs.TagTree.{levels, pathToRoot}
 use Rattle.t800.specs.State.{Block, blockOf, blocksIn, bandNodes, bandLength, blocksFrom}
 use Rattle.tgt.specs.Path.{rowOver, pathOver, PathIn, SmallLevels}
 use Rattle.tgt.proofs.Laws.Path as tgt
-use Rattle.tcd_levels.specs.Geometry.{padded}
-use Rattle.tcd_levels.proofs.Laws.Bands.{blocks-split}
+use Rattle.tcd_laws.specs.Geometry.{padded}
+use Rattle.tcd_laws.proofs.Laws.Bands.{blocks-split}
 use Rattle.tcd_places.specs.declared.Place.{Place}
 use Rattle.tcd_places.specs.Places.{blockIn, placeAt, rowBlocks, RowIn, gridOf, rowPlace, bandBlocks, BandIn}
 

@@ -3,7 +3,7 @@ use borrow.Author.Needs.{needs}
 use mathlib.Core.Path.{ap}
 use native.Mathlib.Omega.{arith}
 use Rattle.t800_laws.proofs.Laws.Layout.{band-length}
-use Rattle.tcd_levels.proofs.Laws.Bands.{blocks-up-to-4096, nodes-of-band-up-to}
+use Rattle.tcd_laws.proofs.Laws.Bands.{blocks-up-to-4096, nodes-of-band-up-to}
 use Rattle.tcd_places.specs.declared.Grid.{Grid}
 use Rattle.tcd_places.proofs.grid_end.Statement.{statement}
 use Rattle.tcd_places.proofs.grid_end.Tie as tie

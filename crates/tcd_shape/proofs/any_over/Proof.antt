@@ -6,8 +6,8 @@ use mathlib.Core.Bool.{not}
 use mathlib.Core.Path.{_≡_, refl}
 use native.Mathlib.Omega.{arith}
 use Rattle.t800.specs.Base.{any}
-use Rattle.tcd_shape.proofs.Laws.AnyOf.{over-end, over-turn}
-use Rattle.tcd_shape.specs.Parts.{fault}
+use Rattle.tcd_laws.proofs.Laws.AnyOf.{over-end, over-turn}
+use Rattle.tcd_laws.specs.Parts.{fault}
 use Rattle.tcd_shape.proofs.any_over.Statement.{statement}
 use Rattle.tcd_shape.proofs.any_over.Tie as tie
 

@@ -8,8 +8,8 @@ use mathlib.Core.Path.{_∙_, _≡_, refl, sym}
 use native.Mathlib.Omega.{arith}
 use Rattle.t800.specs.Base.{any}
 use Rattle.t800.specs.declared.Band.{Band}
-use Rattle.tcd_levels.proofs.Laws.Bands.{next-band, no-more-bands}
-use Rattle.tcd_shape.proofs.Laws.AnyOf.{any-here, any-later}
+use Rattle.tcd_laws.proofs.Laws.Bands.{next-band, no-more-bands}
+use Rattle.tcd_laws.proofs.Laws.AnyOf.{any-here, any-later}
 use Rattle.tcd_shape.proofs.any_side_over_64.Statement.{statement}
 use Rattle.tcd_shape.proofs.any_side_over_64.Tie as tie
 

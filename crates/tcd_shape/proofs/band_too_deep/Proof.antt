@@ -9,8 +9,8 @@ use native.Mathlib.Omega.{arith}
 use Rattle.t800.specs.Base.{any}
 use Rattle.t800.specs.Ranges.{bandTooDeep}
 use Rattle.t800.specs.declared.Band.{Band}
-use Rattle.tcd_levels.proofs.Laws.Bands.{next-band, no-more-bands}
-use Rattle.tcd_shape.proofs.Laws.AnyOf.{any-here, any-later}
+use Rattle.tcd_laws.proofs.Laws.Bands.{next-band, no-more-bands}
+use Rattle.tcd_laws.proofs.Laws.AnyOf.{any-here, any-later}
 use Rattle.tcd_shape.proofs.band_too_deep.Statement.{statement}
 use Rattle.tcd_shape.proofs.band_too_deep.Tie as tie
 

@@ -7,8 +7,8 @@ use mathlib.Core.Path.{_∙_, _≡_, ap, sym}
 use native.Mathlib.Omega.{arith}
 use Rattle.t800.specs.Ranges.{blockTooDeep}
 use Rattle.t800.specs.State.{blocks}
-use Rattle.tcd_levels.proofs.Laws.Bands.{next-band, no-more-bands}
-use Rattle.tcd_shape.proofs.Laws.BlockPlanes.{deep-is, deep-turn, deepFrom}
+use Rattle.tcd_laws.proofs.Laws.Bands.{next-band, no-more-bands}
+use Rattle.tcd_laws.proofs.Laws.BlockPlanes.{deep-is, deep-turn, deepFrom}
 use Rattle.tcd_shape.proofs.block_too_deep.Statement.{statement}
 use Rattle.tcd_shape.proofs.block_too_deep.Tie as tie
 

@@ -10,9 +10,9 @@ use Rattle.t800.specs.declared.Band.{Band}
 use Rattle.t800.specs.State.{notYetIncluded, bandCount, style, layer, bands, bandLength, stateLength}
 use Rattle.t800.specs.Ranges.{badStyle, bandTooDeep, bandInRange, bandsInRange, unusedBandsZero, validState}
 use Rattle.t800_laws.proofs.Laws.Tests.{and-left}
-use Rattle.tcd_levels.specs.Geometry.{AllUpTo64}
-use Rattle.tcd_shape.specs.Parts.{threeBands, shapeInRange, firstWordsInRange}
-use Rattle.tcd_first_words.proofs.Laws.FirstWords.{first-bands, shape-known}
+use Rattle.tcd_laws.specs.Geometry.{AllUpTo64}
+use Rattle.tcd_laws.specs.Parts.{threeBands, shapeInRange, firstWordsInRange}
+use Rattle.tcd_laws.proofs.Laws.FirstWords.{first-bands, shape-known}
 
 pub bands-turn : (ws : List ℕ) (at : ℕ) (l : List Band) (b : Band) (bs : List Band) (t : Bool) → l ≡ b ∷ bs → t
     ≡ bandInRange ws at b → (t && bandsInRange ws (at + bandLength b) bs) ≡ bandsInRange ws at l

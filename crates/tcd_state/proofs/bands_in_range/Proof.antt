@@ -12,9 +12,9 @@ use Rattle.t800_laws.proofs.Laws.Layout.{band-length, end-after}
 use Rattle.t800.specs.Ranges.{bandsInRange}
 use Rattle.t800.specs.State.{bandLength, endOf, stateLength}
 use Rattle.t800.specs.declared.Band.{Band}
-use Rattle.tcd_levels.proofs.Laws.Bands.{band-length-up-to, blocks-up-to-4096, end-turn, next-band, no-more-bands}
-use Rattle.tcd_levels.proofs.Laws.Bands.{nodes-of-band-up-to, sides-of-first}
-use Rattle.tcd_levels.specs.Geometry.{noBand}
+use Rattle.tcd_laws.proofs.Laws.Bands.{band-length-up-to, blocks-up-to-4096, end-turn, next-band, no-more-bands}
+use Rattle.tcd_laws.proofs.Laws.Bands.{nodes-of-band-up-to, sides-of-first}
+use Rattle.tcd_laws.specs.Geometry.{noBand}
 use Rattle.tcd_state.proofs.Laws.RangeParts.{bands-turn}
 use Rattle.tcd_state.proofs.bands_in_range.Statement.{statement}
 use Rattle.tcd_state.proofs.bands_in_range.Tie as tie

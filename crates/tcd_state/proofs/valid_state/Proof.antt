@@ -9,9 +9,9 @@ use mathlib.Core.Path.{_∙_, ap, refl, sym}
 use Rattle.t800.specs.declared.Band.{Band}
 use Rattle.t800.specs.Ranges.{bandsInRange}
 use Rattle.t800.specs.State.{stateLength}
-use Rattle.tcd_first_words.proofs.Laws.FirstWords.{first-bands}
+use Rattle.tcd_laws.proofs.Laws.FirstWords.{first-bands}
 use Rattle.tcd_state.proofs.Laws.RangeParts.{sides-known, valid-parts}
-use Rattle.tcd_state.proofs.Laws.ValidStates.{too-short}
+use Rattle.tcd_laws.proofs.Laws.ValidStates.{too-short}
 use Rattle.tcd_state.proofs.valid_state.Statement.{statement}
 use Rattle.tcd_state.proofs.valid_state.Tie as tie
 

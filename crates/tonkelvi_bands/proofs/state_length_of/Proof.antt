@@ -1,7 +1,7 @@
 -- `tonkelvi_bands::state_length_of` meets its contract.
 use mathlib.Core.Path.{_∙_, sym}
 use borrow.Author.Needs.{needs}
-use Rattle.tcd_levels.proofs.Laws.Bands.{shape-not-refused}
+use Rattle.tcd_laws.proofs.Laws.Bands.{shape-not-refused}
 use Rattle.tonkelvi_bands.proofs.Laws.Bands.{length-unlisted, length-refused, length-given}
 use Rattle.tonkelvi_bands.proofs.state_length_of.Statement.{statement}
 use Rattle.tonkelvi_bands.proofs.state_length_of.Tie as tie

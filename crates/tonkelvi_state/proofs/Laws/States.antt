@@ -9,8 +9,8 @@ use borrow.Author.Tests.{eq-eqb, ne-eqb}
 use Rattle.t800.specs.State.{writer, reader, bandCount, role, layer, bands, blocks}
 use Rattle.t800.specs.Ranges.{validState}
 use Rattle.t800.specs.Exports.{anyState, describeCall}
-use Rattle.tcd_levels.specs.Geometry.{AllUpTo64}
-use Rattle.tcd_state.proofs.Laws.ValidStates.{valid-state, long-enough}
+use Rattle.tcd_laws.specs.Geometry.{AllUpTo64}
+use Rattle.tcd_laws.proofs.Laws.ValidStates.{valid-state, long-enough}
 
 module _ (ws : List ℕ) where
   pub a-writer : validState writer ws (length ws) ≡ true → true ≡ anyState ws

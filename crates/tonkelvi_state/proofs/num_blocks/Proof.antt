@@ -6,8 +6,8 @@ use lib.ListN.{length}
 use borrow.Author.Needs.{needs}
 use Rattle.t800.specs.declared.Band.{Band}
 use Rattle.t800.specs.State.{blocks}
-use Rattle.tcd_levels.specs.Geometry.{AllUpTo64}
-use Rattle.tcd_first_words.proofs.Laws.FirstWords.{first-bands}
+use Rattle.tcd_laws.specs.Geometry.{AllUpTo64}
+use Rattle.tcd_laws.proofs.Laws.FirstWords.{first-bands}
 use Rattle.tonkelvi_state.proofs.Laws.States.{any-known}
 use Rattle.tonkelvi_state.proofs.num_blocks.Statement.{statement}
 use Rattle.tonkelvi_state.proofs.num_blocks.Tie as tie

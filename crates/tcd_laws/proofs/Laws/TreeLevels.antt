@@ -13,8 +13,12 @@ use Rattle.t800.specs.declared.Level.{Level}
 use Rattle.t800.specs.TagTree.{levelsFrom, noLevel, levels, nodesIn, nodes}
 use Rattle.t800_laws.proofs.Laws.Tests.{if-le, if-gt, either}
 use Rattle.t800_laws.proofs.Laws.Levels.{at-most-seven-levels}
-use Rattle.tcd_levels.specs.Geometry.{padded}
-use Rattle.tcd_levels.proofs.Laws.Lists.{drop-replicate}
+use Rattle.tcd_laws.specs.Geometry.{padded}
+
+drop-replicate {ℓ} : {A : Type ℓ} (n k : ℕ) (a : A) → drop k (replicate n a) ≡ replicate (n - k) a
+drop-replicate n zero a = let e : n - 0 ≡ n = omega arith in rw e
+drop-replicate zero (suc k) a = let e : 0 - suc k ≡ 0 = omega arith in rw e
+drop-replicate (suc n) (suc k) a = let e : suc n - suc k ≡ n - k = omega arith in rw e (drop-replicate n k a)
 
 abbrev pub level : ℕ → ℕ → Level
 level w h = record { w = w; h = h }

@@ -5,7 +5,7 @@ use Prim.Native.Nat.{ℕ, zero, suc, _+_, _≤_, _<_}
 use native.Mathlib.Omega.{arith}
 use lib.ListN.{length, getD, take, drop, drop-of-length-le}
 use Rattle.t800.specs.Base.{sum}
-use Rattle.t2_segments.proofs.Laws.Segments.{next-entry}
+use Rattle.t800_laws.proofs.Laws.Lists.{next-entry}
 
 pub sum-turn : (l : List ℕ) (i : ℕ) → i < length l → sum (drop i l) ≡ getD l i 0 + sum (drop (i + 1) l)
 unfolding sum

@@ -17,9 +17,9 @@ use Rattle.t800.specs.Ranges.{badShape, badStyle, bandTooDeep, nodeInRange, blo
 use Rattle.t800.specs.Ranges.{unusedBandsZero, validState}
 use Rattle.t800_laws.proofs.Laws.Tests.{on-eq, and-left, and-right}
 use Rattle.t800_laws.proofs.Laws.Layout.{BlockFrom, end-after}
-use Rattle.tcd_levels.specs.Geometry.{AllUpTo64}
-use Rattle.tcd_shape.specs.Parts.{shapeInRange}
-use Rattle.tcd_first_words.proofs.Laws.FirstWords.{shape-known}
+use Rattle.tcd_laws.specs.Geometry.{AllUpTo64}
+use Rattle.tcd_laws.specs.Parts.{shapeInRange}
+use Rattle.tcd_laws.proofs.Laws.FirstWords.{shape-known}
 
 -- ---- the first words and the length
 

@@ -11,7 +11,7 @@ use lib.Dec.{eqb, ltb, leb}
 use borrow.Author.Tests.{lt-ltb, le-ltb, le-leb, lt-leb}
 use Rattle.t800.specs.Base.{any}
 use Rattle.t800_laws.proofs.Laws.Tests.{on-lt}
-use Rattle.tcd_shape.specs.Parts.{fault}
+use Rattle.tcd_laws.specs.Parts.{fault}
 
 module _ {ℓ} {A : Type ℓ} (f : A → Bool) where
   -- at the first entry, or past it

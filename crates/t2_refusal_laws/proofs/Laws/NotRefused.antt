@@ -17,8 +17,8 @@ use Rattle.t800.specs.Packet.{wrongLists}
 use Rattle.t800_laws.proofs.Laws.Lists.{lists-right}
 use Rattle.t800_laws.proofs.Laws.Tests.{or-left, or-right, not-refused}
 use Rattle.t2_segments.specs.Segments.{anyTooLong, blockTooWide}
-use Rattle.t2_refusals.specs.Refusals.{contributionRefusal, measureRefusalFor}
-use Rattle.t2_refusals.proofs.Laws.RefusalParts.{blocks-of-valid}
+use Rattle.t2_refusal_laws.specs.Refusals.{contributionRefusal, measureRefusalFor}
+use Rattle.t2_refusal_laws.proofs.Laws.WriterState.{blocks-of-valid}
 
 -- ---- counts
 

@@ -6,7 +6,7 @@ use native.Mathlib.Numerals.{add-one}
 use lib.Bits.{bitOr, bitAnd, or-comm}
 use lib.Dec.{eqb}
 use Rattle.t800.specs.Base.{every}
-use Rattle.tcd_shape.specs.Parts.{fault}
+use Rattle.tcd_laws.specs.Parts.{fault}
 
 pub fault-both : (a b : Bool) → bitOr (fault a) (fault b) ≡ fault (a && b)
 fault-both true true = refl

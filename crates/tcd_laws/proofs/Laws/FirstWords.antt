@@ -11,9 +11,9 @@ use Rattle.t800.specs.declared.Band.{Band}
 use Rattle.t800.specs.Base.{every}
 use Rattle.t800.specs.State.{notYetIncluded, role, bandCount, style, layer, bandAt, bands}
 use Rattle.t800.specs.Ranges.{badShape, badStyle, bandTooDeep, unusedBandsZero}
-use Rattle.tcd_levels.specs.Geometry.{AllUpTo64}
-use Rattle.tcd_levels.proofs.Laws.Bands.{shape-not-refused}
-use Rattle.tcd_shape.specs.Parts.{threeBands, shapeInRange, firstWordsInRange}
+use Rattle.tcd_laws.specs.Geometry.{AllUpTo64}
+use Rattle.tcd_laws.proofs.Laws.Bands.{shape-not-refused}
+use Rattle.tcd_laws.specs.Parts.{threeBands, shapeInRange, firstWordsInRange}
 use Rattle.t800_laws.proofs.Laws.Tests.{and-right}
 
 pub band-words : (ws : List ℕ) (i a d p : ℕ) → a ≡ getD ws (4 + 3 * i) 0 → d ≡ getD ws (4 + 3 * i + 1) 0 → p ≡ getD ws (4 + 3 * i + 2) 0

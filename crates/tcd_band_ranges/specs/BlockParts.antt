@@ -1,22 +1,11 @@
--- Parts of the range check of a state (refusal 5) on the numbers that the code has read.
+-- Parts of the range check of a block (refusal 5) on the numbers that the code has read.
 use Prim.Native.Nat.{ℕ, _*_}
 use mathlib.Core.Path.{_≡_}
-use mathlib.Core.Bool.{Bool, cond, _&&_, _||_, not}
-use mathlib.Core.List.{List, [], _∷_}
+use mathlib.Core.Bool.{Bool, cond, _&&_, _||_}
 use lib.Dec.{leb, eqb}
-use Rattle.t800.specs.declared.Band.{Band}
-use Rattle.tcd_shape.specs.declared.Limits.{Limits}
+use Rattle.tcd_band_ranges.specs.declared.Limits.{Limits}
 use Rattle.t800.specs.Segments.{firstLimit, nextLimit}
-use Rattle.t800.specs.State.{notYetIncluded, writer, role, bandCount, style, layer, bands, bandAt}
-use Rattle.t800.specs.Ranges.{badShape, badStyle, bandTooDeep, unusedBandsZero}
-
--- a loop's fault: 0 as long as the test holds
-abbrev pub fault : Bool → ℕ
-fault t = cond t 0 1
-
--- the three bands that a state's words name, used or not
-abbrev pub threeBands : List ℕ → List Band
-threeBands ws = bandAt ws 0 ∷ bandAt ws 1 ∷ bandAt ws 2 ∷ []
+use Rattle.t800.specs.State.{writer, role, style, layer}
 
 -- length bits b of a block with p passes
 unfoldable pub lengthBitsInRange : ℕ → ℕ → Bool
@@ -39,16 +28,3 @@ segmentInRange r l p m u = cond (eqb p 0 || eqb r writer) (eqb m 0 && eqb u 0) (
 -- the four words of a block, for a role, a style's limits and a next layer
 unfoldable pub blockWordsInRange : ℕ → Limits → ℕ → ℕ → ℕ → ℕ → ℕ → Bool
 blockWordsInRange r l t p b m u = leb p (164 * t) && lengthBitsInRange p b && segmentInRange r l p m u
-
--- role, band count and sides
-unfoldable pub shapeInRange : ℕ → List ℕ → Bool
-shapeInRange r ws = eqb (role ws) r && not (badShape (bandCount ws) (bands ws))
-
--- the thirteen words before the first band's
-unfoldable pub firstWordsInRange : ℕ → List ℕ → Bool
-firstWordsInRange r ws =
-    shapeInRange r ws
-    && not (badStyle (style ws))
-    && leb (layer ws) notYetIncluded
-    && not (bandTooDeep (bands ws))
-    && unusedBandsZero ws

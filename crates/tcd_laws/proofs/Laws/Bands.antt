@@ -19,8 +19,8 @@ use Rattle.t800.specs.Ranges.{badShape}
 use Rattle.t800_laws.proofs.Laws.Tests.{or-left, or-right}
 use Rattle.t800_laws.proofs.Laws.Layout.{band-length}
 use Rattle.t800_laws.proofs.Laws.Lists.{length-from}
-use Rattle.tcd_levels.specs.Geometry.{noBand, padded, bandLevels, SidesUpTo64, AllUpTo64}
-use Rattle.tcd_levels.proofs.Laws.TreeLevels.{area-up-to-4096, nodes-up-to-28672}
+use Rattle.tcd_laws.specs.Geometry.{noBand, padded, bandLevels, SidesUpTo64, AllUpTo64}
+use Rattle.tcd_laws.proofs.Laws.TreeLevels.{area-up-to-4096, nodes-up-to-28672}
 
 -- ---- an array of three
 

@@ -1,2 +1,0 @@
-pub mod AnyOf
-pub mod BlockPlanes
