@@ -3,6 +3,8 @@
 # made anew on what target/ has proved, one at a time; without names, of all crates.
 set -eu
 cd "$(dirname "$0")/.."
+. tools/need.sh
+tmp_in_memory
 
 names=("$@")
 [ $# -gt 0 ] || mapfile -t names < <(sed -n 's/^\([a-z0-9_]*\):.*/\1/p' crates.txt)
@@ -18,5 +20,6 @@ done | awk '{
     cpu = $2 + $3
     printf "%-22s %6.1f %3d %7.1f\n", $1, cpu, $4, cpu * (1 + $4)
     checks += cpu
+    edits += $4
     all += cpu * (1 + $4)
-} END { printf "%-22s %6.1f     %7.1f\n", "~all", checks, all }' | sort -k4,4 -rn
+} END { printf "%-22s %6.1f %3d %7.1f\n", "together", checks, edits, all }' | sort -k4,4 -rn
