@@ -1,5 +1,5 @@
--- Blocks read one after another into lent lists: `Laws.Follows` of t2_read_block says that this is t800's reading, where that ends without a
--- refusal, and that the refusal is the same.
+-- Blocks read one after another into lent lists: `Laws.Follows` of t2_read_block says that this is t800's reading, where that ends
+-- without a refusal, and that the refusal is the same.
 use Prim.Native.Nat.{ℕ, _+_, _-_, _*_, _%_, _^_}
 use mathlib.Core.Bool.{cond}
 use mathlib.Core.List.{List, [], _∷_, reverse}

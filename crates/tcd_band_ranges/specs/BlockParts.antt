@@ -5,7 +5,7 @@ use mathlib.Core.Bool.{Bool, cond, _&&_, _||_}
 use lib.Dec.{leb, eqb}
 use Rattle.tcd_band_ranges.specs.declared.Limits.{Limits}
 use Rattle.t800.specs.Segments.{firstLimit, nextLimit}
-use Rattle.t800.specs.State.{writer, role, style, layer}
+use Rattle.t800.specs.State.{writer}
 
 -- length bits b of a block with p passes
 unfoldable pub lengthBitsInRange : ℕ → ℕ → Bool

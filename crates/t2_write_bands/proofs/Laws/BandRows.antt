@@ -3,21 +3,19 @@ use mathlib.Core.Path.{_≡_, refl, sym, ap, _∙_, subst}
 use mathlib.Core.List.{List, [], _∷_, _++_}
 use Prim.Native.Nat.{ℕ, zero, suc, _+_, _-_, _*_, _<_}
 use native.Mathlib.Omega.{arith}
-use lib.ListN.{length, getD, drop}
+use lib.ListN.{getD, drop}
 use Rattle.t800.specs.declared.Band.{Band}
-use Rattle.t800.specs.TagTree.{levels}
-use Rattle.t800.specs.State.{Block, bandNodes, blocksFrom}
+use Rattle.t800.specs.State.{Block, bandNodes}
 use Rattle.t800.specs.WriteHeader.{isNew, lengthBitsBefore, codeInclusion, codeZeroPlanes, codePasses, codeBlock}
 use Rattle.bio_bytes.specs.Writing.{FreeBitsClear}
-use Rattle.tcd_laws.specs.Geometry.{padded}
-use Rattle.tgt.specs.Path.{rowOver}
 use Rattle.tcd_places.specs.declared.Place.{Place}
 use Rattle.t2_write_block.specs.Runs.{Running, codeNext, codeAll, AllFit}
 use Rattle.t2_write_block.proofs.Laws.Rows.{next-clear, next-keeps, all-still-fit}
-use Rattle.tcd_places.specs.Places.{BandIn, blockIn, gridOf, placeAt, rowBlocks, rowPlace}
+use Rattle.tcd_places.specs.Places.{BandIn, blockIn, placeAt, rowBlocks}
 use Rattle.tcd_places.proofs.Laws.Before.{AllBlocks, BlockBefore, From}
 use Rattle.tcd_places.proofs.Laws.BandBlocks.{from-before, blocks-from}
-use Rattle.tcd_places.proofs.Laws.BandRows.{row-is, row-counts, split-row}
+use Rattle.tcd_places.proofs.Laws.BandRows.{row-counts, split-row}
+use Rattle.t2_write_new_blocks.proofs.Laws.BandRows.{place, row, first, left, is-row}
 
 -- ---- blocks in two parts
 
@@ -82,46 +80,32 @@ module _ (p : Place) (row : List ℕ) (planes : ℕ) (cs ls ms : List ℕ) where
 -- ---- the rows of a band
 
 module _ (size start : ℕ) (b : Band) (h : BandIn size start b) (y : ℕ) (l : y < b .down) where
-  abbrev place : Place
-  place = rowPlace (gridOf start b) y
-
-  abbrev row : List ℕ
-  row = rowOver (padded (levels (b .across) (b .down))) (length (levels (b .across) (b .down))) y
-
-  abbrev first : List Block
-  first = blocksFrom start b (b .across) (y * b .across + 0)
-
-  abbrev left : ℕ → List Block
-  left z = blocksFrom start b (b .across * (b .down - z)) (z * b .across)
-
-  is-row : rowBlocks place row (b .planes) (b .across) 0 ≡ first
-  is-row = row-is size start b h y l (b .across) 0 (omega arith)
-
-  module _ (t : ℕ) (cs ls ms : List ℕ) (s : Running) (f : AllFit cs ls ms (s .words) (left y) (s .block) (s .pass)) where
-    parts-fit : AllFit cs ls ms (s .words) (first ++ left (y + 1)) (s .block) (s .pass)
+  module _ (t : ℕ) (cs ls ms : List ℕ) (s : Running) (f : AllFit cs ls ms (s .words) (left start b y) (s .block) (s .pass)) where
+    parts-fit : AllFit cs ls ms (s .words) (first start b y ++ left start b (y + 1)) (s .block) (s .pass)
     parts-fit = subst (λ (ks : List Block). AllFit cs ls ms (s .words) ks (s .block) (s .pass)) (split-row size start b h y l) f
 
-    pub row-fits : AllFit cs ls ms (s .words) (rowBlocks place row 0 (b .across) 0) (s .block) (s .pass)
+    pub row-fits : AllFit cs ls ms (s .words) (rowBlocks (place start b y) (row start b y) 0 (b .across) 0) (s .block) (s .pass)
     row-fits =
-        fits-planes place row (b .planes) cs ls ms (s .words) (b .across) 0 (s .block) (s .pass)
-        (subst (λ (ks : List Block). AllFit cs ls ms (s .words) ks (s .block) (s .pass)) (sym is-row)
-        (first-fit cs ls ms (s .words) first (left (y + 1)) (s .block) (s .pass) parts-fit))
+        fits-planes (place start b y) (row start b y) (b .planes) cs ls ms (s .words) (b .across) 0 (s .block) (s .pass)
+        (subst (λ (ks : List Block). AllFit cs ls ms (s .words) ks (s .block) (s .pass)) (sym (is-row size start b h y l))
+        (first-fit cs ls ms (s .words) (first start b y) (left start b (y + 1)) (s .block) (s .pass) parts-fit))
 
-    module _ (u : Running) (e : u ≡ codeAll t cs ls ms (rowBlocks place row 0 (b .across) 0) s) where
-      is-first : u ≡ codeAll t cs ls ms first s
-      is-first = e ∙ codes-planes place row (b .planes) cs ls ms t (b .across) 0 s
-          ∙ ap (λ (ks : List Block). codeAll t cs ls ms ks s) is-row
+    module _ (u : Running) (e : u ≡ codeAll t cs ls ms (rowBlocks (place start b y) (row start b y) 0 (b .across) 0) s) where
+      is-first : u ≡ codeAll t cs ls ms (first start b y) s
+      is-first = e ∙ codes-planes (place start b y) (row start b y) (b .planes) cs ls ms t (b .across) 0 s
+          ∙ ap (λ (ks : List Block). codeAll t cs ls ms ks s) (is-row size start b h y l)
 
-      pub left-fit : AllFit cs ls ms (u .words) (left (y + 1)) (u .block) (u .pass)
+      pub left-fit : AllFit cs ls ms (u .words) (left start b (y + 1)) (u .block) (u .pass)
       left-fit =
           let q : ℕ = start + 6 * bandNodes b + 4 * ((y + 1) * b .across) in
-          let k : AllBlocks (BlockBefore q) first =
+          let k : AllBlocks (BlockBefore q) (first start b y) =
           from-before q start b (b .across) (y * b .across + 0) (omega (arith, row-counts size start b h y l)) (omega arith) in
-          subst (λ (v : Running). AllFit cs ls ms (v .words) (left (y + 1)) (v .block) (v .pass)) (sym is-first)
-          (still-fit-after q t cs ls ms first (left (y + 1)) s k (blocks-from q start b _ ((y + 1) * b .across) (omega arith)) parts-fit)
+          subst (λ (v : Running). AllFit cs ls ms (v .words) (left start b (y + 1)) (v .block) (v .pass)) (sym is-first)
+          (still-fit-after q t cs ls ms (first start b y) (left start b (y + 1)) s k
+          (blocks-from q start b _ ((y + 1) * b .across) (omega arith)) parts-fit)
 
-      pub left-coded : codeAll t cs ls ms (left (y + 1)) u ≡ codeAll t cs ls ms (left y) s
+      pub left-coded : codeAll t cs ls ms (left start b (y + 1)) u ≡ codeAll t cs ls ms (left start b y) s
       left-coded =
-          ap (codeAll t cs ls ms (left (y + 1))) is-first
+          ap (codeAll t cs ls ms (left start b (y + 1))) is-first
           ∙ sym (ap (λ (ks : List Block). codeAll t cs ls ms ks s) (split-row size start b h y l)
-          ∙ code-append t cs ls ms first (left (y + 1)) s)
+          ∙ code-append t cs ls ms (first start b y) (left start b (y + 1)) s)

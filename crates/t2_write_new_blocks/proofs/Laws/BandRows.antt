@@ -42,31 +42,33 @@ module _ (p : Place) (row : List ℕ) (planes : ℕ) (cs : List ℕ) where
 
 -- ---- the rows of a band
 
-module _ (size start : ℕ) (b : Band) (h : BandIn size start b) (y : ℕ) (l : y < b .down) where
-  abbrev place : Place
+-- row y of a band whose words begin at `start`: its place, the first node of each level, its blocks, and those of the rows from it on
+module _ (start : ℕ) (b : Band) (y : ℕ) where
+  abbrev pub place : Place
   place = rowPlace (gridOf start b) y
 
-  abbrev row : List ℕ
+  abbrev pub row : List ℕ
   row = rowOver (padded (levels (b .across) (b .down))) (length (levels (b .across) (b .down))) y
 
-  abbrev first : List Block
+  abbrev pub first : List Block
   first = blocksFrom start b (b .across) (y * b .across + 0)
 
-  abbrev left : ℕ → List Block
-  left z = blocksFrom start b (b .across * (b .down - z)) (z * b .across)
+  abbrev pub left : List Block
+  left = blocksFrom start b (b .across * (b .down - y)) (y * b .across)
 
-  is-row : rowBlocks place row (b .planes) (b .across) 0 ≡ first
+module _ (size start : ℕ) (b : Band) (h : BandIn size start b) (y : ℕ) (l : y < b .down) where
+  pub is-row : rowBlocks (place start b y) (row start b y) (b .planes) (b .across) 0 ≡ (first start b y)
   is-row = row-is size start b h y l (b .across) 0 (omega arith)
 
   pub left-set : (t : ℕ) (cs : List ℕ) (i : ℕ) (ws vs : List ℕ) → vs
-      ≡ setAll t cs (rowBlocks place row 0 (b .across) 0) (i + y * b .across) ws
-      → setAll t cs (left (y + 1)) (i + (y + 1) * b .across) vs ≡ setAll t cs (left y) (i + y * b .across) ws
+      ≡ setAll t cs (rowBlocks (place start b y) (row start b y) 0 (b .across) 0) (i + y * b .across) ws
+      → setAll t cs (left start b (y + 1)) (i + (y + 1) * b .across) vs ≡ setAll t cs (left start b y) (i + y * b .across) ws
   left-set t cs i ws vs e =
       let c : i + (y + 1) * b .across
-      ≡ i + y * b .across + length first = omega (arith, length-from start b (b .across) (y * b .across + 0)) in
-      let g : vs ≡ setAll t cs first (i + y * b .across) ws =
-      e ∙ sets-planes place row (b .planes) cs t (b .across) 0 (i + y * b .across) ws
+      ≡ i + y * b .across + length (first start b y) = omega (arith, length-from start b (b .across) (y * b .across + 0)) in
+      let g : vs ≡ setAll t cs (first start b y) (i + y * b .across) ws =
+      e ∙ sets-planes (place start b y) (row start b y) (b .planes) cs t (b .across) 0 (i + y * b .across) ws
       ∙ ap (λ (ks : List Block). setAll t cs ks (i + y * b .across) ws) is-row in
-      (λ j. setAll t cs (left (y + 1)) (c j) (g j))
+      (λ j. setAll t cs (left start b (y + 1)) (c j) (g j))
       ∙ sym (ap (λ (ks : List Block). setAll t cs ks (i + y * b .across) ws) (split-row size start b h y l)
-      ∙ set-append t cs first (left (y + 1)) (i + y * b .across) ws)
+      ∙ set-append t cs (first start b y) (left start b (y + 1)) (i + y * b .across) ws)
