@@ -139,7 +139,7 @@ header-number src room ws b =
     (record { one-of = refl })
     (λ vs c r l h. same-number r _ refl h)
     (λ a r h. same-number r _ refl h)
-    (λ a r h. same-number r _ refl h)
+    (λ a r e g h. same-number r _ refl h)
     ws b (record { one-of = refl })
 
 -- its number is that of the check that holds

@@ -5,10 +5,10 @@ ghost use lib.ListN.{set, getD};
 ghost use Rattle.t800.specs.Reports.{recordWidth};
 ghost use Rattle.t2_records.specs.Segments.{segmentAt, filled};
 use t800::RECORD_WIDTH;
-use t800::Segment;
+use t800::SegmentRecord;
 
 // A record is stored where there is room for it.
-pub fn put_segment(records: &mut [Segment], at: usize, s: Segment)
+pub fn put_segment(records: &mut [SegmentRecord], at: usize, s: SegmentRecord)
     ensures { λ _. ⌜ now (records .exit) ≡ set (now (records .entry)) at s ⌝ }
 {
     if at < records.len() {
@@ -30,10 +30,10 @@ fn word(words: &[u32], i: usize, k: usize) -> u32
     0
 }
 
-pub fn segment_at(words: &[u32], i: usize) -> Segment
+pub fn segment_at(words: &[u32], i: usize) -> SegmentRecord
     ensures { λ r. ⌜ r ≡ segmentAt (now (words .entry)) i ⌝ }
 {
-    Segment {
+    SegmentRecord {
         block: word(words, i, 0),
         opens: word(words, i, 1),
         passes: word(words, i, 2),
@@ -42,7 +42,7 @@ pub fn segment_at(words: &[u32], i: usize) -> Segment
 }
 
 // The first n records are stored from the numbers.
-pub fn fill(records: &mut [Segment], words: &[u32], n: usize)
+pub fn fill(records: &mut [SegmentRecord], words: &[u32], n: usize)
     ensures { λ _. ⌜ now (records .exit) ≡ filled (now (words .entry)) n (now (records .entry)) ⌝ }
 {
     let mut i = 0;

@@ -15,14 +15,15 @@ use Rattle.t800.specs.Base.{overwrite, wiped}
 use Rattle.t800.specs.Bits.{Decoded, bioAt, getBit}
 use Rattle.t800.specs.State.{reader, notYetIncluded, layer, bands, blocks}
 use Rattle.t800.specs.Ranges.{validState}
-use Rattle.t800.specs.Reports.{SegmentRecord, recordWords, reportWidth, recordWidth}
+use Rattle.t800.specs.declared.SegmentRecord.{SegmentRecord}
+use Rattle.t800.specs.Reports.{recordWords, reportWidth, recordWidth}
 use Rattle.t800.specs.MarkerSegments.{readSop}
 use Rattle.t800.specs.ReadHeader.{HeaderRead, readHeader}
 use Rattle.t800.specs.Packet.{ReadResult, refusedAnswer, readRefusal, readAbsent, readPresent, read, readResult}
 use Rattle.t800_laws.proofs.Laws.Tests.{if-true, if-false, either}
 use Rattle.t800_laws.proofs.Laws.Lists.{record-words-length}
 use Rattle.round_trip.proofs.Numbers.{header-number}
-use Rattle.t800.specs.declared.Segment.{Segment}
+use Rattle.t800.specs.declared.SegmentRecord.{SegmentRecord}
 use Rattle.t800.specs.Exports.{wordsOf, readWords, ReadExit, readExit, workRefusal, readCall}
 use Rattle.t2_records.specs.Segments.{segmentAt, filled}
 use Rattle.t2_read_numbers.specs.Reading.{readNumbers, toFill}
@@ -32,7 +33,7 @@ use Rattle.t2_read_numbers.proofs.Numbers.{numbers-refused, numbers-read}
 
 -- ---- what is stored, case by case
 
-module _ (rs : List Segment) where
+module _ (rs : List SegmentRecord) where
   none-stored : (ws : List ℕ) → wordsOf (filled ws 0 rs) ≡ wordsOf rs
   none-stored ws = ap wordsOf (stored-none (segmentAt ws) rs)
 
@@ -135,11 +136,11 @@ module _ (ws scratch : List ℕ) (m : Markers) (src reports : List ℕ) where
   -- ---- the read
 
   -- the result with the records that are stored from its work list
-  abbrev restored : List Segment → ReadResult → ReadResult
+  abbrev restored : List SegmentRecord → ReadResult → ReadResult
   restored rs z = readResult (z .state) (z .scratch) (z .reports)
       (wordsOf (filled (z .records) (toFill (z .answer) (length rs)) rs)) (z .answer)
 
-  module _ (xs : List ℕ) (rs : List Segment) (as-long : length xs ≡ 4 * length rs) where
+  module _ (xs : List ℕ) (rs : List SegmentRecord) (as-long : length xs ≡ 4 * length rs) where
     abbrev n : ℕ
     n = length xs / 4
 
@@ -207,7 +208,7 @@ module _ (ws scratch : List ℕ) (m : Markers) (src reports work : List ℕ) (ro
 
 -- ---- what the three calls of `tonkelvi_read` give together
 
-module _ (ws scratch : List ℕ) (m : Markers) (src reports work : List ℕ) (records : List Segment) (answer : List ℕ) where
+module _ (ws scratch : List ℕ) (m : Markers) (src reports work : List ℕ) (records : List SegmentRecord) (answer : List ℕ) where
   -- the call's result with the records that are stored from its work list
   abbrev filledOf : NumbersCall → ReadExit
   filledOf z = record {
@@ -247,14 +248,14 @@ module _ (ws scratch : List ℕ) (m : Markers) (src reports work : List ℕ) (re
       (none-stored records work)
       ∙ sym (if-false (eqb (length answer) 5) _ _ t)
 
-  pub filled-is-call : (z₀ z₁ z₃ z₄ z₆ : List ℕ) (a : ReadAnswer) (us : List Segment) (k : ℕ)
+  pub filled-is-call : (z₀ z₁ z₃ z₄ z₆ : List ℕ) (a : ReadAnswer) (us : List SegmentRecord) (k : ℕ)
       → record { result = readResult z₀ z₁ z₃ z₄ a; answer = z₆ }
       ≡ numbersCall ws scratch m src reports work (length records) answer → length z₄ ≡ length work → k
       ≡ toFill a (length records) → us ≡ filled z₄ k records
       → record { refusal = a .refusal; state = z₀; scratch = z₁; reports = z₃; work = z₄; records = wordsOf us; answer = z₆ }
       ≡ readCall ws scratch m src reports work records answer
   filled-is-call z₀ z₁ z₃ z₄ z₆ a us k e l f g =
-      ap (λ (y : List Segment).
+      ap (λ (y : List SegmentRecord).
       record { refusal = a .refusal; state = z₀; scratch = z₁; reports = z₃; work = z₄; records = wordsOf y; answer = z₆ })
       (g ∙ ap (λ (j : ℕ). filled z₄ j records) f)
       ∙ by-lists (eqb (length answer) 5) (eqb (length work) (4 * length records)) refl refl

@@ -13,7 +13,8 @@ use Rattle.t800.specs.declared.Bio.{Bio}
 use Rattle.t800.specs.TagTree.{Coded, value, codePath, readPath}
 use Rattle.t800.specs.PassCount.{passBits, readPasses}
 use Rattle.t800.specs.Segments.{Segment, segmentsOf, increment, commaBits, lengthFields, readComma}
-use Rattle.t800.specs.Reports.{BlockReport, SegmentRecord, absent}
+use Rattle.t800.specs.declared.SegmentRecord.{SegmentRecord}
+use Rattle.t800.specs.Reports.{BlockReport, absent}
 use Rattle.t800.specs.State.{Block, notYetIncluded, notYetPlanes, passesSoFar}
 use Rattle.t800.specs.WriteHeader.{isNew, lengthBitsBefore, codeInclusion, codeZeroPlanes, codePasses, codeBlock}
 use Rattle.t800.specs.ReadHeader.{HeaderRead, readSegments, readZeroPlanesFrom, readZeroPlanes, firstReport, againReport}

@@ -11,7 +11,8 @@ use Rattle.t800.specs.declared.Bio.{Bio}
 use Rattle.t800.specs.Base.{any, sum}
 use Rattle.t800.specs.TagTree.{Coded}
 use Rattle.t800.specs.Segments.{segmentsOf}
-use Rattle.t800.specs.Reports.{BlockReport, SegmentRecord}
+use Rattle.t800.specs.declared.SegmentRecord.{SegmentRecord}
+use Rattle.t800.specs.Reports.{BlockReport}
 use Rattle.t800.specs.State.{Block, notYetIncluded, passesSoFar}
 use Rattle.t800.specs.WriteHeader.{codeBlock, codeBlocks, fieldTooWide}
 use Rattle.t800.specs.ReadHeader.{HeaderRead, readBlock, readBlocks}

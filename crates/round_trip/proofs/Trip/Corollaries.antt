@@ -14,7 +14,8 @@ use lib.Ieee.Fits.{and-l, and-r}
 use borrow.Author.Tests.{le-ltb, eq-eqb}
 use Rattle.t800.specs.declared.Band.{Band}
 use Rattle.t800.specs.Base.{sum, overwrite}
-use Rattle.t800.specs.Reports.{BlockReport, SegmentRecord, reportWords, recordWords, reportWidth, recordWidth}
+use Rattle.t800.specs.declared.SegmentRecord.{SegmentRecord}
+use Rattle.t800.specs.Reports.{BlockReport, reportWords, recordWords, reportWidth, recordWidth}
 use Rattle.t800.specs.State.{blocks, writer, reader}
 use Rattle.t800.specs.Start.{startRefusal, start}
 use Rattle.t800.specs.Book.{BlockEntry, Entry, reportOf, entryFrom, entry, newBook, addCounts, terminatedAsStyle}

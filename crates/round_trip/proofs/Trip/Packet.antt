@@ -15,7 +15,8 @@ use Rattle.t800.specs.declared.Bio.{Bio}
 use Rattle.t800.specs.declared.Markers.{Markers}
 use Rattle.t800.specs.Base.{overwrite}
 use Rattle.t800.specs.Bits.{bioAt, pack, endsInFF, bytesTaken}
-use Rattle.t800.specs.Reports.{BlockReport, SegmentRecord, reportWords, recordWords, recordWidth}
+use Rattle.t800.specs.declared.SegmentRecord.{SegmentRecord}
+use Rattle.t800.specs.Reports.{BlockReport, reportWords, recordWords, recordWidth}
 use Rattle.t800.specs.State.{Block, notYetIncluded, blocks, bands, layer}
 use Rattle.t800.specs.WriteHeader.{Contribution}
 use Rattle.t800.specs.ReadHeader.{HeaderRead, readBlocks, readHeader}

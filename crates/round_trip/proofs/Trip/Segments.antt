@@ -16,7 +16,8 @@ use Rattle.t800.specs.declared.Bio.{Bio}
 use Rattle.t800.specs.Base.{any}
 use Rattle.t800.specs.Bits.{bitsOf}
 use Rattle.t800.specs.Segments.{Segment, termAll, bypass, firstLimit, nextLimit, segmentsFrom, segmentsOf, width, lengthFields}
-use Rattle.t800.specs.Reports.{BlockReport, SegmentRecord}
+use Rattle.t800.specs.declared.SegmentRecord.{SegmentRecord}
+use Rattle.t800.specs.Reports.{BlockReport}
 use Rattle.t800.specs.State.{Block}
 use Rattle.t800.specs.ReadHeader.{HeaderRead, opensSegment, currentLimit, currentPasses, passesTaken, readSegment, readSegments}
 use Rattle.t800.specs.Book.{opensAt, recordsFrom, recordsOf, terminatedAt}

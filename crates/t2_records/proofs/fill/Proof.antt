@@ -52,10 +52,10 @@ use denote.Triple.Walked.{goes-none-slice, Walks, ends-at, walked, walk-meets}
 use denote.Exit.{yes}
 use Rattle.t2_records.specs.Segments.{segmentAt, filled}
 use Rattle.t2_records.proofs.Stored.{stored-none, stored-turn, stored-length}
-use Rattle.t800.specs.declared.Segment.{Segment}
+use Rattle.t800.specs.declared.SegmentRecord.{SegmentRecord}
 use Rattle.t2_records.proofs.Lent.{LentAgain, lends-again, comes-back}
-use Rattle.t800.proofs.Segment as T
-use Rattle.t800.proofs.Segment.Laws as T′
+use Rattle.t800.proofs.SegmentRecord as T
+use Rattle.t800.proofs.SegmentRecord.Laws as T′
 use Rattle.t2_records.proofs.segment_at as g
 use Rattle.t2_records.proofs.segment_at.Symbol as g-def
 use Rattle.t2_records.proofs.segment_at.Symbol.{name as #g}
@@ -98,12 +98,12 @@ abbrev lentRef : Ty
 lentRef = tyRef erased mut (pointee (R .written))
 
 module _ {M : Type 1} (𝓤 : URA M) (H : Heap 𝓤) (A : Atoms 𝓤) (W : Given 𝓤 H A) (at-mem : Memory → SProp 𝓤) (run : Routine → Fun 𝓤)
-    (κ κ′ : Lft) (q q′ : Share) (b o : ℕ) (γ : GName) (ys : List Segment) (w : RefT (List ℕ)) (n : ℕ) (gn : Room R (length ys))
+    (κ κ′ : Lft) (q q′ : Share) (b o : ℕ) (γ : GName) (ys : List SegmentRecord) (w : RefT (List ℕ)) (n : ℕ) (gn : Room R (length ys))
     (fits : n < 2 ^ 64) where
   abbrev Arg : Type 0
-  Arg = RefT (List Segment) × (RefT (List ℕ) × (ℕ × Unit {0}))
+  Arg = RefT (List SegmentRecord) × (RefT (List ℕ) × (ℕ × Unit {0}))
 
-  abbrev ref : GName → List Segment → RefT (List Segment)
+  abbrev ref : GName → List SegmentRecord → RefT (List SegmentRecord)
   ref δ zs = record { ptr = (b, o); name = δ; now = zs }
 
   abbrev x : Arg
@@ -126,17 +126,17 @@ module _ {M : Type 1} (𝓤 : URA M) (H : Heap 𝓤) (A : Atoms 𝓤) (W : Given
   Post = walkOf 𝓤 H A f.ended stayed (f.clauses 𝓤 H A at-mem run) .post y
 
   -- the records after i turns
-  abbrev done-at : ℕ → List Segment
+  abbrev done-at : ℕ → List SegmentRecord
   done-at i = filled (now w) i ys
 
   abbrev Own : Fml
   Own = ShrSlice (named 1) κ′ u32 .own w (v ∷ [])
 
-  abbrev own-at : Lft → GName → List Segment → Fml
+  abbrev own-at : Lft → GName → List SegmentRecord → Fml
   own-at λ′ δ zs = MutSlice (named 0) λ′ R .own (ref δ zs) (s ∷ [])
 
   -- the records come back from a call
-  back : (α : ℕ) (δ : GName) (zs zs′ : List Segment) → length zs ≡ length ys → length zs′ ≡ length zs
+  back : (α : ℕ) (δ : GName) (zs zs′ : List SegmentRecord) → length zs ≡ length ys → length zs′ ≡ length zs
       → ent 𝓤 (sep 𝓤 (A .dead (α ∷ [])) (sep 𝓤 (sem 𝓤 H A (LentAgain R κ (α ∷ []) q γ b o δ zs)) (sem 𝓤 H A (finally R δ zs′))))
       (H .⇛ (sep 𝓤 (sem 𝓤 H A (own-at κ γ zs′)) (A .lft κ q)))
   back α δ zs zs′ e l =
@@ -152,15 +152,15 @@ module _ {M : Type 1} (𝓤 : URA M) (H : Heap 𝓤) (A : Atoms 𝓤) (W : Given
       qed W ((‵ (flft κ′ q′) ⊛ ‵ ftrue) ∷ ‵ Own ∷ []) ∵ nothing ! $ owned ! usize (Is usize) (uint-makes 𝓤 H A W w64) i _ (refl, gi)
       $ fjoin ! $ move ! (2 ∷ 0 ∷ []) $ fjoin ! $ move ! (1 ∷ 0 ∷ []) $ join ! $ nothing ! $ move ! (1 ∷ 0 ∷ []) $ done !
 
-  seg-said : (i : ℕ) (r : Segment)
+  seg-said : (i : ℕ) (r : SegmentRecord)
       → ent 𝓤 (ensured 𝓤 H A g.ended (g.clauses 𝓤 H A at-mem run) (κ′, tt) (w, (i, tt)) tt r) (fact 𝓤 (r ≡ segmentAt (now w) i))
   seg-said i r = exE 𝓤 _ (λ ws. snd∗ 𝓤 (sem 𝓤 H A (lasts g.ended (κ′, tt) (w, (i, tt)) ws)) (fact 𝓤 (r ≡ segmentAt (now w) i)))
 
   -- the call of `put_segment`, with the records lent for α under δ
-  abbrev to-put : ℕ → GName → List Segment → ℕ → Segment → Val → Put 𝓤 H A at-mem run .Ghost
+  abbrev to-put : ℕ → GName → List SegmentRecord → ℕ → SegmentRecord → Val → Put 𝓤 H A at-mem run .Ghost
   to-put α δ zs i r u = (((α ∷ [], tt), (fullShare, tt), tt, (ref δ zs, (i, (r, tt))), (s ∷ [], (vint w64 i ∷ [], (u ∷ [], tt)))), tt)
 
-  goes-put : (α : ℕ) (δ : GName) (zs : List Segment) (i : ℕ) (r : Segment) (u : Val) → i < 2 ^ 64
+  goes-put : (α : ℕ) (δ : GName) (zs : List SegmentRecord) (i : ℕ) (r : SegmentRecord) (u : Val) → i < 2 ^ 64
       → ent 𝓤 (⋆ 𝓤 H A ((‵ (flft (α ∷ []) fullShare) ⊛ ‵ ftrue) ∷ ‵ (own-at (α ∷ []) δ zs) ∷ ‵ (R .own r (u ∷ [])) ∷ []))
       (Put 𝓤 H A at-mem run .pre (to-put α δ zs i r u))
   goes-put α δ zs i r u gi =
@@ -245,7 +245,7 @@ module _ {M : Type 1} (𝓤 : URA M) (H : Heap 𝓤) (A : Atoms 𝓤) (W : Given
           (and-then ! (load ! (from ! (stop !)) (look ! 14 refl)) (no-more !))) (λ u.
           use1 W
           (later
-          (some (λ (r : Segment). ((‵ (flft κ′ q′) ⊛ ‵ ftrue) ⊛ ‵ (R .own r (u ∷ []))) ⊛ raw
+          (some (λ (r : SegmentRecord). ((‵ (flft κ′ q′) ⊛ ‵ ftrue) ⊛ ‵ (R .own r (u ∷ []))) ⊛ raw
           (ensured 𝓤 H A g.ended (g.clauses 𝓤 H A at-mem run) (κ′, tt) (w, (i, tt)) tt r)))) (id⊢ 𝓤 _) $ await ! tt $ pick ! (λ r.
           split ! $ move ! (1 ∷ []) $ use1 W (raw (fact 𝓤 (r ≡ segmentAt (now w) i))) (seg-said i r) $ heard !
           (r ≡ segmentAt (now w) i) (λ e. split ! $ move ! (1 ∷ []) $ peeks ! R (Is R) (shows 𝓤 H A R) r (u ∷ []) (λ is.
@@ -277,7 +277,7 @@ module _ {M : Type 1} (𝓤 : URA M) (H : Heap 𝓤) (A : Atoms 𝓤) (W : Given
           (ensured 𝓤 H A p.ended (p.clauses 𝓤 H A at-mem run) (α ∷ [], tt) (ref δ (done-at i), (i, (r, tt))) tt r′)))) (id⊢ 𝓤 _) $
           await ! tt $ pick ! (λ r′.
           split ! $ move ! (1 ∷ []) $ use1 W
-          (some (λ (ws : List Segment × (Unit {0} × (Unit {0} × Unit {0}))). ‵
+          (some (λ (ws : List SegmentRecord × (Unit {0} × (Unit {0} × Unit {0}))). ‵
           (lasts p.ended (α ∷ [], tt) (ref δ (done-at i), (i, (r, tt))) ws) ⊛ raw (fact 𝓤 (ws .0 ≡ set (done-at i) i r)))) (id⊢ 𝓤 _)
           $ pick ! (λ ws.
           split ! $ move ! (1 ∷ []) $ heard ! (ws .0 ≡ set (done-at i) i r)
@@ -287,7 +287,7 @@ module _ {M : Type 1} (𝓤 : URA M) (H : Heap 𝓤) (A : Atoms 𝓤) (W : Given
           land ! (from ! (stop !)) (init ! 10 refl (subst (λ (k : Val). Holds (hasTy tyUnit k) × WT k) (sym (ap only eu)) (tt, tt))) $
           split ! $ lft-end ! tt $ move ! (0 ∷ 4 ∷ 2 ∷ []) $ use3 W (later (‵ (own-at κ γ (ws .0)) ⊛ ‵ (flft κ q)))
           (back α δ (done-at i) (ws .0) (stored-length (segmentAt (now w)) i ys) l) $ await ! tt $ split ! $
-          rewrite ! 0 (λ (zs : List Segment). ‵ (own-at κ γ zs))
+          rewrite ! 0 (λ (zs : List SegmentRecord). ‵ (own-at κ γ zs))
           (e′ ∙ ap (set (done-at i) i) e ∙ stored-turn (segmentAt (now w)) i ys ∙ ap done-at next) refl $
           -- [the records; their token; true; …; the numbers' token; the numbers; _9 (6); …; _8 (8); …; _7 (10); …; _6 (12); …; _5
           -- (14); …; _4 (16); …]
@@ -319,7 +319,7 @@ module _ {M : Type 1} (𝓤 : URA M) (H : Heap 𝓤) (A : Atoms 𝓤) (W : Given
         -- [_9; …; _8; …; _7; …; _6; …; _5; …; _4 (10); …; _3; …; _2; …; _1; …; room for _0; …; the tokens (20); what the parameters
         -- own (21)]
         rewrite ! 10 (λ (j : ℕ). ‵ (fat fullShare word l₄ 0 (vint w64 j))) start refl $
-        move ! (21 ∷ []) $ fsplit ! $ rewrite ! 0 (λ (zs : List Segment). ‵ (own-at κ γ zs))
+        move ! (21 ∷ []) $ fsplit ! $ rewrite ! 0 (λ (zs : List SegmentRecord). ‵ (own-at κ γ zs))
         (sym (stored-none (segmentAt (now w)) ys) ∙ ap done-at start) refl $ move ! (1 ∷ []) $ fsplit ! $
         -- [the numbers; …; the records; _9 (3); …; the tokens (23)]
         move ! (23 ∷ []) $ split ! $ move ! (1 ∷ []) $ split ! $ use0 W (raw (fact 𝓤 (n ≤ n))) (factI 𝓤 (n ≤ n) (emp 𝓤) (omega arith)) $
