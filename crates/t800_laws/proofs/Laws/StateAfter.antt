@@ -65,7 +65,7 @@ unfolding stateLength
 has-first-words ws n h = rw (h .long) (end-after 13 (bands ws))
 
 -- a read whose state gives neither 5 nor 6
-read-in-range : (ws scratch reports : List ℕ) → readRefusal ws scratch reports ≡ 0
+pub read-in-range : (ws scratch reports : List ℕ) → readRefusal ws scratch reports ≡ 0
     → (validState reader ws (length scratch) ≡ true) × (layer ws ≢ notYetIncluded)
 unfolding readRefusal
 read-in-range ws scratch reports e =
