@@ -15,6 +15,7 @@ pub mod LeastZeroPlanes
 pub mod ReadValues
 pub mod HeaderSteps
 pub mod Starts
+pub mod Book
 pub mod WordCounts
 pub mod StateAfter
 pub mod ManyZeroPlanes

@@ -35,7 +35,7 @@ unfolding bodyBytes
 bytes-one a = add-zero (a .bytes)
 
 -- the first record starts behind n bytes, each other one behind those before it
-pub StartsFrom : (n : ℕ) → List SegmentRecord → Type 0
+unfoldable pub StartsFrom : (n : ℕ) → List SegmentRecord → Type 0
 StartsFrom n [] = Unit {0}
 StartsFrom n (r ∷ rs) = (r .start ≡ n) × StartsFrom (n + r .bytes) rs
 
@@ -44,6 +44,13 @@ pub one-more : (n : ℕ) (rs : List SegmentRecord) (a : SegmentRecord) → Start
 unfolding StartsFrom bodyBytes
 one-more n [] a h e = (e ∙ add-zero n, tt)
 one-more n (r ∷ rs) a h e = (h .0, one-more (n + r .bytes) rs a (h .1) (omega (arith, e)))
+
+pub starts-append : (n : ℕ) (rs ss : List SegmentRecord) → StartsFrom n rs → StartsFrom (n + bodyBytes rs) ss → StartsFrom n (rs ++ ss)
+unfolding StartsFrom bodyBytes
+starts-append n [] ss h g = subst (λ (m : ℕ). StartsFrom m ss) (add-zero n) g
+starts-append n (r ∷ rs) ss h g =
+    let e : n + (r .bytes + bodyBytes rs) ≡ n + r .bytes + bodyBytes rs = omega arith in
+    (h .0, starts-append (n + r .bytes) rs ss (h .1) (subst (λ (m : ℕ). StartsFrom m ss) e g))
 
 sum-before : (n : ℕ) (before : List SegmentRecord) (r : SegmentRecord) (after : List SegmentRecord) → StartsFrom n (before ++ r ∷ after)
     → r .start ≡ n + bodyBytes before
