@@ -1,7 +1,9 @@
 -- Segment records stored from numbers, four to a record, each beginning where the one before it ends.
+use mathlib.Core.Bool.{cond}
 use mathlib.Core.List.{List}
-use Prim.Native.Nat.{ℕ, zero, suc, _+_, _*_, _%_, _^_}
-use lib.ListN.{getD, set}
+use Prim.Native.Nat.{ℕ, zero, suc, _+_, _*_, _/_, _%_, _^_}
+use lib.ListN.{length, getD, set}
+use lib.Dec.{ltb}
 use Rattle.t800.specs.declared.SegmentRecord.{SegmentRecord}
 use Rattle.t800.specs.Reports.{recordWidth, noRecord}
 
@@ -9,13 +11,15 @@ use Rattle.t800.specs.Reports.{recordWidth, noRecord}
 unfoldable pub segmentAfter : List ℕ → ℕ → SegmentRecord → SegmentRecord
 segmentAfter ws i last =
     let at = i * recordWidth in
-    record {
-      block = getD ws (at + 0) 0;
+    let start = (last .start + last .bytes) % 2 ^ 64 in
+    let there : SegmentRecord = record {
+      block = getD ws at 0;
       opens = getD ws (at + 1) 0;
       passes = getD ws (at + 2) 0;
       bytes = getD ws (at + 3) 0;
-      start = (last .start + last .bytes) % 2 ^ 64;
-    }
+      start = start;
+    } in
+    cond (ltb i (length ws / recordWidth)) there (record { block = 0; opens = 0; passes = 0; bytes = 0; start = start })
 
 -- the last of the first i records
 unfoldable pub lastOf : List ℕ → ℕ → SegmentRecord

@@ -1,8 +1,7 @@
 // The caller's list of segment records as structs, written one record at a time from numbers.
 ghost use mathlib.Core.Path.{_≡_};
-ghost use Prim.Native.Nat.{_≤_, _+_, _*_};
-ghost use lib.ListN.{set, getD};
-ghost use Rattle.t800.specs.Reports.{recordWidth, noRecord};
+ghost use lib.ListN.{set};
+ghost use Rattle.t800.specs.Reports.{noRecord};
 ghost use Rattle.t2_records.specs.Segments.{segmentAfter, filled};
 use t800::RECORD_WIDTH;
 use t800::SegmentRecord;
@@ -14,20 +13,6 @@ pub fn put_segment(records: &mut [SegmentRecord], at: usize, s: SegmentRecord)
     if at < records.len() {
         records[at] = s;
     }
-}
-
-// Word k of record i, and 0 past the end.
-fn word(words: &[u32], i: usize, k: usize) -> u32
-    requires { ⌜ k ≤ 3 ⌝ }
-    ensures { λ r. ⌜ r ≡ getD (now (words .entry)) (i * recordWidth + k) 0 ⌝ }
-{
-    if i < words.len() {
-        let at = i * RECORD_WIDTH + k;
-        if at < words.len() {
-            return words[at];
-        }
-    }
-    0
 }
 
 // A record of zeros.
@@ -43,16 +28,28 @@ pub fn no_segment() -> SegmentRecord
     }
 }
 
-// Record i of the numbers, whose bytes begin where those of the last one end. The sum wraps in a list that no read leaves.
+// Record i of the numbers, and zeros past the end; its bytes begin where those of the last one end. The sum wraps in a list that no read
+// leaves.
 pub fn segment_after(words: &[u32], i: usize, last: SegmentRecord) -> SegmentRecord
     ensures { λ r. ⌜ r ≡ segmentAfter (now (words .entry)) i last ⌝ }
 {
+    let start = std::num::wrapping_add_u64(last.start, last.bytes as u64);
+    if i < words.len() / RECORD_WIDTH {
+        let at = i * RECORD_WIDTH;
+        return SegmentRecord {
+            block: words[at],
+            opens: words[at + 1],
+            passes: words[at + 2],
+            bytes: words[at + 3],
+            start,
+        };
+    }
     SegmentRecord {
-        block: word(words, i, 0),
-        opens: word(words, i, 1),
-        passes: word(words, i, 2),
-        bytes: word(words, i, 3),
-        start: std::num::wrapping_add_u64(last.start, last.bytes as u64),
+        block: 0,
+        opens: 0,
+        passes: 0,
+        bytes: 0,
+        start,
     }
 }
 

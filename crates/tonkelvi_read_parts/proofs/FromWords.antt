@@ -2,12 +2,14 @@
 -- than 2^64 in all.
 use mathlib.Core.Path.{_≡_, refl, sym, ap, _∙_}
 use mathlib.Core.List.{List, [], _∷_, _++_, append-nil}
-use Prim.Native.Nat.{ℕ, zero, suc, _+_, _*_, _%_, _^_, _≤_, _<_}
+use Prim.Native.Nat.{ℕ, zero, suc, _+_, _*_, _/_, _%_, _^_, _≤_, _<_}
+use native.Mathlib.Nat.{add-zero}
 use native.Mathlib.Omega.{arith}
 use lib.ListN.{length, getD, drop, replicate, length-append, length-replicate, drop-of-length-le}
 use Rattle.t800.specs.declared.SegmentRecord.{SegmentRecord}
 use Rattle.t800.specs.Base.{overwrite, wiped}
 use Rattle.t800.specs.Reports.{recordWords, bodyBytes, noRecord}
+use Rattle.t800_laws.proofs.Laws.Tests.{if-lt}
 use Rattle.t800_laws.proofs.Laws.Lists.{record-words-length}
 use Rattle.t800_laws.proofs.Laws.Starts.{StartsFrom}
 use Rattle.t2_records.specs.Segments.{segmentAfter, lastOf, filled}
@@ -62,13 +64,17 @@ module _ (fs : List SegmentRecord) (tail : List ℕ) (starts : StartsFrom 0 fs) 
   after-last : (i : ℕ) (last : SegmentRecord) → i < length fs → (last .start + last .bytes) % 2 ^ 64 ≡ getD fs i noRecord .start
       → segmentAfter ws i last ≡ getD fs i noRecord
   unfolding segmentAfter
-  after-last i last l e = λ j. record {
-    block = words-at fs tail i 0 l (omega arith) j;
-    opens = words-at fs tail i 1 l (omega arith) j;
-    passes = words-at fs tail i 2 l (omega arith) j;
-    bytes = words-at fs tail i 3 l (omega arith) j;
-    start = e j;
-  }
+  after-last i last l e =
+      let first : getD ws (i * 4) 0 ≡ getD fs i noRecord .block =
+      ap (λ (j : ℕ). getD ws j 0) (sym (add-zero (i * 4))) ∙ words-at fs tail i 0 l (omega arith) in
+      if-lt i (length ws / 4) _ _ (omega (arith, length-append (recordWords fs) tail, record-words-length fs))
+      ∙ (λ j. record {
+        block = first j;
+        opens = words-at fs tail i 1 l (omega arith) j;
+        passes = words-at fs tail i 2 l (omega arith) j;
+        bytes = words-at fs tail i 3 l (omega arith) j;
+        start = e j;
+      })
 
   record-is : (i : ℕ) → i < length fs → recordAt ws i ≡ getD fs i noRecord
   unfolding lastOf
