@@ -16,7 +16,7 @@ fn one_block(planes: u32, block: u32, style: u8) -> Shape {
 
 impl Trials {
     pub fn new(seed: u64) -> Trials {
-        Trials { pair: Pair::default(), random: Random::new(seed) }
+        Trials { pair: Pair::new(seed), random: Random::new(seed) }
     }
 
     fn until(&mut self, calls: u64, trial: impl Fn(&mut Trials)) {
