@@ -11,6 +11,7 @@ use Rattle.t800.specs.declared.Bio.{Bio}
 use Rattle.t800.specs.Refusals.{Check, firstOf}
 use Rattle.t800.specs.Start.{StartResult, startRefusal}
 use Rattle.t800.specs.Start.{start}
+use Rattle.t800.specs.Reports.{RecordForm}
 use Rattle.t800.specs.ReadHeader.{HeaderRead}
 use Rattle.t800.specs.ReadHeader.{readHeader}
 use Rattle.t800.specs.Packet.{MeasureResult, measureRefusal, measure, WriteResult, writeRefusal, write, ReadResult, readListChecks}
@@ -139,7 +140,7 @@ header-number src room ws b =
     (record { one-of = refl })
     (λ vs c r l h. same-number r _ refl h)
     (λ a r h. same-number r _ refl h)
-    (λ a r h. same-number r _ refl h)
+    (λ a r e g h. same-number r _ refl h)
     ws b (record { one-of = refl })
 
 -- its number is that of the check that holds
@@ -159,7 +160,7 @@ of-header h true e =
         last true e = refl
         last false e = e
 
-module _ (ws : List ℕ) (c : ReadCall) where
+module _ (form : RecordForm) (ws : List ℕ) (c : ReadCall form) where
   abbrev early : ℕ
   early = readRefusal ws (c .scratch) (c .reports)
 
@@ -167,13 +168,13 @@ module _ (ws : List ℕ) (c : ReadCall) where
   first = firstBit (c .markers) (c .input) .value
 
   abbrev header : HeaderRead
-  header = headerOf ws (c .markers) (c .input) (c .records)
+  header = headerOf ws (c .markers) (c .input) (form .room (c .records))
 
-  read-why : readOf ws c .answer .refusal ≡ cond (not (eqb early 0)) early (cond (not (eqb first 0)) (header .refusal) 0)
+  read-why : readOf form ws c .answer .refusal ≡ cond (not (eqb early 0)) early (cond (not (eqb first 0)) (header .refusal) 0)
   unfolding read readAbsent readPresent
   read-why = number (not (eqb early 0)) (eqb first 0) (eqb (header .refusal) 0) refl _ _ _ _ refl refl refl refl
     where
-      number : (refused absent done : Bool) → eqb (header .refusal) 0 ≡ done → (a b c d : ReadResult) → a .answer .refusal ≡ early
+      number : (refused absent done : Bool) → eqb (header .refusal) 0 ≡ done → (a b c d : ReadResult form) → a .answer .refusal ≡ early
           → b .answer .refusal ≡ 0 → c .answer .refusal ≡ 0 → d .answer .refusal ≡ header .refusal
           → cond refused a (cond absent b (cond done c d)) .answer .refusal ≡ cond refused early (cond (not absent) (header .refusal) 0)
       number true absent done e a b c d p q s t = p
@@ -181,7 +182,7 @@ module _ (ws : List ℕ) (c : ReadCall) where
       number false false true e a b c d p q s t = s ∙ sym (eqb-true (header .refusal) 0 e)
       number false false false e a b c d p q s t = t
 
-  read-number : readOf ws c .answer .refusal ≡ firstOf (readChecksOf ws c)
+  read-number : readOf form ws c .answer .refusal ≡ firstOf (readChecksOf form ws c)
   unfolding readRefusal
   read-number =
       let present : Bool = not (eqb first 0) in
@@ -190,8 +191,8 @@ module _ (ws : List ℕ) (c : ReadCall) where
       (sym (of-header (header .refusal) present (header-number (c .input) _ ws _ .one-of)))
       ∙ sym (first-append (headerChecks present (header .refusal)) (readListChecks ws (c .scratch) (c .reports)) (omega arith))
 
-  read-stays : readOf ws c .answer .refusal ≢ 0 → readOf ws c .state ≡ ws
-  read-stays = refused-read-leaves-state ws (c .scratch) (c .markers) (c .input) (c .reports) (c .records)
+  read-stays : readOf form ws c .answer .refusal ≢ 0 → readOf form ws c .state ≡ ws
+  read-stays = refused-read-leaves-state form ws (c .scratch) (c .markers) (c .input) (c .reports) (c .records)
 
 -- ---- of one kind of call in an interface
 
@@ -227,7 +228,9 @@ numbers I = (
     stays-of (I .writes) (λ (z : WriteResult). z .answer .refusal) (λ (z : WriteResult). z .state) write-stays (λ ws c why. refl) m,
   )),
   (λ m. (
-    number-of (I .reads) (λ (z : ReadResult). z .answer .refusal) readChecksOf (λ ws c. omega arith) read-number m,
-    stays-of (I .reads) (λ (z : ReadResult). z .answer .refusal) (λ (z : ReadResult). z .state) read-stays (λ ws c why. refl) m,
+    number-of (I .reads) (λ (z : ReadResult (I .form)). z .answer .refusal) (readChecksOf (I .form)) (λ ws c. omega arith)
+        (read-number (I .form)) m,
+    stays-of (I .reads) (λ (z : ReadResult (I .form)). z .answer .refusal) (λ (z : ReadResult (I .form)). z .state) (read-stays (I .form))
+        (λ ws c why. refl) m,
   )),
 )

@@ -12,6 +12,7 @@ use Rattle.t800.specs.declared.ReadAnswer.{ReadAnswer}
 use Rattle.t800.specs.Base.{sum}
 use Rattle.t800.specs.State.{writer, reader, blocks, stateLength}
 use Rattle.t800.specs.Start.{freshState, StartResult, start}
+use Rattle.t800.specs.Reports.{asWords}
 use Rattle.t800.specs.Packet.{WriteResult, write, ReadResult, readResult, refusedAnswer, read}
 use Rattle.t800.specs.Book.{terminatedAsStyle}
 use Rattle.t800.specs.RoundTrip.{Owed, GivesEntry, written, packetMade, accepted, Follows, owed, allTerminatedAsStyle}
@@ -37,10 +38,10 @@ module _ (l : FirstLayer) (b : Lent) (s : StartResult)
   abbrev packetFrom : StartResult → WriteResult
   packetFrom z = write (z .state) (b .scratch) (l .contribution) (l .body) (l .markers) (l .number) (b .output)
 
-  abbrev readFrom : StartResult → WriteResult → ReadResult
+  abbrev readFrom : StartResult → WriteResult → ReadResult asWords
   readFrom t p = read (t .state) (p .scratch) (l .markers) (p .output) (b .reports) (b .records)
 
-  by-results : (t : StartResult) (p : WriteResult) (q : ReadResult) → t ≡ readerStart → p ≡ packetFrom s → q ≡ readFrom t p
+  by-results : (t : StartResult) (p : WriteResult) (q : ReadResult asWords) → t ≡ readerStart → p ≡ packetFrom s → q ≡ readFrom t p
       → layerBy b s t p q ≡ writeAndRead l b
   unfolding writeAndRead
   by-results t p q tm pm qm =
@@ -76,7 +77,7 @@ module _ (l : FirstLayer) (b : Lent) (s : StartResult)
           ∙ if-true (not (eqb (p .answer .refusal) 0)) _ _ (ap not (ne-eqb (p .answer .refusal) 0 n)))
           ∙ by-results t p (readFrom t p) tm pm refl
 
-      pub ends-read : (q : ReadResult) → q ≡ readFrom t p → p .answer .refusal ≡ 0
+      pub ends-read : (q : ReadResult asWords) → q ≡ readFrom t p → p .answer .refusal ≡ 0
           → layerResult (q .answer) (p .state) (q .state) (q .scratch) (p .output) (q .reports) (q .records) ≡ writeAndRead l b
       unfolding layerBy
       ends-read q qm x =
@@ -99,7 +100,7 @@ module _ (l : FirstLayer) (b : Lent) (h : Premises l b) where
   abbrev readerStart′ : StartResult
   readerStart′ = start reader (l .count) (l .bands) (l .style) [] (b .reader)
 
-  abbrev result : ReadResult
+  abbrev result : ReadResult asWords
   result = read (readerStart′ .state) (writeOfLayer l b .scratch) (l .markers) (writeOfLayer l b .output) (b .reports) (b .records)
 
   -- nothing refuses the four calls
@@ -181,4 +182,4 @@ pub layer-read-back : LayerReadBack
 unfolding LayerReadBack
 layer-read-back l b h =
     subst (λ (z : LayerResult). GivesEntry (owedOf l b) (readCallOf l b)
-    (readResult (z .reader) (z .scratch) (z .reports) (z .records) (z .answer))) (sym (whole l b h)) (gives-entry l b h)
+    (readResult asWords (z .reader) (z .scratch) (z .reports) (z .records) (z .answer))) (sym (whole l b h)) (gives-entry l b h)

@@ -11,7 +11,7 @@ use Rattle.t800.specs.declared.ReadAnswer.{ReadAnswer}
 use Rattle.t800.specs.Base.{Words, Bytes}
 use Rattle.t800.specs.State.{writer, reader}
 use Rattle.t800.specs.Start.{StartResult, start}
-use Rattle.t800.specs.Reports.{reportWidth, recordWidth}
+use Rattle.t800.specs.Reports.{reportWidth, recordWidth, asWords}
 use Rattle.t800.specs.WriteHeader.{Contribution}
 use Rattle.t800.specs.Packet.{WriteResult, write, ReadResult, readResult, refusedAnswer, read}
 use Rattle.t800.specs.Book.{BlockEntry, newBook, terminatedAsStyle}
@@ -69,7 +69,7 @@ layerResult answer w r scratch output reports records =
     record { answer = answer; writer = w; reader = r; scratch = scratch; output = output; reports = reports; records = records }
 
 -- by the results of both starts, the write and the read: the first that is refused ends it, with its number
-unfoldable pub layerBy : Lent → StartResult → StartResult → WriteResult → ReadResult → LayerResult
+unfoldable pub layerBy : Lent → StartResult → StartResult → WriteResult → ReadResult asWords → LayerResult
 layerBy b s t p q =
     cond (not (eqb (s .answer) 0))
     (layerResult (refusedAnswer (s .answer)) (s .state) (b .reader) (b .scratch) (b .output) (b .reports) (b .records))
@@ -84,7 +84,7 @@ writeAndRead l b =
     let s = start writer (l .count) (l .bands) (l .style) (l .planes) (b .writer) in
     let t = start reader (l .count) (l .bands) (l .style) [] (b .reader) in
     let p = write (s .state) (b .scratch) (l .contribution) (l .body) (l .markers) (l .number) (b .output) in
-    layerBy b s t p (read (t .state) (p .scratch) (l .markers) (p .output) (b .reports) (b .records))
+    layerBy b s t p (read asWords (t .state) (p .scratch) (l .markers) (p .output) (b .reports) (b .records))
 
 -- ---- the round trip of one layer
 
@@ -125,4 +125,4 @@ LayerReadBack =
     (l : FirstLayer) (b : Lent)
     → Premises l b
     → let z = writeAndRead l b in
-    GivesEntry (owedOf l b) (readCallOf l b) (readResult (z .reader) (z .scratch) (z .reports) (z .records) (z .answer))
+    GivesEntry (owedOf l b) (readCallOf l b) (readResult asWords (z .reader) (z .scratch) (z .reports) (z .records) (z .answer))

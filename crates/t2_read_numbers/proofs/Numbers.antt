@@ -14,7 +14,7 @@ use Rattle.t800.specs.State.{reader, layer, notYetIncluded}
 use Rattle.t800.specs.Ranges.{validState}
 use Rattle.t800.specs.Packet.{read}
 use Rattle.t800_laws.proofs.Laws.Tests.{on-eq}
-use Rattle.t800.specs.Reports.{recordWidth}
+use Rattle.t800.specs.Reports.{recordWidth, asWords}
 use Rattle.t800.specs.Exports.{workRefusal}
 use Rattle.t2_read_numbers.specs.Reading.{wrongWork, readNumbers, toFill}
 
@@ -53,7 +53,7 @@ module _ (ws scratch : List ℕ) (m : Markers) (src reports work : List ℕ) (ro
   numbers-refused e = rw e
 
   pub numbers-read : eqb (length work) (recordWidth * room) ≡ true → readNumbers ws scratch m src reports work room
-      ≡ read ws scratch m src reports work
+      ≡ read asWords ws scratch m src reports work
   unfolding readNumbers
   numbers-read e = rw e
 

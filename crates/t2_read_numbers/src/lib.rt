@@ -3,7 +3,7 @@ ghost use mathlib.Core.Path.{_≡_};
 ghost use Prim.Native.Nat.{_*_};
 ghost use lib.Dec.{eqb};
 ghost use Rattle.t800.specs.Packet.{readResult};
-ghost use Rattle.t800.specs.Reports.{recordWidth};
+ghost use Rattle.t800.specs.Reports.{recordWidth, asWords};
 ghost use Rattle.t800.specs.Exports.{workRefusal};
 ghost use Rattle.t2_read_numbers.specs.Reading.{readNumbers, toFill};
 use t800::Markers;
@@ -44,7 +44,7 @@ pub fn read_numbers(
     work: &mut [u32],
     room: usize,
 ) -> ReadAnswer
-    ensures { λ r. ⌜ readResult (now (state .exit)) (now (scratch .exit)) (now (reports .exit)) (now (work .exit)) r
+    ensures { λ r. ⌜ readResult asWords (now (state .exit)) (now (scratch .exit)) (now (reports .exit)) (now (work .exit)) r
         ≡ readNumbers (now (state .entry)) (now (scratch .entry)) markers (now (src .entry)) (now (reports .entry))
         (now (work .entry)) room ⌝ }
 {

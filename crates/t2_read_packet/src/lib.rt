@@ -1,5 +1,6 @@
 // Reading one packet (t2.rs): turned away, or by its first bit, after SOP, absent or present.
 ghost use mathlib.Core.Path.{_≡_};
+ghost use Rattle.t800.specs.Reports.{asWords};
 ghost use Rattle.t800.specs.Packet.{read, readResult};
 use t800::Markers;
 use t800::ReadAnswer;
@@ -14,8 +15,8 @@ pub fn read(
     reports: &mut [u32],
     records: &mut [u32],
 ) -> ReadAnswer
-    ensures { λ r. ⌜ readResult (now (state .exit)) (now (scratch .exit)) (now (reports .exit)) (now (records .exit)) r
-        ≡ read (now (state .entry)) (now (scratch .entry)) m (now (src .entry)) (now (reports .entry)) (now (records .entry)) ⌝ }
+    ensures { λ r. ⌜ readResult asWords (now (state .exit)) (now (scratch .exit)) (now (reports .exit)) (now (records .exit)) r
+        ≡ read asWords (now (state .entry)) (now (scratch .entry)) m (now (src .entry)) (now (reports .entry)) (now (records .entry)) ⌝ }
 {
     let why = t2_read_refusals::read_refusal(state, scratch, reports);
     if why != 0 {

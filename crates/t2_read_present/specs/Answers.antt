@@ -7,13 +7,14 @@ use Rattle.t800.specs.declared.Markers.{Markers}
 use Rattle.t800.specs.Base.{wiped}
 use Rattle.t800.specs.MarkerSegments.{MarkerRead}
 use Rattle.t800.specs.ReadHeader.{HeaderRead}
+use Rattle.t800.specs.Reports.{asWords}
 use Rattle.t800.specs.Packet.{ReadResult, refusedAnswer, readPresent}
 
 -- a first bit 1, and the header read, or refused
-unfoldable pub presentOrBroken : List ℕ → List ℕ → Markers → List ℕ → List ℕ → List ℕ → MarkerRead → HeaderRead → ReadResult
+unfoldable pub presentOrBroken : List ℕ → List ℕ → Markers → List ℕ → List ℕ → List ℕ → MarkerRead → HeaderRead → ReadResult asWords
 presentOrBroken ws scratch m src reports records s r =
-    let present = readPresent ws m src records s r in
-    let broken : ReadResult =
+    let present = readPresent asWords ws m src records s r in
+    let broken : ReadResult asWords =
     record {
       answer = refusedAnswer (r .refusal);
       state = ws;

@@ -14,7 +14,7 @@ use t2_read_marks::MarkerFound;
 use t800::Bio;
 use t800::Markers;
 use t800::ReadAnswer;
-ghost use Rattle.t800.specs.Reports.{reportWidth, recordWidth};
+ghost use Rattle.t800.specs.Reports.{reportWidth, recordWidth, asWords};
 
 // A first bit 1.
 pub fn read_present(
@@ -29,7 +29,7 @@ pub fn read_present(
 ) -> ReadAnswer
     requires { ⌜ (validState reader (now state) (length (now scratch)) ≡ true) × (layer (now state) < notYetIncluded)
         × (length (now reports) ≡ reportWidth * length (blocks (bands (now state)))) × (BitsIn (now src) b) ⌝ }
-    ensures { λ r. ⌜ readResult (now (state .exit)) (now (scratch .exit)) (now (reports .exit)) (now (records .exit)) r
+    ensures { λ r. ⌜ readResult asWords (now (state .exit)) (now (scratch .exit)) (now (reports .exit)) (now (records .exit)) r
         ≡ presentOrBroken (now (state .entry)) (now (scratch .entry)) m (now (src .entry)) (now (reports .entry))
         (now (records .entry)) (markerRead s)
         (readHeader (now (src .entry)) (length (now (records .entry)) / recordWidth) (now (state .entry)) b) ⌝ }

@@ -6,6 +6,7 @@ ghost use lib.ListN.{length, set};
 ghost use Rattle.t800.specs.Base.{wiped};
 ghost use Rattle.t800.specs.State.{reader, layer, notYetIncluded};
 ghost use Rattle.t800.specs.Ranges.{validState};
+ghost use Rattle.t800.specs.Reports.{asWords};
 ghost use Rattle.t800.specs.Packet.{readAbsent, readResult};
 ghost use Rattle.t2_read_marks.specs.Marks.{markerRead};
 ghost use Rattle.t2_read_settle.specs.Results.{WithAnyRecords};
@@ -26,8 +27,8 @@ pub fn read_absent(
 ) -> ReadAnswer
     requires { ⌜ (validState reader (now state) (length (now scratch)) ≡ true) × (layer (now state) < notYetIncluded)
         × (b .bp ≤ length (now src) + 1) ⌝ }
-    ensures { λ r. ⌜ WithAnyRecords (λ records. readResult (now (state .exit)) (now (scratch .exit)) (now (reports .exit)) records r)
-        (λ records. readAbsent (now (state .entry)) m (now (src .entry)) (now (reports .entry)) records (markerRead s) b) ⌝ }
+    ensures { λ r. ⌜ WithAnyRecords (λ records. readResult asWords (now (state .exit)) (now (scratch .exit)) (now (reports .exit)) records r)
+        (λ records. readAbsent asWords (now (state .entry)) m (now (src .entry)) (now (reports .entry)) records (markerRead s) b) ⌝ }
 {
     let next = state[3] + 1;
     state[3] = next;

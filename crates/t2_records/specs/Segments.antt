@@ -1,20 +1,31 @@
--- Segment records stored from numbers, four to a record.
+-- Segment records stored from numbers, four to a record, each beginning where the one before it ends.
 use mathlib.Core.List.{List}
-use Prim.Native.Nat.{ℕ, zero, suc, _+_, _*_}
+use Prim.Native.Nat.{ℕ, zero, suc, _+_, _*_, _%_, _^_}
 use lib.ListN.{getD, set}
-use Rattle.t800.specs.declared.Segment.{Segment}
-use Rattle.t800.specs.Reports.{recordWidth}
+use Rattle.t800.specs.declared.SegmentRecord.{SegmentRecord}
+use Rattle.t800.specs.Reports.{recordWidth, noRecord}
 
--- record i of the numbers; past the end they are 0
-unfoldable pub segmentAt : List ℕ → ℕ → Segment
-segmentAt ws i =
+-- record i of the numbers, after this one; past the end the numbers are 0
+unfoldable pub segmentAfter : List ℕ → ℕ → SegmentRecord → SegmentRecord
+segmentAfter ws i last =
     let at = i * recordWidth in
-    record { block = getD ws (at + 0) 0; opens = getD ws (at + 1) 0; passes = getD ws (at + 2) 0; bytes = getD ws (at + 3) 0 }
+    record {
+      block = getD ws (at + 0) 0;
+      opens = getD ws (at + 1) 0;
+      passes = getD ws (at + 2) 0;
+      bytes = getD ws (at + 3) 0;
+      start = (last .start + last .bytes) % 2 ^ 64;
+    }
+
+-- the last of the first i records
+unfoldable pub lastOf : List ℕ → ℕ → SegmentRecord
+lastOf ws zero = noRecord
+lastOf ws (suc i) = segmentAfter ws i (lastOf ws i)
 
 -- records f 0, f 1, .. stored at the first n places, in order
-unfoldable pub stored : (ℕ → Segment) → ℕ → List Segment → List Segment
+unfoldable pub stored : (ℕ → SegmentRecord) → ℕ → List SegmentRecord → List SegmentRecord
 stored f zero rs = rs
 stored f (suc n) rs = set (stored f n rs) n (f n)
 
-abbrev pub filled : List ℕ → ℕ → List Segment → List Segment
-filled ws = stored (segmentAt ws)
+abbrev pub filled : List ℕ → ℕ → List SegmentRecord → List SegmentRecord
+filled ws = stored (λ i. segmentAfter ws i (lastOf ws i))

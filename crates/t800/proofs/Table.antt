@@ -1,14 +1,15 @@
 -- A table of calls on precincts, and what it is for a row to hold: each call is computed and compared with what the row says of it, with
 -- the rule of SCOPE S5 for every lent list, and each read of a packet that the row wrote with the book's entry. No definition rests
 -- on this.
-use Prim.Native.Nat.{ℕ, _+_}
+use Prim.Native.Nat.{ℕ, zero, suc, _+_, _/_}
 use mathlib.Core.Bool.{Bool, true, false, cond, _&&_, _||_}
 use mathlib.Core.List.{List, [], _∷_, _++_}
-use lib.ListN.{length, drop, replicate}
+use lib.ListN.{length, getD, drop, replicate}
 use lib.Dec.{leb, eqb}
 use Rattle.t800.specs.declared.Band.{Band}
 use Rattle.t800.specs.declared.Markers.{Markers}
 use Rattle.t800.specs.declared.ReadAnswer.{ReadAnswer}
+use Rattle.t800.specs.declared.SegmentRecord.{SegmentRecord}
 use Rattle.t800.specs.Base.{every, any, sum, halvings, floorLog2, overwrite, wiped}
 use Rattle.t800.specs.Bits.{bitsOf, bitsAfter, lastBytes, packFrom, pack, byteIn, heldBit, getBit, readBitsOnto, readBits}
 use Rattle.t800.specs.Bits.{inFF, endsInFF, bytesTaken}
@@ -22,7 +23,7 @@ use Rattle.t800.specs.State.{stateLength, bandAt, bands}
 use Rattle.t800.specs.Ranges.{badShape, badStyle, bandTooDeep, blockTooDeep, nodeInRange, blockInRange, bandInRange}
 use Rattle.t800.specs.Ranges.{bandsInRange, unusedBandsZero, validState}
 use Rattle.t800.specs.Start.{freshNodes, freshBlocks, freshBands, bandWords, freshState, setZeroPlanes, startRefusal, start}
-use Rattle.t800.specs.Reports.{reportWords, recordWords}
+use Rattle.t800.specs.Reports.{recordWidth, reportWords, recordWords, bodyBytes, RecordForm, asRecords, asWords}
 use Rattle.t800.specs.WriteHeader.{Contribution, isNew, lengthBitsBefore, setNewBlocks, codeInclusion, codeZeroPlanes}
 use Rattle.t800.specs.WriteHeader.{codePasses, codeBlock, codeBlocks, codeHeader, segmentTooLong, fieldTooWide}
 use Rattle.t800.specs.ReadHeader.{opensSegment, currentLimit, currentPasses, passesTaken, readSegment, readSegments}
@@ -71,8 +72,9 @@ pub data Step : Type 0 where
   writes : Writing → ℕ → List ℕ → Step
   -- the same of a packet whose body is too long to be built: measured, its header computed, and the state moved on
   heads : Writing → ℕ → List ℕ → Step
-  -- a reading call: its answer as refusal, present, taken, segments, SOP mark, EPH mark; reports; records
-  reads : Reading → List ℕ → List ℕ → List ℕ → Step
+  -- a reading call: its answer as refusal, present, taken, segments, SOP mark, EPH mark; reports; records, four words each, and
+  -- their starts
+  reads-starts : Reading → List ℕ → List ℕ → List ℕ → List ℕ → Step
 
 -- a writer and a reader that are started alike, and steps on them
 pub record Row : Type 0 where
@@ -108,6 +110,34 @@ reportsOf n = replicate n 5
 abbrev recordsLent : ℕ → List ℕ
 recordsLent n = replicate n 6
 
+-- as many structs as these words have room for
+abbrev structsLent : ℕ → List SegmentRecord
+structsLent n = replicate (n / recordWidth) (record { block = 6; opens = 6; passes = 6; bytes = 6; start = 6 })
+
+-- ---- records with their starts
+
+-- n records of these words, four each: the sums of the lengths before each
+unfoldable pub sumsFrom : (n before : ℕ) (words : List ℕ) → List ℕ
+sumsFrom zero before words = []
+sumsFrom (suc n) before words = before ∷ sumsFrom n (before + getD words 3 0) (drop recordWidth words)
+
+-- a reading call whose records start at the sums of the lengths before them
+abbrev pub reads : Reading → List ℕ → List ℕ → List ℕ → Step
+reads c answer reports records = reads-starts c answer reports records (sumsFrom (length records / recordWidth) 0 records)
+
+-- the records of these words, with these starts
+unfoldable pub recordsWith : (begins words : List ℕ) → List SegmentRecord
+recordsWith [] words = []
+recordsWith (s ∷ ss) words =
+    record { block = getD words 0 0; opens = getD words 1 0; passes = getD words 2 0; bytes = getD words 3 0; start = s }
+    ∷ recordsWith ss (drop recordWidth words)
+
+unfoldable pub fields : List SegmentRecord → List ℕ
+fields [] = []
+fields (r ∷ rs) = r .block ∷ r .opens ∷ r .passes ∷ r .bytes ∷ r .start ∷ fields rs
+
+-- ---- what a call gives
+
 unfoldable pub startHolds : Starting → ℕ → Bool
 startHolds s why =
     let lent = scratchOf (s .lent) in
@@ -134,23 +164,51 @@ writeHolds c w o why bytes =
     (o .answer .bytes) 0 in
     eqb (o .answer .refusal) why && cond (eqb why 0) done otherwise
 
-unfoldable pub readHolds : Reading → List ℕ → ReadResult → List ℕ → List ℕ → List ℕ → Bool
-readHolds c r o answer reports records =
+-- the answer and each list but the records, for either form of them
+unfoldable pub listsHold : {form : RecordForm} → Reading → List ℕ → ReadResult form → List ℕ → List ℕ → Bool
+listsHold c r o answer reports =
     let scr = scratchOf (c .scratch) in
     let rep = reportsOf (c .reports) in
-    let rec = recordsLent (c .records) in
     let why = o .answer .refusal in
     let wipes = leb 9 why in
-    let done = same (o .reports) reports && same (o .records) (overwrite rec records) && same (o .scratch) (o .state) in
+    let done = same (o .reports) reports && same (o .scratch) (o .state) in
     let otherwise =
-    same (o .reports) (cond wipes (wiped rep) rep) && same (o .records) (cond wipes (wiped rec) rec) && same (o .scratch)
-    (cond wipes (wiped scr) scr) && same (o .state) r in
+    same (o .reports) (cond wipes (wiped rep) rep) && same (o .scratch) (cond wipes (wiped scr) scr) && same (o .state) r in
     same (answerWords (o .answer)) answer && cond (eqb why 0) done otherwise
 
+-- records as words, and as structs with their starts
+unfoldable pub wordsHold : Reading → ReadResult asWords → List ℕ → Bool
+wordsHold c o records =
+    let rec = recordsLent (c .records) in
+    let why = o .answer .refusal in
+    same (o .records) (cond (eqb why 0) (overwrite rec records) (cond (leb 9 why) (wiped rec) rec))
+
+unfoldable pub structsHold : Reading → ReadResult asRecords → List SegmentRecord → Bool
+structsHold c o records =
+    let rec = structsLent (c .records) in
+    let why = o .answer .refusal in
+    let kept = cond (eqb why 0) (fields (overwrite rec records)) (fields rec) in
+    same (fields (o .records)) (cond (leb 9 why) (wiped (fields rec)) kept)
+
+unfoldable pub readWords : Reading → List ℕ → ReadResult asWords
+readWords c r =
+    read asWords r (scratchOf (c .scratch)) (c .markers) (c .input) (reportsOf (c .reports)) (recordsLent (c .records))
+
+unfoldable pub readStructs : Reading → List ℕ → ReadResult asRecords
+readStructs c r =
+    read asRecords r (scratchOf (c .scratch)) (c .markers) (c .input) (reportsOf (c .reports)) (structsLent (c .records))
+
+unfoldable pub readHolds : Reading → List ℕ → List ℕ → List ℕ → List ℕ → List ℕ → Bool
+readHolds c r answer reports records begins =
+    let o = readWords c r in
+    let p = readStructs c r in
+    listsHold c r o answer reports && wordsHold c o records && listsHold c r p answer reports && structsHold c p
+    (recordsWith begins records)
+
 -- the book's next entry, where the row wrote a packet for it
-unfoldable pub asOwed : List Entry → List ℕ → List ℕ → Bool
+unfoldable pub asOwed : List Entry → List ℕ → List SegmentRecord → Bool
 asOwed [] reports records = true
-asOwed (e ∷ es) reports records = same (reportWords (e .reports)) reports && same (recordWords (e .records)) records
+asOwed (e ∷ es) reports records = same (reportWords (e .reports)) reports && same (fields (e .records)) (fields records)
 
 -- the style; the book and the entries not yet read; the writer's words and the reader's
 unfoldable pub stepsHold : ℕ → List Step → List BlockEntry → List Entry → List ℕ → List ℕ → Bool
@@ -173,21 +231,22 @@ stepsHold style (heads c why bytes ∷ rest) book es w r =
     let next = same (front w p (c .markers) (c .number)) bytes && stepsHold style rest book es (m .scratch) r in
     let otherwise = stepsHold style rest book es w r in
     measureHolds c m why bytes (m .scratch) && cond (eqb why 0) next otherwise
-stepsHold style (reads c answer reports records ∷ rest) book es w r =
-    let o = read r (scratchOf (c .scratch)) (c .markers) (c .input) (reportsOf (c .reports)) (recordsLent (c .records)) in
-    let next = asOwed es reports records && stepsHold style rest book (drop 1 es) w (o .state) in
+stepsHold style (reads-starts c answer reports records begins ∷ rest) book es w r =
+    let o = readWords c r in
+    let next = asOwed es reports (recordsWith begins records) && stepsHold style rest book (drop 1 es) w (o .state) in
     let otherwise = stepsHold style rest book es w (o .state) in
-    readHolds c r o answer reports records && cond (eqb (o .answer .refusal) 0) next otherwise
+    readHolds c r answer reports records begins && cond (eqb (o .answer .refusal) 0) next otherwise
 
 -- `unfolding rowHolds` computes a row: it opens every definition of the base
 unfoldable pub rowHolds : Row → Bool
-unfolding same startHolds measureHolds writeHolds readHolds asOwed stepsHold every any sum halvings floorLog2 overwrite bitsOf
+unfolding same sumsFrom recordsWith fields startHolds measureHolds writeHolds listsHold wordsHold structsHold readWords readStructs
+    readHolds asOwed stepsHold every any sum halvings floorLog2 overwrite bitsOf
     bitsAfter lastBytes packFrom pack byteIn heldBit getBit readBitsOnto readBits inFF endsInFF bytesTaken levelsFrom levels nodesIn
     nodes pathFrom pathToRoot setValue lowAfter nodeBits knownAfter codePath readNode readPath passBits readPasses termAll bypass
     firstLimit nextLimit isLimit segmentsFrom segmentsOf width bitLength increment commaBits lengthFields readOnes readComma writer
     reader blocksIn bandNodes bandLength blocksFrom blocksAt endOf blocks stateLength bandAt bands badShape badStyle bandTooDeep
     blockTooDeep nodeInRange blockInRange bandInRange bandsInRange unusedBandsZero validState freshNodes freshBlocks freshBands
-    bandWords freshState setZeroPlanes startRefusal start reportWords recordWords isNew lengthBitsBefore setNewBlocks codeInclusion
+    bandWords freshState setZeroPlanes startRefusal start reportWords recordWords bodyBytes isNew lengthBitsBefore setNewBlocks codeInclusion
     codeZeroPlanes codePasses codeBlock codeBlocks codeHeader segmentTooLong fieldTooWide opensSegment currentLimit currentPasses
     passesTaken readSegment readSegments readZeroPlanesFrom readZeroPlanes firstReport againReport readIncluded readNewBlock
     readOldBlock readBlock readBlocks readHeader sopBytes ephBytes withMarkers readMarker readSop readEph wrongLists measureRefusal

@@ -40,9 +40,9 @@ unfoldable pub floorLog2 : (n : ℕ) → ℕ
 floorLog2 n = halvings n n
 
 -- xs over the front of a lent list
-unfoldable pub overwrite : (lent xs : List ℕ) → List ℕ
+unfoldable pub overwrite {ℓ} : {A : Type ℓ} → (lent xs : List A) → List A
 overwrite lent xs = xs ++ drop (length xs) lent
 
--- zeros over the whole of a lent list
+-- zeros over the whole of a lent list of numbers
 abbrev pub wiped : (lent : List ℕ) → List ℕ
 wiped lent = replicate (length lent) 0

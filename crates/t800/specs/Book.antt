@@ -7,9 +7,10 @@ use mathlib.Core.List.{List, [], _∷_, _++_}
 use lib.ListN.{take, drop}
 use lib.Dec.{leb, eqb}
 use Rattle.t800.specs.declared.Band.{Band}
-use Rattle.t800.specs.Base.{Words, Bytes}
+use Rattle.t800.specs.declared.SegmentRecord.{SegmentRecord}
+use Rattle.t800.specs.Base.{Words, Bytes, sum}
 use Rattle.t800.specs.Segments.{termAll, bypass}
-use Rattle.t800.specs.Reports.{BlockReport, SegmentRecord, absent}
+use Rattle.t800.specs.Reports.{BlockReport, absent}
 use Rattle.t800.specs.State.{blocksIn}
 
 -- Passes of a block are numbered from 0 over all layers. The first of a segment are: each one with style bit 0x04; with bit 0x01
@@ -44,36 +45,38 @@ reportOf k passes =
     (cond (eqb (k .passes) 0) (record { inclusion = 1; zeroPlanes = k .bandPlanes - k .planes; planes = k .planes; passes = passes })
     (record { inclusion = 2; zeroPlanes = 0; planes = 0; passes = passes }))
 
--- the records of one block's passes from this one on; `now` is the record being made
+-- the records of one block's passes from this one on; `now` is the record being made, behind which the next one's bytes begin
 unfoldable pub recordsFrom : (style pass : ℕ) (now : SegmentRecord) (lengths : Words) → List SegmentRecord
 recordsFrom style pass now [] = now ∷ []
 recordsFrom style pass now (len ∷ lens) =
-    let next = now ∷ recordsFrom style (pass + 1) (record { block = now .block; opens = 1; passes = 1; bytes = len }) lens in
+    let next = now ∷ recordsFrom style (pass + 1)
+    (record { block = now .block; opens = 1; passes = 1; bytes = len; start = now .start + now .bytes }) lens in
     let goesOn = recordsFrom style (pass + 1)
-    (record { block = now .block; opens = now .opens; passes = now .passes + 1; bytes = now .bytes + len }) lens in
+    (record { block = now .block; opens = now .opens; passes = now .passes + 1; bytes = now .bytes + len; start = now .start }) lens in
     cond (opensAt style pass) next goesOn
 
--- the records of block number i, whose passes in this call are those from this one on
-unfoldable pub recordsOf : (style i pass : ℕ) (lengths : Words) → List SegmentRecord
-recordsOf style i pass [] = []
-recordsOf style i pass (len ∷ lens) =
-    recordsFrom style (pass + 1) (record { block = i; opens = cond (opensAt style pass) 1 0; passes = 1; bytes = len }) lens
+-- the records of block number i, whose passes in this call are those from this one on and whose bytes begin behind `before` others
+unfoldable pub recordsOf : (style i before pass : ℕ) (lengths : Words) → List SegmentRecord
+recordsOf style i before pass [] = []
+recordsOf style i before pass (len ∷ lens) =
+    recordsFrom style (pass + 1)
+    (record { block = i; opens = cond (opensAt style pass) 1 0; passes = 1; bytes = len; start = before }) lens
 
 -- what is owed for one call
 pub record Entry : Type 0 where
   pub reports : List BlockReport
   pub records : List SegmentRecord
 
--- the blocks from number i on, with the counts and lengths that are left
-unfoldable pub entryFrom : (style i : ℕ) (book : List BlockEntry) (counts lengths : Words) → Entry
-entryFrom style i [] cs lens = record { reports = []; records = [] }
-entryFrom style i (k ∷ ks) [] lens = record { reports = []; records = [] }
-entryFrom style i (k ∷ ks) (c ∷ cs) lens =
-    let e = entryFrom style (i + 1) ks cs (drop c lens) in
-    record { reports = reportOf k c ∷ e .reports; records = recordsOf style i (k .passes) (take c lens) ++ e .records }
+-- the blocks from number i on, with the counts and lengths that are left; the blocks before them have `before` bytes in this call
+unfoldable pub entryFrom : (style i before : ℕ) (book : List BlockEntry) (counts lengths : Words) → Entry
+entryFrom style i before [] cs lens = record { reports = []; records = [] }
+entryFrom style i before (k ∷ ks) [] lens = record { reports = []; records = [] }
+entryFrom style i before (k ∷ ks) (c ∷ cs) lens =
+    let e = entryFrom style (i + 1) (before + sum (take c lens)) ks cs (drop c lens) in
+    record { reports = reportOf k c ∷ e .reports; records = recordsOf style i before (k .passes) (take c lens) ++ e .records }
 
 unfoldable pub entry : (style : ℕ) (book : List BlockEntry) (counts lengths : Words) → Entry
-entry style book counts lengths = entryFrom style 0 book counts lengths
+entry style book counts lengths = entryFrom style 0 0 book counts lengths
 
 -- then the counts are added
 unfoldable pub addCounts : (book : List BlockEntry) (counts : Words) → List BlockEntry

@@ -9,13 +9,13 @@ use lib.Dec.{eqb}
 use Rattle.t800.specs.declared.Band.{Band}
 use Rattle.t800.specs.declared.Markers.{Markers}
 use Rattle.t800.specs.declared.ReadAnswer.{ReadAnswer}
-use Rattle.t800.specs.declared.Segment.{Segment}
+use Rattle.t800.specs.declared.SegmentRecord.{SegmentRecord}
 use Rattle.t800.specs.Base.{Words, Bytes}
 use Rattle.t800.specs.Refusals.{check, firstOf, listRefusal, stateRefusal}
 use Rattle.t800.specs.State.{writer, reader, role, layer, bands, blocks, stateLength}
 use Rattle.t800.specs.Ranges.{badShape, validState}
 use Rattle.t800.specs.Start.{StartResult, start}
-use Rattle.t800.specs.Reports.{recordWidth}
+use Rattle.t800.specs.Reports.{recordWidth, asRecords, asWords}
 use Rattle.t800.specs.WriteHeader.{Contribution}
 use Rattle.t800.specs.Packet.{stateChecks, MeasureResult, measure, WriteResult, write, ReadResult, read, readResult, refusedAnswer}
 
@@ -81,25 +81,19 @@ writeCall state scratch brought body markers number output answer =
 
 -- ---- reading
 
--- the words of the structs, in the order of `recordWords`; they determine the structs
-unfoldable pub wordsOf : (records : List Segment) → Words
-wordsOf [] = []
-wordsOf (s ∷ ss) = s .block ∷ s .opens ∷ s .passes ∷ s .bytes ∷ wordsOf ss
-
--- `records`: the structs' words
 pub record ReadExit : Type 0 where
   pub refusal : ℕ
   pub state : Words
   pub scratch : Words
   pub reports : Words
   pub work : Words
-  pub records : Words
+  pub records : List SegmentRecord
   pub answer : Words
 
 abbrev pub readWords : (answer : ReadAnswer) → Words
 readWords a = a .present ∷ a .taken ∷ a .segments ∷ a .sop ∷ a .eph ∷ []
 
-abbrev pub readExit : (result : ReadResult) (work : Words) → ReadExit
+abbrev pub readExit : (result : ReadResult asRecords) (work : Words) → ReadExit
 readExit r work = record {
   refusal = r .answer .refusal;
   state = r .state;
@@ -114,20 +108,20 @@ readExit r work = record {
 unfoldable pub workRefusal : (state scratch : Words) → ℕ
 workRefusal state scratch = firstOf (stateChecks reader state (length scratch) ++ check listRefusal true ∷ [])
 
--- Packet's `read` of the structs' words. The work list holds what the same read leaves in it.
+-- Packet's `read` into the structs. The work list holds what the same read leaves in it.
 unfoldable pub readCall : (state scratch : Words) (markers : Markers) (input : Bytes) (reports work : Words)
-    (records : List Segment) (answer : Words) → ReadExit
+    (records : List SegmentRecord) (answer : Words) → ReadExit
 readCall state scratch markers input reports work records answer =
-    let words = wordsOf records in
-    let done = readExit (read state scratch markers input reports words) (read state scratch markers input reports work .records) in
-    let wrongWork = readExit (readResult state scratch reports words (refusedAnswer (workRefusal state scratch))) work in
+    let done = readExit (read asRecords state scratch markers input reports records)
+    (read asWords state scratch markers input reports work .records) in
+    let wrongWork = readExit (readResult asRecords state scratch reports records (refusedAnswer (workRefusal state scratch))) work in
     let wrongAnswer : ReadExit = record {
       refusal = listRefusal;
       state = state;
       scratch = scratch;
       reports = reports;
       work = work;
-      records = words;
+      records = records;
       answer = answer;
     } in
     cond (eqb (length answer) 5) (cond (eqb (length work) (recordWidth * length records)) done wrongWork) wrongAnswer

@@ -8,6 +8,7 @@ use Rattle.t800.specs.declared.Band.{Band}
 use Rattle.t800.specs.declared.Markers.{Markers}
 use Rattle.t800.specs.Base.{Words, Bytes}
 use Rattle.t800.specs.Start.{StartResult, start}
+use Rattle.t800.specs.Reports.{RecordForm}
 use Rattle.t800.specs.WriteHeader.{Contribution}
 use Rattle.t800.specs.Packet.{MeasureResult, measure, WriteResult, write, ReadResult, readResult, refusedAnswer, read}
 
@@ -28,12 +29,12 @@ pub record WriteCall : Type 0 where
   pub number : ℕ
   pub output : Bytes
 
-pub record ReadCall : Type 0 where
+pub record ReadCall (form : RecordForm) : Type 0 where
   pub scratch : Words
   pub markers : Markers
   pub input : Bytes
   pub reports : Words
-  pub records : Words
+  pub records : form .Lent
 
 -- ---- what the definitions give
 
@@ -46,8 +47,8 @@ measureOf state c = measure state (c .scratch) (c .contribution) (c .markers)
 abbrev pub writeOf : (state : Words) → WriteCall → WriteResult
 writeOf state c = write state (c .scratch) (c .contribution) (c .body) (c .markers) (c .number) (c .output)
 
-abbrev pub readOf : (state : Words) → ReadCall → ReadResult
-readOf state c = read state (c .scratch) (c .markers) (c .input) (c .reports) (c .records)
+abbrev pub readOf : (form : RecordForm) (state : Words) → ReadCall form → ReadResult form
+readOf form state c = read form state (c .scratch) (c .markers) (c .input) (c .reports) (c .records)
 
 -- ---- a refusal that changes no list
 
@@ -61,8 +62,8 @@ abbrev pub writeUntouched : (state : Words) → WriteCall → (why : ℕ) → Wr
 writeUntouched state c why =
     record { answer = record { refusal = why; bytes = 0 }; state = state; scratch = c .scratch; output = c .output }
 
-abbrev pub readUntouched : (state : Words) → ReadCall → (why : ℕ) → ReadResult
-readUntouched state c why = readResult state (c .scratch) (c .reports) (c .records) (refusedAnswer why)
+abbrev pub readUntouched : (form : RecordForm) (state : Words) → ReadCall form → (why : ℕ) → ReadResult form
+readUntouched form state c why = readResult form state (c .scratch) (c .reports) (c .records) (refusedAnswer why)
 
 -- ---- interfaces
 
@@ -84,4 +85,6 @@ pub record Interface : Type 1 where
   pub starts : (role : ℕ) → Calls StartCall StartResult (startOf role) startUntouched
   pub measures : Calls WriteCall MeasureResult measureOf measureUntouched
   pub writes : Calls WriteCall WriteResult writeOf writeUntouched
-  pub reads : Calls ReadCall ReadResult readOf readUntouched
+  -- the form in which its reads are lent records
+  pub form : RecordForm
+  pub reads : Calls (ReadCall form) (ReadResult form) (readOf form) (readUntouched form)

@@ -7,6 +7,7 @@ pub mod Segments
 pub mod State
 pub mod Ranges
 pub mod Start
+pub mod Starts
 pub mod Reports
 pub mod WriteHeader
 pub mod ReadHeader

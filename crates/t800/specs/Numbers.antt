@@ -6,6 +6,7 @@ use mathlib.Core.Bool.{true, false}
 use mathlib.Core.List.{List, [], _∷_, _++_}
 use Rattle.t800.specs.Base.{Words}
 use Rattle.t800.specs.Refusals.{Check}
+use Rattle.t800.specs.Reports.{RecordForm}
 use Rattle.t800.specs.Start.{startChecks}
 use Rattle.t800.specs.Packet.{measureChecks, writeChecks, readChecks}
 use Rattle.t800.specs.Interface.{StartCall, WriteCall, ReadCall, Interface}
@@ -33,8 +34,8 @@ measureChecksOf state c = measureChecks state (c .scratch) (c .contribution)
 abbrev pub writeChecksOf : (state : Words) → WriteCall → List Check
 writeChecksOf state c = writeChecks state (c .scratch) (c .contribution) (c .body) (c .markers) (c .number) (c .output)
 
-abbrev pub readChecksOf : (state : Words) → ReadCall → List Check
-readChecksOf state c = readChecks state (c .scratch) (c .markers) (c .input) (c .reports) (c .records)
+abbrev pub readChecksOf : (form : RecordForm) (state : Words) → ReadCall form → List Check
+readChecksOf form state c = readChecks state (c .scratch) (c .markers) (c .input) (c .reports) (form .room (c .records))
 
 -- ---- of every interface: the numbers, where its own lists have the length asked, and that a refused call leaves the state
 
@@ -53,5 +54,5 @@ Numbers I =
     × (I .writes .left m .answer .refusal ≢ 0 → I .writes .left m .state ≡ I .writes .found m))
     × ((m : I .reads .Made)
     → (I .reads .asked m ≡ true
-    → NumberIs (readChecksOf (I .reads .found m) (I .reads .args m)) (I .reads .left m .answer .refusal))
+    → NumberIs (readChecksOf (I .form) (I .reads .found m) (I .reads .args m)) (I .reads .left m .answer .refusal))
     × (I .reads .left m .answer .refusal ≢ 0 → I .reads .left m .state ≡ I .reads .found m))

@@ -1,6 +1,6 @@
 -- Measuring, writing and reading one packet (SCOPE S2, S4, S5 and S7): each is one
 -- function from the arguments and what the lent lists hold at entry to the answer and what they hold at exit.
-use Prim.Native.Nat.{ℕ, _+_, _*_, _/_}
+use Prim.Native.Nat.{ℕ, _+_, _*_}
 use mathlib.Core.Bool.{Bool, cond, _&&_, _||_, not}
 use mathlib.Core.List.{List, [], _∷_, _++_}
 use lib.ListN.{length, set}
@@ -16,7 +16,7 @@ use Rattle.t800.specs.Refusals.{widthRefusal, bodyRefusal, spaceRefusal,
 use Rattle.t800.specs.Bits.{Decoded, bioAt, getBit, pack, bytesTaken}
 use Rattle.t800.specs.State.{Block, notYetIncluded, writer, reader, blocks, bands, layer}
 use Rattle.t800.specs.Ranges.{validState}
-use Rattle.t800.specs.Reports.{reportWidth, recordWidth, reportWords, recordWords}
+use Rattle.t800.specs.Reports.{reportWidth, reportWords, RecordForm}
 use Rattle.t800.specs.WriteHeader.{Contribution, codeHeader, segmentTooLong, fieldTooWide}
 use Rattle.t800.specs.ReadHeader.{HeaderRead, readHeader}
 use Rattle.t800.specs.MarkerSegments.{withMarkers, MarkerRead, readSop, readEph}
@@ -125,8 +125,9 @@ readRefusal state scratch reports = firstOf (readListChecks state scratch report
 abbrev pub firstBit : Markers → (src : Bytes) → Decoded
 firstBit m src = getBit src (bioAt (readSop m src .skip))
 
-abbrev pub headerOf : (state : Words) → Markers → (src : Bytes) (records : Words) → HeaderRead
-headerOf state m src records = readHeader src (length records / recordWidth) state (firstBit m src .bio)
+-- with so many records lent
+abbrev pub headerOf : (state : Words) → Markers → (src : Bytes) (room : ℕ) → HeaderRead
+headerOf state m src room = readHeader src room state (firstBit m src .bio)
 
 -- Then of the header's bits, where the packet is present. A header gives at most one of these, which of them its bits say: 9 before 13 at
 -- each segment as it comes, 12 after all blocks.
@@ -137,28 +138,31 @@ headerChecks present why =
     ∷ check headerEndRefusal (present && eqb why headerEndRefusal)
     ∷ []
 
-abbrev pub readChecks : (state scratch : Words) → Markers → (src : Bytes) (reports records : Words) → List Check
-readChecks state scratch m src reports records =
+abbrev pub readChecks : (state scratch : Words) → Markers → (src : Bytes) (reports : Words) (room : ℕ) → List Check
+readChecks state scratch m src reports room =
     readListChecks state scratch reports
-    ++ headerChecks (not (eqb (firstBit m src .value) 0)) (headerOf state m src records .refusal)
+    ++ headerChecks (not (eqb (firstBit m src .value) 0)) (headerOf state m src room .refusal)
 
-pub record ReadResult : Type 0 where
+-- the records are lent in either form
+pub record ReadResult (form : RecordForm) : Type 0 where
   pub answer : ReadAnswer
   pub state : Words
   pub scratch : Words
   pub reports : Words
-  pub records : Words
+  pub records : form .Lent
 
-abbrev pub readResult : (state scratch reports records : Words) (answer : ReadAnswer) → ReadResult
-readResult state scratch reports records answer =
+abbrev pub readResult : (form : RecordForm) (state scratch reports : Words) (records : form .Lent) (answer : ReadAnswer)
+    → ReadResult form
+readResult form state scratch reports records answer =
     record { answer = answer; state = state; scratch = scratch; reports = reports; records = records }
 
 abbrev pub refusedAnswer : (why : ℕ) → ReadAnswer
 refusedAnswer why = record { refusal = why; present = 0; taken = 0; segments = 0; sop = 0; eph = 0 }
 
 -- a first bit 0, the bits standing at b after it: the packet is absent, and only the next layer moves
-unfoldable pub readAbsent : (state : Words) → Markers → (src : Bytes) (reports records : Words) (sop : MarkerRead) (b : Bio) → ReadResult
-readAbsent state m src reports records sop b =
+unfoldable pub readAbsent : (form : RecordForm) (state : Words) → Markers → (src : Bytes) (reports : Words) (records : form .Lent)
+    (sop : MarkerRead) (b : Bio) → ReadResult form
+readAbsent form state m src reports records sop b =
     let at = bytesTaken src b in
     let eph = readEph m src at in
     let after = set state 3 (layer state + 1) in
@@ -171,8 +175,9 @@ readAbsent state m src reports records sop b =
     }
 
 -- a first bit 1, and the header read without a refusal
-unfoldable pub readPresent : (state : Words) → Markers → (src : Bytes) (records : Words) (sop : MarkerRead) → HeaderRead → ReadResult
-readPresent state m src records sop r =
+unfoldable pub readPresent : (form : RecordForm) (state : Words) → Markers → (src : Bytes) (records : form .Lent) (sop : MarkerRead)
+    → HeaderRead → ReadResult form
+readPresent form state m src records sop r =
     let at = bytesTaken src (r .bio) in
     let eph = readEph m src at in
     let after = set (r .words) 3 (layer state + 1) in
@@ -182,25 +187,26 @@ readPresent state m src records sop r =
       state = after;
       scratch = after;
       reports = reportWords (r .reports);
-      records = overwrite records (recordWords (r .records));
+      records = form .stored records (r .records);
     }
 
-unfoldable pub read : (state scratch : Words) → Markers → (src : Bytes) (reports records : Words) → ReadResult
-read state scratch m src reports records =
+unfoldable pub read : (form : RecordForm) (state scratch : Words) → Markers → (src : Bytes) (reports : Words) (records : form .Lent)
+    → ReadResult form
+read form state scratch m src reports records =
     let why = readRefusal state scratch reports in
     let sop = readSop m src in
     let first = firstBit m src in
-    let r = headerOf state m src records in
-    let absent = readAbsent state m src reports records sop (first .bio) in
-    let present = readPresent state m src records sop r in
-    let broken : ReadResult =
+    let r = headerOf state m src (form .room records) in
+    let absent = readAbsent form state m src reports records sop (first .bio) in
+    let present = readPresent form state m src records sop r in
+    let broken : ReadResult form =
     record {
       answer = refusedAnswer (r .refusal);
       state = state;
       scratch = wiped scratch;
       reports = wiped reports;
-      records = wiped records;
+      records = form .cleared records;
     } in
-    let unchanged : ReadResult =
+    let unchanged : ReadResult form =
     record { answer = refusedAnswer why; state = state; scratch = scratch; reports = reports; records = records } in
     cond (not (eqb why 0)) unchanged (cond (eqb (first .value) 0) absent (cond (eqb (r .refusal) 0) present broken))

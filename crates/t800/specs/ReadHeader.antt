@@ -6,13 +6,14 @@ use mathlib.Core.List.{List, [], _∷_, _++_, reverse}
 use lib.ListN.{length, set}
 use lib.Dec.{ltb, leb, eqb}
 use Rattle.t800.specs.declared.Bio.{Bio}
+use Rattle.t800.specs.declared.SegmentRecord.{SegmentRecord}
 use Rattle.t800.specs.Base.{Words, Bytes}
 use Rattle.t800.specs.Refusals.{widthRefusal, headerEndRefusal, recordsRefusal}
 use Rattle.t800.specs.Bits.{bioAt, getBit, readBits, endsInFF}
 use Rattle.t800.specs.TagTree.{PathRead, value, readPath}
 use Rattle.t800.specs.PassCount.{readPasses}
 use Rattle.t800.specs.Segments.{width, firstLimit, nextLimit, readComma}
-use Rattle.t800.specs.Reports.{BlockReport, SegmentRecord, absent}
+use Rattle.t800.specs.Reports.{BlockReport, absent, bodyBytes}
 use Rattle.t800.specs.State.{Block, notYetPlanes, blocks, bands, style, layer, passesSoFar, lengthBits, segmentLimit, segmentPasses}
 use Rattle.t800.specs.WriteHeader.{isNew, lengthBitsBefore}
 
@@ -58,13 +59,19 @@ passesTaken state k left = min (currentLimit state k - currentPasses state k) le
 
 -- ---- below, `room` is the number of records lent, and i the block's number
 
--- 9 before 13, else its length
+-- 9 before 13, else its length; the packet's body bytes before it are those of the segments before it
 unfoldable pub readSegment : (src : Bytes) (room i : ℕ) → Block → (passes : ℕ) → HeaderRead → HeaderRead
 readSegment src room i k passes r =
     let state = r .words in
     let w = width (lengthBits state (k .at)) passes in
     let len = readBits src w (r .bio) in
-    let a : SegmentRecord = record { block = i; opens = cond (opensSegment state k) 1 0; passes = passes; bytes = len .value } in
+    let a : SegmentRecord = record {
+      block = i;
+      opens = cond (opensSegment state k) 1 0;
+      passes = passes;
+      bytes = len .value;
+      start = bodyBytes (r .records);
+    } in
     let after = set (set state (k .at + 2) (currentLimit state k)) (k .at + 3) (currentPasses state k + passes) in
     let done = withRecord a (movedTo after (len .bio) r) in
     cond (ltb 32 w) (refused widthRefusal) (cond (leb room (length (r .records))) (refused recordsRefusal) done)

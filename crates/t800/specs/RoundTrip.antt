@@ -7,8 +7,8 @@ use mathlib.Core.List.{List, [], _∷_, _++_}
 use lib.ListN.{length, take}
 use lib.Dec.{T, eqb}
 use Rattle.t800.specs.declared.Markers.{Markers}
-use Rattle.t800.specs.Base.{Words, Bytes, sum, overwrite}
-use Rattle.t800.specs.Reports.{reportWidth, recordWidth, reportWords, recordWords}
+use Rattle.t800.specs.Base.{Words, Bytes, sum}
+use Rattle.t800.specs.Reports.{reportWidth, reportWords, RecordForm}
 use Rattle.t800.specs.State.{writer, reader}
 use Rattle.t800.specs.Ranges.{validState}
 use Rattle.t800.specs.Packet.{WriteResult, ReadResult}
@@ -33,15 +33,15 @@ owedFor style book c r = record {
 
 -- the call c reads the packet o: with its marker settings, an input that begins with the packet less its body, lists of the length
 -- that is asked, and records enough
-pub record ReadsPacket (state : Words) (o : Owed) (c : ReadCall) : Type 0 where
+pub record ReadsPacket (form : RecordForm) (state : Words) (o : Owed) (c : ReadCall form) : Type 0 where
   pub same-markers : c .markers ≡ o .markers
   pub begins : take (length (o .front)) (c .input) ≡ o .front
   pub scratch-length : length (c .scratch) ≡ length state
   pub reports-length : length (c .reports) ≡ reportWidth * length (o .entry .reports)
-  pub records-enough : recordWidth * length (o .entry .records) ≤ length (c .records)
+  pub records-enough : length (o .entry .records) ≤ form .room (c .records)
 
 -- the answer and the lists are the book's entry
-pub record GivesEntry (o : Owed) (c : ReadCall) (r : ReadResult) : Type 0 where
+pub record GivesEntry (form : RecordForm) (o : Owed) (c : ReadCall form) (r : ReadResult form) : Type 0 where
   pub accepts : r .answer .refusal ≡ 0
   pub present : r .answer .present ≡ 1
   pub taken : r .answer .taken ≡ length (o .front)
@@ -49,11 +49,11 @@ pub record GivesEntry (o : Owed) (c : ReadCall) (r : ReadResult) : Type 0 where
   pub sop-mark : r .answer .sop ≡ 0
   pub eph-mark : r .answer .eph ≡ 0
   pub reports : r .reports ≡ reportWords (o .entry .reports)
-  pub records : r .records ≡ overwrite (c .records) (recordWords (o .entry .records))
+  pub records : r .records ≡ form .stored (c .records) (o .entry .records)
 
 -- the same call with more input
-abbrev pub withMore : ReadCall → (more : Bytes) → ReadCall
-withMore c more = record
+abbrev pub withMore : (form : RecordForm) → ReadCall form → (more : Bytes) → ReadCall form
+withMore form c more = record
     { scratch = c .scratch; markers = c .markers; input = c .input ++ more; reports = c .reports; records = c .records }
 
 -- ---- the writer's list: any calls with any arguments
@@ -114,10 +114,10 @@ module _ (I : Interface) where
   ReadsAsOwed state (o ∷ os) (packetMade m ∷ rs) =
       I .reads .found m ≡ state
       → I .reads .asked m ≡ true
-      → ReadsPacket state o (I .reads .args m)
-      → (GivesEntry o (I .reads .args m) (I .reads .left m))
+      → ReadsPacket (I .form) state o (I .reads .args m)
+      → (GivesEntry (I .form) o (I .reads .args m) (I .reads .left m))
       × ((more : Bytes) (n : I .reads .Made) → I .reads .found n ≡ state → I .reads .asked n ≡ true
-      → I .reads .args n ≡ withMore (I .reads .args m) more → GivesEntry o (I .reads .args m) (I .reads .left n))
+      → I .reads .args n ≡ withMore (I .form) (I .reads .args m) more → GivesEntry (I .form) o (I .reads .args m) (I .reads .left n))
       × ReadsAsOwed (I .reads .left m .state) os rs
 
   -- ---- the statements

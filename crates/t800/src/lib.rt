@@ -47,13 +47,14 @@ pub struct ReadAnswer {
     pub eph: u32,
 }
 
-// A segment record as a struct: block number; 1 if it opens a segment, else 0; passes; length.
+// A segment's record: block number; 1 if it opens a segment, else 0; passes; length; how many of the packet's body bytes lie before it.
 #[repr(C)]
-pub struct Segment {
+pub struct SegmentRecord {
     pub block: u32,
     pub opens: u32,
     pub passes: u32,
     pub bytes: u32,
+    pub start: u64,
 }
 
 // The refusals of SCOPE S4.
@@ -89,7 +90,7 @@ impl Refusal {
     pub const RECORDS: u32 = 13;
 }
 
-// The words of a block's report, and of a segment's record.
+// The words of a block's report, and of a segment's record in a list of words.
 pub const REPORT_WIDTH: usize = 4;
 
 pub const RECORD_WIDTH: usize = 4;

@@ -12,7 +12,10 @@ pub mod FreshState
 pub mod SetLeaf
 pub mod Accepted
 pub mod LeastZeroPlanes
+pub mod ReadValues
 pub mod HeaderSteps
+pub mod Starts
+pub mod Book
 pub mod WordCounts
 pub mod StateAfter
 pub mod ManyZeroPlanes

@@ -7,7 +7,7 @@ use Prim.Native.Nat.{ℕ}
 use native.Mathlib.Omega.{arith}
 use lib.ListN.{replicate}
 use Rattle.t800.specs.declared.Markers.{Markers}
-use Rattle.t800.specs.declared.Segment.{Segment}
+use Rattle.t800.specs.declared.SegmentRecord.{SegmentRecord}
 use Rattle.t800.specs.State.{writer, reader}
 use Rattle.t800.specs.WriteHeader.{contribution}
 use Rattle.t800.specs.Book.{terminatedAt, terminatedAsStyle}
@@ -62,7 +62,7 @@ wrote =
     }
 
 -- the input is the packet with its body; one record is lent
-abbrev records : List Segment
+abbrev records : List SegmentRecord
 records = record { block = 6; opens = 6; passes = 6; bytes = 6 } ∷ []
 
 abbrev was-read : ReadMade

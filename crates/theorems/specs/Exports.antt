@@ -7,7 +7,7 @@ use Prim.Native.Nat.{ℕ, _*_}
 use lib.ListN.{length, getD}
 use lib.Dec.{eqb}
 use Rattle.t800.specs.declared.Markers.{Markers}
-use Rattle.t800.specs.declared.Segment.{Segment}
+use Rattle.t800.specs.declared.SegmentRecord.{SegmentRecord}
 use Rattle.t800.specs.Base.{Words, Bytes}
 use Rattle.t800.specs.Refusals.{listRefusal}
 use Rattle.t800.specs.Start.{StartResult}
@@ -88,7 +88,7 @@ pub record ReadMade : Type 0 where
   pub input : Bytes
   pub reports : Words
   pub work : Words
-  pub records : List Segment
+  pub records : List SegmentRecord
   pub answer : Words
   pub left : ReadExit
   pub met : left ≡ readCall state scratch markers input reports work records answer

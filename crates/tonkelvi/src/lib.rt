@@ -3,7 +3,7 @@ ghost use mathlib.Core.Path.{_≡_};
 ghost use Rattle.t800.specs.State.{writer, reader};
 ghost use Rattle.t800.specs.WriteHeader.{contribution};
 ghost use Rattle.t800.specs.Exports.{stateLengthOf, startCall, measureCall, writeCall, wordsOf, readCall, describeCall};
-use t800::Segment;
+use t800::SegmentRecord;
 
 // ---- starts
 
@@ -119,7 +119,7 @@ pub extern "C" fn tonkelvi_read(
     eph: bool,
     reports: &mut [u32],
     work: &mut [u32],
-    records: &mut [Segment],
+    records: &mut [SegmentRecord],
     answer: &mut [u64],
 ) -> u32
     ensures { λ r.

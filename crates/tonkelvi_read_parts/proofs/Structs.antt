@@ -15,14 +15,15 @@ use Rattle.t800.specs.Base.{overwrite, wiped}
 use Rattle.t800.specs.Bits.{Decoded, bioAt, getBit}
 use Rattle.t800.specs.State.{reader, notYetIncluded, layer, bands, blocks}
 use Rattle.t800.specs.Ranges.{validState}
-use Rattle.t800.specs.Reports.{SegmentRecord, recordWords, reportWidth, recordWidth}
+use Rattle.t800.specs.declared.SegmentRecord.{SegmentRecord}
+use Rattle.t800.specs.Reports.{recordWords, reportWidth, recordWidth, asWords}
 use Rattle.t800.specs.MarkerSegments.{readSop}
 use Rattle.t800.specs.ReadHeader.{HeaderRead, readHeader}
 use Rattle.t800.specs.Packet.{ReadResult, refusedAnswer, readRefusal, readAbsent, readPresent, read, readResult}
 use Rattle.t800_laws.proofs.Laws.Tests.{if-true, if-false, either}
 use Rattle.t800_laws.proofs.Laws.Lists.{record-words-length}
 use Rattle.round_trip.proofs.Numbers.{header-number}
-use Rattle.t800.specs.declared.Segment.{Segment}
+use Rattle.t800.specs.declared.SegmentRecord.{SegmentRecord}
 use Rattle.t800.specs.Exports.{wordsOf, readWords, ReadExit, readExit, workRefusal, readCall}
 use Rattle.t2_records.specs.Segments.{segmentAt, filled}
 use Rattle.t2_read_numbers.specs.Reading.{readNumbers, toFill}
@@ -32,7 +33,7 @@ use Rattle.t2_read_numbers.proofs.Numbers.{numbers-refused, numbers-read}
 
 -- ---- what is stored, case by case
 
-module _ (rs : List Segment) where
+module _ (rs : List SegmentRecord) where
   none-stored : (ws : List ℕ) → wordsOf (filled ws 0 rs) ≡ wordsOf rs
   none-stored ws = ap wordsOf (stored-none (segmentAt ws) rs)
 
@@ -95,20 +96,20 @@ module _ (ws scratch : List ℕ) (m : Markers) (src reports : List ℕ) where
   abbrev header : ℕ → HeaderRead
   header n = readHeader src n ws (first .bio)
 
-  abbrev unchanged : List ℕ → ReadResult
-  unchanged records = readResult ws scratch reports records (refusedAnswer why)
+  abbrev unchanged : List ℕ → ReadResult asWords
+  unchanged records = readResult asWords ws scratch reports records (refusedAnswer why)
 
-  abbrev broken : ℕ → List ℕ → ReadResult
-  broken n records = readResult ws (wiped scratch) (wiped reports) (wiped records) (refusedAnswer (header n .refusal))
+  abbrev broken : ℕ → List ℕ → ReadResult asWords
+  broken n records = readResult asWords ws (wiped scratch) (wiped reports) (wiped records) (refusedAnswer (header n .refusal))
 
   -- a read with room for n records
-  readAt : ℕ → List ℕ → ReadResult
+  readAt : ℕ → List ℕ → ReadResult asWords
   readAt n records =
       cond (not (eqb why 0)) (unchanged records)
-      (cond (eqb (first .value) 0) (readAbsent ws m src reports records (readSop m src) (first .bio))
-      (cond (eqb (header n .refusal) 0) (readPresent ws m src records (readSop m src) (header n)) (broken n records)))
+      (cond (eqb (first .value) 0) (readAbsent asWords ws m src reports records (readSop m src) (first .bio))
+      (cond (eqb (header n .refusal) 0) (readPresent asWords ws m src records (readSop m src) (header n)) (broken n records)))
 
-  read-is-at : (records : List ℕ) → read ws scratch m src reports records ≡ readAt (length records / recordWidth) records
+  read-is-at : (records : List ℕ) → read asWords ws scratch m src reports records ≡ readAt (length records / recordWidth) records
   unfolding read readAt
   read-is-at records = refl
 
@@ -135,26 +136,26 @@ module _ (ws scratch : List ℕ) (m : Markers) (src reports : List ℕ) where
   -- ---- the read
 
   -- the result with the records that are stored from its work list
-  abbrev restored : List Segment → ReadResult → ReadResult
-  restored rs z = readResult (z .state) (z .scratch) (z .reports)
+  abbrev restored : List SegmentRecord → ReadResult asWords → ReadResult asWords
+  restored rs z = readResult asWords (z .state) (z .scratch) (z .reports)
       (wordsOf (filled (z .records) (toFill (z .answer) (length rs)) rs)) (z .answer)
 
-  module _ (xs : List ℕ) (rs : List Segment) (as-long : length xs ≡ 4 * length rs) where
+  module _ (xs : List ℕ) (rs : List SegmentRecord) (as-long : length xs ≡ 4 * length rs) where
     abbrev n : ℕ
     n = length xs / 4
 
-    abbrev absent : List ℕ → ReadResult
-    absent records = readAbsent ws m src reports records (readSop m src) (first .bio)
+    abbrev absent : List ℕ → ReadResult asWords
+    absent records = readAbsent asWords ws m src reports records (readSop m src) (first .bio)
 
-    abbrev present : List ℕ → ReadResult
-    present records = readPresent ws m src records (readSop m src) (header n)
+    abbrev present : List ℕ → ReadResult asWords
+    present records = readPresent asWords ws m src records (readSop m src) (header n)
 
-    abbrev Same : (List ℕ → ReadResult) → Type 0
+    abbrev Same : (List ℕ → ReadResult asWords) → Type 0
     Same z = length (z xs .records) ≡ length xs → restored rs (z xs) ≡ z (wordsOf rs)
 
     same-unchanged : why ≢ 0 → Same unchanged
     same-unchanged h l =
-        ap (λ (z : List ℕ). readResult ws scratch reports z (refusedAnswer why))
+        ap (λ (z : List ℕ). readResult asWords ws scratch reports z (refusedAnswer why))
         (ap (λ (k : ℕ). wordsOf (filled xs k rs)) (early-stores-none ws scratch reports (length rs) h) ∙ none-stored rs xs)
 
     same-absent : Same absent
@@ -163,12 +164,12 @@ module _ (ws scratch : List ℕ) (m : Markers) (src reports : List ℕ) where
 
     same-present : Same present
     unfolding readPresent toFill
-    same-present l = ap (λ (z : List ℕ). readResult (present xs .state) (present xs .scratch) (present xs .reports) z
+    same-present l = ap (λ (z : List ℕ). readResult asWords (present xs .state) (present xs .scratch) (present xs .reports) z
         (present xs .answer)) (found-stored rs xs (header n .records) l as-long)
 
     same-broken : eqb (header n .refusal) 0 ≡ false → Same (broken n)
     same-broken c l =
-        ap (λ (z : List ℕ). readResult ws (wiped scratch) (wiped reports) z (refusedAnswer (header n .refusal)))
+        ap (λ (z : List ℕ). readResult asWords ws (wiped scratch) (wiped reports) z (refusedAnswer (header n .refusal)))
         (ap (λ (k : ℕ). wordsOf (filled (wiped xs) k rs)) (header-stores-all n (length rs) c) ∙ all-stored rs xs as-long)
 
     same-by : (t u v : Bool) → eqb why 0 ≡ t → eqb (first .value) 0 ≡ u → eqb (header n .refusal) 0 ≡ v
@@ -182,32 +183,32 @@ module _ (ws scratch : List ℕ) (m : Markers) (src reports : List ℕ) where
     unfolding readAt
     same-at = same-by (eqb why 0) (eqb (first .value) 0) (eqb (header n .refusal) 0) refl refl refl
 
-    stored-is-read : length (read ws scratch m src reports xs .records) ≡ length xs
-        → restored rs (read ws scratch m src reports xs) ≡ read ws scratch m src reports (wordsOf rs)
+    stored-is-read : length (read asWords ws scratch m src reports xs .records) ≡ length xs
+        → restored rs (read asWords ws scratch m src reports xs) ≡ read asWords ws scratch m src reports (wordsOf rs)
     stored-is-read l =
         let e = read-is-at xs in
         let k : length xs ≡ length (wordsOf rs) = as-long ∙ sym (words-length rs) in
-        ap (restored rs) e ∙ same-at (ap (λ (z : ReadResult). length (z .records)) (sym e) ∙ l)
+        ap (restored rs) e ∙ same-at (ap (λ (z : ReadResult asWords). length (z .records)) (sym e) ∙ l)
         ∙ ap (λ (j : ℕ). readAt (j / 4) (wordsOf rs)) k ∙ sym (read-is-at (wordsOf rs))
 
 -- ---- the read on the work list, with its answer words
 
 module _ (ws scratch : List ℕ) (m : Markers) (src reports work : List ℕ) (room : ℕ) (answer : List ℕ) where
   pub read-unlisted : length answer ≢ 5
-      → record { result = readResult ws scratch reports work (refusedAnswer 3); answer = answer }
+      → record { result = readResult asWords ws scratch reports work (refusedAnswer 3); answer = answer }
       ≡ numbersCall ws scratch m src reports work room answer
   unfolding numbersCall
   read-unlisted h = rw (ne-eqb (length answer) 5 h)
 
-  pub read-listed : (r : ReadAnswer) (vs s p q l : List ℕ) → length answer ≡ 5 → readResult vs s p q r
+  pub read-listed : (r : ReadAnswer) (vs s p q l : List ℕ) → length answer ≡ 5 → readResult asWords vs s p q r
       ≡ readNumbers ws scratch m src reports work room → l ≡ readWords r
-      → record { result = readResult vs s p q r; answer = l } ≡ numbersCall ws scratch m src reports work room answer
+      → record { result = readResult asWords vs s p q r; answer = l } ≡ numbersCall ws scratch m src reports work room answer
   unfolding numbersCall
   read-listed r vs s p q l h e g = rw (eq-eqb (length answer) 5 h, g) (ap numbersOf e)
 
 -- ---- what the three calls of `tonkelvi_read` give together
 
-module _ (ws scratch : List ℕ) (m : Markers) (src reports work : List ℕ) (records : List Segment) (answer : List ℕ) where
+module _ (ws scratch : List ℕ) (m : Markers) (src reports work : List ℕ) (records : List SegmentRecord) (answer : List ℕ) where
   -- the call's result with the records that are stored from its work list
   abbrev filledOf : NumbersCall → ReadExit
   filledOf z = record {
@@ -228,7 +229,7 @@ module _ (ws scratch : List ℕ) (m : Markers) (src reports work : List ℕ) (re
       let k = e ∙ if-true (eqb (length answer) 5) _ _ t
       ∙ ap numbersOf (numbers-read ws scratch m src reports work (length records) u) in
       ap filledOf k
-      ∙ ap (λ (y : ReadResult). readExit y (read ws scratch m src reports work .records))
+      ∙ ap (λ (y : ReadResult asWords). readExit y (read asWords ws scratch m src reports work .records))
       (stored-is-read ws scratch m src reports work records (eqb-true (length work) (4 * length records) u)
       (ap (λ (y : NumbersCall). length (y .result .records)) (sym k) ∙ l))
       ∙ sym (if-true (eqb (length work) (4 * length records)) _ _ u)
@@ -236,7 +237,7 @@ module _ (ws scratch : List ℕ) (m : Markers) (src reports work : List ℕ) (re
   by-lists true false t u z e l =
       ap filledOf (e ∙ if-true (eqb (length answer) 5) _ _ t
       ∙ ap numbersOf (numbers-refused ws scratch m src reports work (length records) u))
-      ∙ ap (λ (y : List ℕ). readExit (readResult ws scratch reports y (refusedAnswer (workRefusal ws scratch))) work)
+      ∙ ap (λ (y : List ℕ). readExit (readResult asWords ws scratch reports y (refusedAnswer (workRefusal ws scratch))) work)
       (ap (λ (k : ℕ). wordsOf (filled work k records)) (wrong-stores-none ws scratch (length records)) ∙ none-stored records work)
       ∙ sym (if-false (eqb (length work) (4 * length records)) _ _ u)
       ∙ sym (if-true (eqb (length answer) 5) _ _ t)
@@ -247,15 +248,15 @@ module _ (ws scratch : List ℕ) (m : Markers) (src reports work : List ℕ) (re
       (none-stored records work)
       ∙ sym (if-false (eqb (length answer) 5) _ _ t)
 
-  pub filled-is-call : (z₀ z₁ z₃ z₄ z₆ : List ℕ) (a : ReadAnswer) (us : List Segment) (k : ℕ)
-      → record { result = readResult z₀ z₁ z₃ z₄ a; answer = z₆ }
+  pub filled-is-call : (z₀ z₁ z₃ z₄ z₆ : List ℕ) (a : ReadAnswer) (us : List SegmentRecord) (k : ℕ)
+      → record { result = readResult asWords z₀ z₁ z₃ z₄ a; answer = z₆ }
       ≡ numbersCall ws scratch m src reports work (length records) answer → length z₄ ≡ length work → k
       ≡ toFill a (length records) → us ≡ filled z₄ k records
       → record { refusal = a .refusal; state = z₀; scratch = z₁; reports = z₃; work = z₄; records = wordsOf us; answer = z₆ }
       ≡ readCall ws scratch m src reports work records answer
   filled-is-call z₀ z₁ z₃ z₄ z₆ a us k e l f g =
-      ap (λ (y : List Segment).
+      ap (λ (y : List SegmentRecord).
       record { refusal = a .refusal; state = z₀; scratch = z₁; reports = z₃; work = z₄; records = wordsOf y; answer = z₆ })
       (g ∙ ap (λ (j : ℕ). filled z₄ j records) f)
       ∙ by-lists (eqb (length answer) 5) (eqb (length work) (4 * length records)) refl refl
-      (record { result = readResult z₀ z₁ z₃ z₄ a; answer = z₆ }) e l
+      (record { result = readResult asWords z₀ z₁ z₃ z₄ a; answer = z₆ }) e l

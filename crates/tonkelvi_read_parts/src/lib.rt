@@ -1,5 +1,6 @@
 // The exported read but for its structs: the read on the work list, and the lent list of answer words.
 ghost use mathlib.Core.Path.{_≡_};
+ghost use Rattle.t800.specs.Reports.{asWords};
 ghost use Rattle.t800.specs.Packet.{readResult};
 ghost use Rattle.tonkelvi_read_parts.specs.Numbers.{numbersCall};
 use t800::Markers;
@@ -20,7 +21,7 @@ pub fn read_words(
 ) -> ReadAnswer
     ensures { λ r.
         ⌜ record {
-          result = readResult (now (state .exit)) (now (scratch .exit)) (now (reports .exit)) (now (work .exit)) r;
+          result = readResult asWords (now (state .exit)) (now (scratch .exit)) (now (reports .exit)) (now (work .exit)) r;
           answer = now (answer .exit);
         }
         ≡ numbersCall (now (state .entry)) (now (scratch .entry)) (record { sop = sop; eph = eph }) (now (src .entry))

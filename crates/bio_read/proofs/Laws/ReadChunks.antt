@@ -68,24 +68,6 @@ readBits-place src n b h = onto-place src n 0 b h
 
 -- ---- n bits are a number below 2 ^ n
 
-pub getBit-bit : (src : List ℕ) (b : Bio) → getBit src b .value ≤ 1
-unfolding getBit heldBit
-getBit-bit src b = omega arith
-
-onto-below : (src : List ℕ) (n v : ℕ) (b : Bio) → readBitsOnto src n v b .value < (v + 1) * 2 ^ n
-unfolding readBitsOnto
-onto-below src zero v b = omega arith
-onto-below src (suc n) v b =
-    let ih = onto-below src n (2 * v + getBit src b .value) (getBit src b .bio) in
-    let one = getBit-bit src b in
-    let more : (2 * v + getBit src b .value + 1) * 2 ^ n ≤ (2 * v + 2) * 2 ^ n = mul-le-mul-right (2 ^ n) (omega arith) in
-    let two : 2 ^ suc n ≡ 2 * 2 ^ n = omega arith in
-    rw two (omega arith)
-
-pub readBits-below : (src : List ℕ) (n : ℕ) (b : Bio) → readBits src n b .value < 2 ^ n
-unfolding readBits
-readBits-below src n b = omega (arith, onto-below src n 0 b)
-
 pub heldBits-below : (b : Bio) (k : ℕ) → heldBits b k .value < 2 ^ k
 unfolding heldBits
 heldBits-below b k = mod-lt (b .buf / 2 ^ (b .ct - k)) (pow-pos k)

@@ -7,7 +7,8 @@ use lib.ListN.{length, drop, length-append, length-drop}
 use lib.Seq.{sets-eq, take-at, drop-drop, drop-append-add}
 use borrow.Author.Tests.{lt-ltb}
 use Rattle.t800.specs.Base.{overwrite}
-use Rattle.t800.specs.Reports.{BlockReport, SegmentRecord, reportWidth, recordWidth, reportWords, recordWords}
+use Rattle.t800.specs.declared.SegmentRecord.{SegmentRecord}
+use Rattle.t800.specs.Reports.{BlockReport, reportWidth, recordWidth, reportWords, recordWords}
 use Rattle.t800_laws.proofs.Laws.Lists.{record-words-length}
 use Rattle.lists.specs.Rows.{putRow, putReport, putRecord}
 

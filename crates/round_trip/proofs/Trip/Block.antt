@@ -13,7 +13,8 @@ use Rattle.t800.specs.declared.Bio.{Bio}
 use Rattle.t800.specs.TagTree.{Coded, value, codePath, readPath}
 use Rattle.t800.specs.PassCount.{passBits, readPasses}
 use Rattle.t800.specs.Segments.{Segment, segmentsOf, increment, commaBits, lengthFields, readComma}
-use Rattle.t800.specs.Reports.{BlockReport, SegmentRecord, absent}
+use Rattle.t800.specs.declared.SegmentRecord.{SegmentRecord}
+use Rattle.t800.specs.Reports.{BlockReport, absent, bodyBytes}
 use Rattle.t800.specs.State.{Block, notYetIncluded, notYetPlanes, passesSoFar}
 use Rattle.t800.specs.WriteHeader.{isNew, lengthBitsBefore, codeInclusion, codeZeroPlanes, codePasses, codeBlock}
 use Rattle.t800.specs.ReadHeader.{HeaderRead, readSegments, readZeroPlanesFrom, readZeroPlanes, firstReport, againReport}
@@ -131,10 +132,12 @@ passes-in-step L s ws rs us at n l b y g =
 planes-back : (b p : ℕ) → p ≤ b → b < notYetPlanes → (b + 4294967296 - (b - p)) % 4294967296 ≡ p
 planes-back b p h g = omega arith
 
-module _ (L : Layout) (s t : ℕ) (k : Block) (P : Placed L k) (src : List ℕ) (room i : ℕ) (e : BlockEntry) (c : ℕ) (ls ms : List ℕ) where
+-- the block's bytes begin behind `before` others
+module _ (L : Layout) (s t : ℕ) (k : Block) (P : Placed L k) (src : List ℕ) (room i before : ℕ) (e : BlockEntry) (c : ℕ)
+    (ls ms : List ℕ) where
   pub record BlockRead (rs vs : List ℕ) (out : HeaderRead) (end : Bio) (reps : List BlockReport) (recs : List SegmentRecord) : Type 0 where
     pub words : List ℕ
-    pub is : out ≡ readSoFar words end (reps ++ reportOf e c ∷ []) (recs ++ recordsOf s i (e .passes) ls)
+    pub is : out ≡ readSoFar words end (reps ++ reportOf e c ∷ []) (recs ++ recordsOf s i before (e .passes) ls)
     pub in-step : InStep L s vs words
     pub first : (j : ℕ) → j < 13 → getD words j 0 ≡ getD rs j 0
 
@@ -171,11 +174,11 @@ module _ (L : Layout) (s t : ℕ) (k : Block) (P : Placed L k) (src : List ℕ) 
   included-read : (ws rs : List ℕ) (b b₂ end : Bio) (reps : List BlockReport) (recs : List SegmentRecord) → InStep L s ws rs
       → Ready s t ws k e c ls ms → 0 < c
       → Reads src b (codeZeroPlanes k ws .bits) b₂ → Reads src b₂ (codePasses k c segments (codeZeroPlanes k ws .words) .bits) end
-      → length recs + length (recordsOf s i (e .passes) ls) ≤ room
+      → before ≡ bodyBytes recs → length recs + length (recordsOf s i before (e .passes) ls) ≤ room
       → BlockRead rs (codePasses k c segments (codeZeroPlanes k ws .words) .words)
       (readIncluded src room i k (readSoFar rs b reps recs)) end reps recs
   unfolding codePasses
-  included-read ws rs b b₂ end reps recs y d c0 r₁ r₂ enough =
+  included-read ws rs b b₂ end reps recs y d c0 r₁ r₂ begins enough =
       let at : ℕ = k .at in
       let B : L .BlockAt at = P .block in
       let D = d .codable in
@@ -198,15 +201,16 @@ module _ (L : Layout) (s t : ℕ) (k : Block) (P : Placed L k) (src : List ℕ) 
       let q₁ = reads-split src b₂ end (passBits c ++ commaBits inc) (lengthFields (lb + inc) segments) r₃ in
       let q₂ = reads-split src b₂ (q₁ .0) (passBits c) (commaBits inc) (q₁ .1) in
       let as-book : segments
-      ≡ segmentsIn (recordsOf s i p ls) = segments-are-records s i p ls ms (D .lengths ∙ sym (D .marks)) (d .terminated) in
+      ≡ segmentsIn (recordsOf s i before p ls) = segments-are-records s i before p ls ms (D .lengths ∙ sym (D .marks)) (d .terminated) in
       let l : ℕ = lb + inc in
       let us₃ : List ℕ = set (set us at (p + c)) (at + 1) l in
       let A : BlockReport = cond (isNew rs k) (firstReport k (value us (leafOf zeroPlanes k)) c) (againReport c) in
       let ia = L .block-in at B in
       let ui : at + 4 ≤ length us = omega (arith, y₂ .reader-length, ia .1) in
       let bs₂ = y₂ .blocks at B in
-      let g = segments-read src room i k s l end (reps ++ reportOf e c ∷ []) (ia .0) c ls p us₃ (q₁ .0) recs (le-of-eq (D .lengths))
+      let g = segments-read src room i k s l end (reps ++ reportOf e c ∷ []) (ia .0) c ls before p us₃ (q₁ .0) recs (le-of-eq (D .lengths))
       (record {
+        start-is = begins;
         some = rw (D .lengths) c0;
         inside = rw (stored-length us at (p + c) l ui) ui;
         style-is = stored-others us at (p + c) l ui 2 (omega (arith, ia .0)) (omega (arith, ia .0)) ∙ y₂ .style-is;
@@ -332,9 +336,10 @@ module _ (L : Layout) (s t : ℕ) (k : Block) (P : Placed L k) (src : List ℕ) 
 
   pub block-read : (ws rs : List ℕ) (b end : Bio) (reps : List BlockReport) (recs : List SegmentRecord) → t < notYetIncluded
       → InStep L s ws rs → Ready s t ws k e c ls ms
-      → Reads src b (codeBlock t k c segments ws .bits) end → length recs + length (recordsOf s i (e .passes) ls) ≤ room
+      → Reads src b (codeBlock t k c segments ws .bits) end
+      → before ≡ bodyBytes recs → length recs + length (recordsOf s i before (e .passes) ls) ≤ room
       → BlockRead rs (codeBlock t k c segments ws .words) (readBlock src room t i k (readSoFar rs b reps recs)) end reps recs
-  block-read ws rs b end reps recs ht y d r enough =
+  block-read ws rs b end reps recs ht y d r begins enough =
       let ws₁ : List ℕ = codeInclusion t k c ws .words in
       let keeps = inclusion-keeps L k P t c ws (y .writer-length) in
       on-lt 0 c
@@ -348,7 +353,7 @@ module _ (L : Layout) (s t : ℕ) (k : Block) (P : Placed L k) (src : List ℕ) 
       let d₁ = same-ready s t ws ws₁ k e c ls ms (block-stays L ws ws₁ (keeps .off) (k .at) (P .block))
       (keeps .values zeroPlanes (leafOf zeroPlanes k) (leaf-node L zeroPlanes k P))
       (keeps .values inclusion (leafOf inclusion k) (leaf-node L inclusion k P)) d in
-      let f = included-read ws₁ (n .words) (q₂ .0) (q₁ .0) end reps recs (n .in-step) d₁ h (q₂ .2) (q₁ .2) enough in
+      let f = included-read ws₁ (n .words) (q₂ .0) (q₁ .0) end reps recs (n .in-step) d₁ h (q₂ .2) (q₁ .2) begins enough in
       subst (λ (x : Coded). BlockRead rs (x .words) (readBlock src room t i k (readSoFar rs b reps recs)) end reps recs) (sym coded)
       (record {
         words = f .words;
@@ -360,7 +365,7 @@ module _ (L : Layout) (s t : ℕ) (k : Block) (P : Placed L k) (src : List ℕ) 
       (λ h. let c0 : c ≡ 0 = omega arith in
       let coded = coded-absent ws c0 in
       let n = inclusion-read ws rs b end reps recs ht y d (subst (λ (x : Coded). Reads src b (x .bits) end) coded r) in
-      let none : recordsOf s i (e .passes) ls ≡ [] = no-records s i (e .passes) ls (d .codable .lengths ∙ c0) in
+      let none : recordsOf s i before (e .passes) ls ≡ [] = no-records s i before (e .passes) ls (d .codable .lengths ∙ c0) in
       subst (λ (x : Coded). BlockRead rs (x .words) (readBlock src room t i k (readSoFar rs b reps recs)) end reps recs) (sym coded)
       (record {
         words = n .words;

@@ -11,13 +11,16 @@ use Rattle.t800.specs.declared.Bio.{Bio}
 use Rattle.t800.specs.Base.{any, sum}
 use Rattle.t800.specs.TagTree.{Coded}
 use Rattle.t800.specs.Segments.{segmentsOf}
-use Rattle.t800.specs.Reports.{BlockReport, SegmentRecord}
+use Rattle.t800.specs.declared.SegmentRecord.{SegmentRecord}
+use Rattle.t800.specs.Reports.{BlockReport, bodyBytes}
 use Rattle.t800.specs.State.{Block, notYetIncluded, passesSoFar}
 use Rattle.t800.specs.WriteHeader.{codeBlock, codeBlocks, fieldTooWide}
 use Rattle.t800.specs.ReadHeader.{HeaderRead, readBlock, readBlocks}
 use Rattle.t800.specs.Book.{BlockEntry, Entry, reportOf, recordsOf, entryFrom, terminatedAt, terminatedAsStyle}
 use Rattle.t800_laws.proofs.Laws.Tests.{or-left, or-right}
 use Rattle.t800_laws.proofs.Laws.Layout.{inclusion, zeroPlanes, leafOf, Layout, SeparateFromAll, AllPlaced, leaf-node}
+use Rattle.t800_laws.proofs.Laws.Starts.{bytes-append}
+use Rattle.t800_laws.proofs.Laws.Book.{records-bytes}
 use Rattle.round_trip.proofs.Trip.Bits.{Reads, reads-split}
 use Rattle.round_trip.proofs.Trip.Segments.{readSoFar}
 use Rattle.round_trip.proofs.Trip.Changes.{ValuesOnly, nodes-only, block-stays, BlockCoded, block-coded}
@@ -99,39 +102,43 @@ module _ (L : Layout) (s t : ℕ) (src : List ℕ) (room : ℕ) (end : Bio) wher
   unfolding readBlocks
   first-read i k ks r us b reps recs h = rw h
 
-  pub blocks-read : (ks : List Block) (es : List BlockEntry) (cs ls ms : List ℕ) (i : ℕ) (ws rs : List ℕ) (b : Bio)
+  pub blocks-read : (ks : List Block) (es : List BlockEntry) (cs ls ms : List ℕ) (i before : ℕ) (ws rs : List ℕ) (b : Bio)
       (reps : List BlockReport) (recs : List SegmentRecord) → t < notYetIncluded → AllPlaced L ks
       → InStep L s ws rs → AllReady s t ws ks es cs ls ms → Reads src b (codeBlocks t ks cs ls ms ws .bits) end
-      → length recs + length (entryFrom s i es cs ls .records) ≤ room
+      → before ≡ bodyBytes recs → length recs + length (entryFrom s i before es cs ls .records) ≤ room
       → BlocksRead rs (codeBlocks t ks cs ls ms ws .words) (readBlocks src room t i ks (readSoFar rs b reps recs))
-      (entryFrom s i es cs ls) reps recs
+      (entryFrom s i before es cs ls) reps recs
   unfolding codeBlocks readBlocks entryFrom
-  blocks-read [] [] cs ls ms i ws rs b reps recs ht f y d r enough =
+  blocks-read [] [] cs ls ms i before ws rs b reps recs ht f y d r begins enough =
       record {
         words = rs;
         is = (λ q. readSoFar rs (r .1 q) (sym (append-nil reps) q) (sym (append-nil recs) q));
         in-step = y;
         first = λ j h. refl;
       }
-  blocks-read [] (e ∷ es) cs ls ms i ws rs b reps recs ht f y d r enough = absurd d
-  blocks-read (k ∷ ks) [] cs ls ms i ws rs b reps recs ht f y d r enough = absurd d
-  blocks-read (k ∷ ks) (e ∷ es) [] ls ms i ws rs b reps recs ht f y d r enough = absurd d
-  blocks-read (k ∷ ks) (e ∷ es) (c ∷ cs) ls ms i ws rs b reps recs ht f y d r enough =
+  blocks-read [] (e ∷ es) cs ls ms i before ws rs b reps recs ht f y d r begins enough = absurd d
+  blocks-read (k ∷ ks) [] cs ls ms i before ws rs b reps recs ht f y d r begins enough = absurd d
+  blocks-read (k ∷ ks) (e ∷ es) [] ls ms i before ws rs b reps recs ht f y d r begins enough = absurd d
+  blocks-read (k ∷ ks) (e ∷ es) (c ∷ cs) ls ms i before ws rs b reps recs ht f y d r begins enough =
       let P = f .0 .0 in
       let block : Coded = codeBlock t k c (segmentsOf (take c ls) (take c ms)) ws in
       let vs : List ℕ = block .words in
       let rest : Coded = codeBlocks t ks cs (drop c ls) (drop c ms) vs in
-      let E : Entry = entryFrom s (i + 1) es cs (drop c ls) in
-      let here : List SegmentRecord = recordsOf s i (e .passes) (take c ls) in
+      let E : Entry = entryFrom s (i + 1) (before + sum (take c ls)) es cs (drop c ls) in
+      let here : List SegmentRecord = recordsOf s i before (e .passes) (take c ls) in
       let q = reads-split src b end (block .bits) (rest .bits) r in
       let lenr : length (here ++ E .records) ≡ length here + length (E .records) = length-append here (E .records) in
-      let x = block-read L s t k P src room i e c (take c ls) (take c ms) ws rs b (q .0) reps recs ht y (d .0) (q .1) (omega arith) in
+      let x = block-read L s t k P src room i before e c (take c ls) (take c ms) ws rs b (q .0) reps recs ht y (d .0) (q .1) begins
+      (omega arith) in
       let reps₁ : List BlockReport = reps ++ reportOf e c ∷ [] in
       let recs₁ : List SegmentRecord = recs ++ here in
       let enough₁ : length recs₁ + length (E .records) ≤ room = rw (length-append recs here) (omega arith) in
+      let begins₁ : before + sum (take c ls) ≡ bodyBytes recs₁ =
+      ap₂ _+_ begins (sym (records-bytes s i before (e .passes) (take c ls))) ∙ sym (bytes-append recs here) in
       let coded = block-coded L k P c t (segmentsOf (take c ls) (take c ms)) ws (y .writer-length) in
-      let z = blocks-read ks es cs (drop c ls) (drop c ms) (i + 1) vs (x .words) (q .0) reps₁ recs₁ ht (f .1) (x .in-step)
-      (still-ready L s t ws vs k c ks es cs (drop c ls) (drop c ms) coded (f .0 .1) (f .1) (d .1)) (q .2) enough₁ in
+      let z = blocks-read ks es cs (drop c ls) (drop c ms) (i + 1) (before + sum (take c ls)) vs (x .words) (q .0) reps₁ recs₁ ht (f .1)
+      (x .in-step)
+      (still-ready L s t ws vs k c ks es cs (drop c ls) (drop c ms) coded (f .0 .1) (f .1) (d .1)) (q .2) begins₁ enough₁ in
       record {
         words = z .words;
         is = first-read i k ks (readSoFar rs b reps recs) (x .words) (q .0) reps₁ recs₁ (x .is) ∙ z .is

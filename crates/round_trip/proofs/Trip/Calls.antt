@@ -3,7 +3,7 @@ use mathlib.Core.Path.{_≡_, refl, sym, ap, ap₂, _∙_, subst}
 use mathlib.Core.Logic.{_≢_, _⊎_, inl, inr}
 use mathlib.Core.Bool.{Bool, true, false, cond, _&&_, not, true≢false}
 use mathlib.Core.List.{List, [], _∷_, _++_, append-assoc}
-use Prim.Native.Nat.{ℕ, _-_, _/_, _<_}
+use Prim.Native.Nat.{ℕ, _-_, _<_}
 use native.Mathlib.Omega.{arith}
 use lib.ListN.{length, take, drop, length-append}
 use lib.Seq.{take-append-seam}
@@ -23,7 +23,7 @@ use Rattle.t800.specs.Packet.{readRefusal, readAbsent, readPresent, ReadResult,
 use Rattle.t800.specs.Book.{BlockEntry, addCounts, terminatedAsStyle}
 use Rattle.t800.specs.Interface.{WriteCall, writeOf, ReadCall, readOf}
 use Rattle.round_trip.proofs.Trip.Lists.{WriterCall, measuring, writing, accepted, owedFor, owed, allTerminatedAsStyle}
-use Rattle.t800.specs.Reports.{recordWidth}
+use Rattle.t800.specs.Reports.{RecordForm}
 use Rattle.t800_laws.proofs.Laws.Checks.{first-append}
 use Rattle.t800_laws.proofs.Laws.Tests.{not-refused, either, if-true, if-false}
 use Rattle.t800_laws.proofs.Laws.Lists.{lists-right}
@@ -222,12 +222,13 @@ first-owed s ws es (writing c ∷ cs) h = go (accepted ws c) refl (λ g. first-o
 
 -- ---- reading
 
-pub refused-read-keeps : (rs : List ℕ) (c : ReadCall) → 0 < readOf rs c .answer .refusal → readOf rs c .state ≡ rs
+pub refused-read-keeps : (form : RecordForm) (rs : List ℕ) (c : ReadCall form) → 0 < readOf form rs c .answer .refusal
+    → readOf form rs c .state ≡ rs
 unfolding read readAbsent readPresent
-refused-read-keeps rs c =
-    let P : ReadResult → Type 0 = λ r. 0 < r .answer .refusal → r .state ≡ rs in
+refused-read-keeps form rs c =
+    let P : ReadResult form → Type 0 = λ r. 0 < r .answer .refusal → r .state ≡ rs in
     let first = getBit (c .input) (bioAt (readSop (c .markers) (c .input) .skip)) in
     either P (not (eqb (readRefusal rs (c .scratch) (c .reports)) 0)) _ _ (λ h. refl)
     (either P (eqb (first .value) 0) _ _ (λ h. absurd (omega (arith, h)))
-    (either P (eqb (readHeader (c .input) (length (c .records) / recordWidth) rs (first .bio) .refusal) 0) _ _
+    (either P (eqb (readHeader (c .input) (form .room (c .records)) rs (first .bio) .refusal) 0) _ _
     (λ h. absurd (omega (arith, h))) (λ h. refl)))

@@ -14,7 +14,8 @@ use lib.Ieee.Fits.{and-l, and-r}
 use borrow.Author.Tests.{le-ltb, eq-eqb}
 use Rattle.t800.specs.declared.Band.{Band}
 use Rattle.t800.specs.Base.{sum, overwrite}
-use Rattle.t800.specs.Reports.{BlockReport, SegmentRecord, reportWords, recordWords, reportWidth, recordWidth}
+use Rattle.t800.specs.declared.SegmentRecord.{SegmentRecord}
+use Rattle.t800.specs.Reports.{BlockReport, reportWords, reportWidth, RecordForm, noRecord, asRecords}
 use Rattle.t800.specs.State.{blocks, writer, reader}
 use Rattle.t800.specs.Start.{startRefusal, start}
 use Rattle.t800.specs.Book.{BlockEntry, Entry, reportOf, entryFrom, entry, newBook, addCounts, terminatedAsStyle}
@@ -23,7 +24,7 @@ use Rattle.t800.specs.RoundTrip.{Owed, ReadsPacket, GivesEntry}
 use Rattle.round_trip.proofs.Trip.Lists.{WriterCall, measuring, writing, accepted, stateAfter, owedFor, owed, allTerminatedAsStyle}
 use Rattle.round_trip.proofs.Trip.Lists.{ReaderCall, refusedRead, packetRead}
 use Rattle.t800_laws.proofs.Laws.Tests.{either, if-eq, if-ne, if-true, if-false, on-eq}
-use Rattle.t800_laws.proofs.Laws.Lists.{record-words-length, none-too-deep}
+use Rattle.t800_laws.proofs.Laws.Lists.{none-too-deep}
 use Rattle.round_trip.proofs.Trip.Booked.{entries-length}
 use Rattle.round_trip.proofs.Trip.Calls.{refused-keeps, terminated-accepted, terminated-refused, FirstOwed, first-owed}
 use Rattle.round_trip.proofs.Trip.Calls.{refused-read-keeps}
@@ -80,27 +81,27 @@ unfolding owedFor
 owed-markers s ws es c = refl
 
 -- an input read with n reports and m records lent
-abbrev callFor : List ℕ → WriteCall → List ℕ → ℕ → ℕ → ReadCall
+abbrev callFor : List ℕ → WriteCall → List ℕ → ℕ → ℕ → ReadCall asRecords
 callFor rs c input n m =
     record {
       scratch = replicate (length rs) 0;
       markers = c .markers;
       input = input;
       reports = replicate (reportWidth * n) 0;
-      records = replicate (recordWidth * m) 0;
+      records = replicate m noRecord;
     }
 
 reads-packet : (s : ℕ) (ws rs : List ℕ) (es : List BlockEntry) (c d : WriteCall) (input : List ℕ) (n m : ℕ) → c .markers
     ≡ d .markers → take (length (frontOf ws c)) input ≡ frontOf ws c
     → length (owedFor s ws es c .entry .reports) ≡ n → length (owedFor s ws es c .entry .records) ≤ m
-    → ReadsPacket rs (owedFor s ws es c) (callFor rs d input n m)
+    → ReadsPacket asRecords rs (owedFor s ws es c) (callFor rs d input n m)
 reads-packet s ws rs es c d input n m marked begins reps recs =
     record {
       same-markers = sym marked ∙ sym (owed-markers s ws es c);
       begins = rw (owed-front s ws es c) begins;
       scratch-length = length-replicate {A = ℕ} (length rs) 0;
       reports-length = length-replicate {A = ℕ} (reportWidth * n) 0 ∙ ap (λ (z : ℕ). reportWidth * z) (sym reps);
-      records-enough = (let l = length-replicate {A = ℕ} (recordWidth * m) 0 in omega (arith, recs));
+      records-enough = rw (length-replicate m noRecord) recs;
     }
 
 module _ (bs : List Band) (s : ℕ) where
@@ -110,9 +111,9 @@ module _ (bs : List Band) (s : ℕ) where
       → (us : List ℕ) × Invariant bs s (t + 1) (writeOf ws c .state) us (addCounts es (c .contribution .counts))
   reader-follows t ws rs es c y a term =
       let o : Owed = owedFor s ws es c in
-      let r : ReadCall = callFor rs c (frontOf ws c) (length (o .entry .reports)) (length (o .entry .records)) in (
-        readOf rs r .state,
-        after-packet bs s t ws rs es c y a term r
+      let r : ReadCall asRecords = callFor rs c (frontOf ws c) (length (o .entry .reports)) (length (o .entry .records)) in (
+        readOf asRecords rs r .state,
+        after-packet bs s t ws rs es c y a term asRecords r
             (reads-packet s ws rs es c c (frontOf ws c) (length (o .entry .reports)) (length (o .entry .records)) refl
             (take-length (frontOf ws c)) refl (omega arith)),
       )
@@ -187,7 +188,7 @@ reader-in-step s ws es r =
           (subst (Invariant bs s (q .0) (stateAfter ws₀ (r .calls)) (q .1)) (r .book-is) (q .2)),
     )
 
--- ---- words tell reports and records
+-- ---- words tell reports, and lent records records
 
 reports-told : (xs ys : List BlockReport) → reportWords xs ≡ reportWords ys → xs ≡ ys
 unfolding reportWords
@@ -203,21 +204,7 @@ reports-told (x ∷ xs) (y ∷ ys) e =
     let h : x ≡ y = λ i. record { inclusion = a i; zeroPlanes = b i; planes = c i; passes = d i } in
     ap₂ (λ (z : BlockReport) (zs : List BlockReport). z ∷ zs) h (reports-told xs ys r)
 
-records-told : (xs ys : List SegmentRecord) → recordWords xs ≡ recordWords ys → xs ≡ ys
-unfolding recordWords
-records-told [] [] e = refl
-records-told [] (y ∷ ys) e = let z : _≡_ {A = ℕ} 0 1 = cc in absurd (omega arith)
-records-told (x ∷ xs) [] e = let z : _≡_ {A = ℕ} 0 1 = cc in absurd (omega arith)
-records-told (x ∷ xs) (y ∷ ys) e =
-    let a : x .block ≡ y .block = cc in
-    let b : x .opens ≡ y .opens = cc in
-    let c : x .passes ≡ y .passes = cc in
-    let d : x .bytes ≡ y .bytes = cc in
-    let r : recordWords xs ≡ recordWords ys = cc in
-    let h : x ≡ y = λ i. record { block = a i; opens = b i; passes = c i; bytes = d i } in
-    ap₂ (λ (z : SegmentRecord) (zs : List SegmentRecord). z ∷ zs) h (records-told xs ys r)
-
-over-same : (lent xs ys : List ℕ) → length xs ≡ length ys → overwrite lent xs ≡ overwrite lent ys → xs ≡ ys
+over-same : (lent xs ys : List SegmentRecord) → length xs ≡ length ys → overwrite lent xs ≡ overwrite lent ys → xs ≡ ys
 unfolding overwrite
 over-same lent xs ys l e =
     sym (take-append-seam xs (drop (length xs) lent)) ∙ ap (take (length xs)) e
@@ -244,16 +231,16 @@ module _ (s : ℕ) (ws : List ℕ) (es : List BlockEntry) (R : Reached s ws es) 
   abbrev recordsOwed : WriteCall → ℕ
   recordsOwed c = length (owedFor s ws es c .entry .records)
 
-  abbrev call : ReadCall
+  abbrev call : ReadCall asRecords
   call = callFor readerWords b (frontOf ws b) (length (blocks itsBands)) (recordsOwed a + recordsOwed b)
 
-  gives-a : GivesEntry (owedFor s ws es a) call (readOf readerWords call)
-  gives-a = packet-gives itsBands s itsLayer ws readerWords es a between (A .accepts) (A .terminated) call
+  gives-a : GivesEntry asRecords (owedFor s ws es a) call (readOf asRecords readerWords call)
+  gives-a = packet-gives itsBands s itsLayer ws readerWords es a between (A .accepts) (A .terminated) asRecords call
       (reads-packet s ws readerWords es a b (frontOf ws b) (length (blocks itsBands)) (recordsOwed a + recordsOwed b) marked begins
       (reports-are itsBands s itsLayer ws readerWords es a between (A .accepts) (A .terminated)) (omega arith))
 
-  gives-b : GivesEntry (owedFor s ws es b) call (readOf readerWords call)
-  gives-b = packet-gives itsBands s itsLayer ws readerWords es b between (B .accepts) (B .terminated) call
+  gives-b : GivesEntry asRecords (owedFor s ws es b) call (readOf asRecords readerWords call)
+  gives-b = packet-gives itsBands s itsLayer ws readerWords es b between (B .accepts) (B .terminated) asRecords call
       (reads-packet s ws readerWords es b b (frontOf ws b) (length (blocks itsBands)) (recordsOwed a + recordsOwed b) refl
       (take-length (frontOf ws b)) (reports-are itsBands s itsLayer ws readerWords es b between (B .accepts) (B .terminated))
       (omega arith))
@@ -267,12 +254,8 @@ module _ (s : ℕ) (ws : List ℕ) (es : List BlockEntry) (R : Reached s ws es) 
       let F : Entry = owedFor s ws es b .entry in
       let p : E .reports ≡ F .reports = reports-told (E .reports) (F .reports) (sym (gives-a .reports) ∙ gives-b .reports) in
       let n : length (E .records) ≡ length (F .records) = sym (gives-a .segments) ∙ gives-b .segments in
-      let l : length (recordWords (E .records)) ≡ length (recordWords (F .records)) = record-words-length (E .records)
-      ∙ ap (λ (z : ℕ). recordWidth * z) n ∙ sym (record-words-length (F .records)) in
       let q : E .records ≡ F .records =
-      records-told (E .records) (F .records)
-      (over-same (call .records) (recordWords (E .records)) (recordWords (F .records)) l
-      (sym (gives-a .records) ∙ gives-b .records)) in
+      over-same (call .records) (E .records) (F .records) n (sym (gives-a .records) ∙ gives-b .records) in
       sym (owed-entry s ws es a) ∙ (λ i. record { reports = p i; records = q i }) ∙ owed-entry s ws es b
 
 -- Two writing calls accepted in the same state with the same markers, each meeting the termination rule: different entries of the
@@ -312,17 +295,19 @@ report-passes e c =
     (λ h. ap (λ (x : BlockReport). x .passes) (if-ne c 0 _ _ h)
     ∙ either (λ (x : BlockReport). x .passes ≡ c) (eqb (e .passes) 0) _ _ refl refl)
 
-counts-in : (s i : ℕ) (es : List BlockEntry) (cs ls : List ℕ) → length cs ≡ length es → passesIn (entryFrom s i es cs ls .reports) ≡ cs
+counts-in : (s i before : ℕ) (es : List BlockEntry) (cs ls : List ℕ) → length cs ≡ length es
+    → passesIn (entryFrom s i before es cs ls .reports) ≡ cs
 unfolding entryFrom
-counts-in s i [] [] ls h = refl
-counts-in s i [] (c ∷ cs) ls h = absurd (omega arith)
-counts-in s i (e ∷ es) [] ls h = absurd (omega arith)
-counts-in s i (e ∷ es) (c ∷ cs) ls h =
-    ap₂ (λ (x : ℕ) (xs : List ℕ). x ∷ xs) (report-passes e c) (counts-in s (i + 1) es cs (drop c ls) (omega arith))
+counts-in s i before [] [] ls h = refl
+counts-in s i before [] (c ∷ cs) ls h = absurd (omega arith)
+counts-in s i before (e ∷ es) [] ls h = absurd (omega arith)
+counts-in s i before (e ∷ es) (c ∷ cs) ls h =
+    ap₂ (λ (x : ℕ) (xs : List ℕ). x ∷ xs) (report-passes e c)
+    (counts-in s (i + 1) (before + sum (take c ls)) es cs (drop c ls) (omega arith))
 
 counts-told : (s : ℕ) (es : List BlockEntry) (cs ls : List ℕ) → length cs ≡ length es → passesIn (entry s es cs ls .reports) ≡ cs
 unfolding entry
-counts-told s es cs ls h = counts-in s 0 es cs ls h
+counts-told s es cs ls h = counts-in s 0 0 es cs ls h
 
 pub different-counts-differ : (s : ℕ) (ws : List ℕ) (book : List BlockEntry) → Reached s ws book → (a b : WriteCall)
     → Writes s ws book a → Writes s ws book b → a .markers ≡ b .markers
@@ -342,69 +327,70 @@ different-counts-differ s ws book R a b A B marked differ =
 -- ---- refusals of reads
 
 -- a read of the packet o in the state rs, with its markers and an input that begins with it, whatever scratch, reports and records are lent
-abbrev pub NeverBroken : List ℕ → Owed → Type 0
-NeverBroken rs o =
-    (c : ReadCall) → c .markers ≡ o .markers → take (length (o .front)) (c .input) ≡ o .front
-    → (readOf rs c .answer .refusal ≢ 9) × (readOf rs c .answer .refusal ≢ 12)
-    × (readOf rs c .answer .refusal ≡ 13 → length (c .records) < recordWidth * length (o .entry .records))
+abbrev pub NeverBroken : (form : RecordForm) → List ℕ → Owed → Type 0
+NeverBroken form rs o =
+    (c : ReadCall form) → c .markers ≡ o .markers → take (length (o .front)) (c .input) ≡ o .front
+    → (readOf form rs c .answer .refusal ≢ 9) × (readOf form rs c .answer .refusal ≢ 12)
+    × (readOf form rs c .answer .refusal ≡ 13 → form .room (c .records) < length (o .entry .records))
 
 -- after any list of reads, refused ones and reads of the packets in order, the next packet is such
-unfoldable pub NextNeverBroken : List ℕ → List Owed → List ReaderCall → Type 0
-NextNeverBroken rs [] cs = Unit {0}
-NextNeverBroken rs (o ∷ os) [] = NeverBroken rs o
-NextNeverBroken rs (o ∷ os) (refusedRead c ∷ cs) = 0 < readOf rs c .answer .refusal → NextNeverBroken (readOf rs c .state) (o ∷ os) cs
-NextNeverBroken rs (o ∷ os) (packetRead c ∷ cs) = ReadsPacket rs o c → NextNeverBroken (readOf rs c .state) os cs
+unfoldable pub NextNeverBroken : (form : RecordForm) → List ℕ → List Owed → List (ReaderCall form) → Type 0
+NextNeverBroken form rs [] cs = Unit {0}
+NextNeverBroken form rs (o ∷ os) [] = NeverBroken form rs o
+NextNeverBroken form rs (o ∷ os) (refusedRead c ∷ cs) =
+    0 < readOf form rs c .answer .refusal → NextNeverBroken form (readOf form rs c .state) (o ∷ os) cs
+NextNeverBroken form rs (o ∷ os) (packetRead c ∷ cs) = ReadsPacket form rs o c → NextNeverBroken form (readOf form rs c .state) os cs
 
-no-packet : (rs : List ℕ) (os : List Owed) (cs : List ReaderCall) → os ≡ [] → NextNeverBroken rs os cs
+no-packet : (form : RecordForm) (rs : List ℕ) (os : List Owed) (cs : List (ReaderCall form)) → os ≡ [] → NextNeverBroken form rs os cs
 unfolding NextNeverBroken
-no-packet rs os cs e = subst (λ (z : List Owed). NextNeverBroken rs z cs) (sym e) tt
+no-packet form rs os cs e = subst (λ (z : List Owed). NextNeverBroken form rs z cs) (sym e) tt
 
-never-broken : (bs : List Band) (s t : ℕ) (ws rs : List ℕ) (es : List BlockEntry) (reads : List ReaderCall)
+never-broken : (form : RecordForm) (bs : List Band) (s t : ℕ) (ws rs : List ℕ) (es : List BlockEntry) (reads : List (ReaderCall form))
     (writes : List WriterCall) → Invariant bs s t ws rs es → T (allTerminatedAsStyle s ws es writes)
-    → NextNeverBroken rs (owed s ws es writes) reads
+    → NextNeverBroken form rs (owed s ws es writes) reads
 unfolding NextNeverBroken
-never-broken bs s t ws rs es [] writes y h = go (first-owed s ws es writes h)
+never-broken form bs s t ws rs es [] writes y h = go (first-owed s ws es writes h)
   where
-    go : (owed s ws es writes ≡ []) ⊎ FirstOwed s ws es writes → NextNeverBroken rs (owed s ws es writes) []
-    go (inl e) = no-packet rs (owed s ws es writes) [] e
+    go : (owed s ws es writes ≡ []) ⊎ FirstOwed s ws es writes → NextNeverBroken form rs (owed s ws es writes) []
+    go (inl e) = no-packet form rs (owed s ws es writes) [] e
     go (inr f) =
-        subst (λ (os : List Owed). NextNeverBroken rs os []) (sym (f .is))
-        (λ c marked begins. read-harmless bs s t ws rs es (f .call) y (f .accepts) (f .terminated) c
+        subst (λ (os : List Owed). NextNeverBroken form rs os []) (sym (f .is))
+        (λ c marked begins. read-harmless bs s t ws rs es (f .call) y (f .accepts) (f .terminated) form c
         (marked ∙ owed-markers s ws es (f .call)) begins)
-never-broken bs s t ws rs es (refusedRead c ∷ reads) writes y h =
-    go (first-owed s ws es writes h) (never-broken bs s t ws rs es reads writes y h)
+never-broken form bs s t ws rs es (refusedRead c ∷ reads) writes y h =
+    go (first-owed s ws es writes h) (never-broken form bs s t ws rs es reads writes y h)
   where
-    go : (owed s ws es writes ≡ []) ⊎ FirstOwed s ws es writes → NextNeverBroken rs (owed s ws es writes) reads
-        → NextNeverBroken rs (owed s ws es writes) (refusedRead c ∷ reads)
-    go (inl e) k = no-packet rs (owed s ws es writes) (refusedRead c ∷ reads) e
+    go : (owed s ws es writes ≡ []) ⊎ FirstOwed s ws es writes → NextNeverBroken form rs (owed s ws es writes) reads
+        → NextNeverBroken form rs (owed s ws es writes) (refusedRead c ∷ reads)
+    go (inl e) k = no-packet form rs (owed s ws es writes) (refusedRead c ∷ reads) e
     go (inr f) k =
-        subst (λ (os : List Owed). NextNeverBroken rs os (refusedRead c ∷ reads)) (sym (f .is))
-        (λ z. subst (λ (v : List ℕ). NextNeverBroken v
+        subst (λ (os : List Owed). NextNeverBroken form rs os (refusedRead c ∷ reads)) (sym (f .is))
+        (λ z. subst (λ (v : List ℕ). NextNeverBroken form v
         (owedFor s ws es (f .call) ∷ owed s (writeOf ws (f .call) .state) (addCounts es (f .call .contribution .counts)) (f .rest))
-        reads) (sym (refused-read-keeps rs c z)) (subst (λ (os : List Owed). NextNeverBroken rs os reads) (f .is) k))
-never-broken bs s t ws rs es (packetRead c ∷ reads) writes y h =
-    go (first-owed s ws es writes h) (λ v u es₂ later i k. never-broken bs s (t + 1) v u es₂ reads later i k)
+        reads) (sym (refused-read-keeps form rs c z)) (subst (λ (os : List Owed). NextNeverBroken form rs os reads) (f .is) k))
+never-broken form bs s t ws rs es (packetRead c ∷ reads) writes y h =
+    go (first-owed s ws es writes h) (λ v u es₂ later i k. never-broken form bs s (t + 1) v u es₂ reads later i k)
   where
     go : (owed s ws es writes ≡ []) ⊎ FirstOwed s ws es writes
         → ((v u : List ℕ) (es₂ : List BlockEntry) (later : List WriterCall) → Invariant bs s (t + 1) v u es₂
-        → T (allTerminatedAsStyle s v es₂ later) → NextNeverBroken u (owed s v es₂ later) reads)
-        → NextNeverBroken rs (owed s ws es writes) (packetRead c ∷ reads)
-    go (inl e) k = no-packet rs (owed s ws es writes) (packetRead c ∷ reads) e
+        → T (allTerminatedAsStyle s v es₂ later) → NextNeverBroken form u (owed s v es₂ later) reads)
+        → NextNeverBroken form rs (owed s ws es writes) (packetRead c ∷ reads)
+    go (inl e) k = no-packet form rs (owed s ws es writes) (packetRead c ∷ reads) e
     go (inr f) k =
-        subst (λ (os : List Owed). NextNeverBroken rs os (packetRead c ∷ reads)) (sym (f .is))
-        (λ ask. k (writeOf ws (f .call) .state) (readOf rs c .state) (addCounts es (f .call .contribution .counts)) (f .rest)
-        (after-packet bs s t ws rs es (f .call) y (f .accepts) (f .terminated) c ask) (f .rest-terminated))
+        subst (λ (os : List Owed). NextNeverBroken form rs os (packetRead c ∷ reads)) (sym (f .is))
+        (λ ask. k (writeOf ws (f .call) .state) (readOf form rs c .state) (addCounts es (f .call .contribution .counts)) (f .rest)
+        (after-packet bs s t ws rs es (f .call) y (f .accepts) (f .terminated) form c ask) (f .rest-terminated))
 
 -- Reading a packet that the writer made never gives 9 or 12, and 13 only when fewer records are lent than the book's entry has.
-pub packets-never-broken : (n : ℕ) (given : List Band) (style : ℕ) (planes lent lent′ : List ℕ)
+pub packets-never-broken : (form : RecordForm) (n : ℕ) (given : List Band) (style : ℕ) (planes lent lent′ : List ℕ)
     → start writer n given style planes lent .answer ≡ 0
     → start reader n given style [] lent′ .answer ≡ 0
     → (ws : List WriterCall)
     → T (allTerminatedAsStyle style (start writer n given style planes lent .state) (newBook (take n given) planes) ws)
-    → (rs : List ReaderCall)
-    → NextNeverBroken (start reader n given style [] lent′ .state)
+    → (rs : List (ReaderCall form))
+    → NextNeverBroken form (start reader n given style [] lent′ .state)
     (owed style (start writer n given style planes lent .state) (newBook (take n given) planes) ws) rs
-packets-never-broken n given style planes lent lent′ ew er ws h rs =
-    never-broken (take n given) style 0 (start writer n given style planes lent .state) (start reader n given style [] lent′ .state)
+packets-never-broken form n given style planes lent lent′ ew er ws h rs =
+    never-broken form (take n given) style 0 (start writer n given style planes lent .state) (start reader n given style [] lent′ .state)
     (newBook (take n given) planes) rs ws
     (after-start n given style planes lent lent′ ew er) h

@@ -10,6 +10,7 @@ use Rattle.t800.specs.declared.Band.{Band}
 use Rattle.t800.specs.declared.Markers.{Markers}
 use Rattle.t800.specs.State.{writer, reader}
 use Rattle.t800.specs.Start.{start}
+use Rattle.t800.specs.Reports.{RecordForm}
 use Rattle.t800.specs.Book.{BlockEntry, newBook, terminatedAt, terminatedAsStyle}
 use Rattle.t800.specs.Interface.{WriteCall, writeOf}
 use Rattle.round_trip.proofs.Trip.Lists.{WriterCall, measuring, writing, owedFor, owed, allTerminatedAsStyle, ReaderCall}
@@ -89,5 +90,6 @@ unfolding rowHolds owed owedFor
 seven-owed = refl
 
 -- so the round trip applies
-applies : (rs : List ReaderCall) → ReadsAsOwed (start reader 2 given 1 [] lent .state) (owed 1 state book calls) rs
-applies rs = all-packets-read 2 given 1 planes lent lent (starts .0) (starts .1) calls terminates rs
+applies : (form : RecordForm) (rs : List (ReaderCall form))
+    → ReadsAsOwed form (start reader 2 given 1 [] lent .state) (owed 1 state book calls) rs
+applies form rs = all-packets-read form 2 given 1 planes lent lent (starts .0) (starts .1) calls terminates rs

@@ -9,6 +9,7 @@ use lib.ListN.{length, getD, set, drop}
 use lib.Dec.{T}
 use Rattle.t800.specs.declared.Bio.{Bio}
 use Rattle.t800.specs.Bits.{bioAt, pack, endsInFF, bytesTaken}
+use Rattle.t800.specs.Reports.{bodyBytes}
 use Rattle.t800.specs.State.{Block, notYetIncluded}
 use Rattle.t800.specs.WriteHeader.{Contribution, setNewBlocks}
 use Rattle.t800.specs.ReadHeader.{readBlocks}
@@ -44,7 +45,7 @@ pub header-read : (L : Layout) (s t : ℕ) (ks : List Block) → AllPlaced L ks 
     → T (terminatedAsStyle s es (c .counts) (c .marks)) → length (entry s es (c .counts) (c .lengths) .records) ≤ room
     → drop p src ≡ pack (1 ∷ headerBlocks t ks c ws .bits) ++ tail
     → HeaderReadBack L s t src room p (length (pack (1 ∷ headerBlocks t ks c ws .bits))) ws rs (headerBlocks t ks c ws .words) ks es c
-unfolding entry
+unfolding entry bodyBytes
 header-read L s t ks f ht src tail room p ws rs es c W y b q term enough e =
     let cs : List ℕ = c .counts in
     let us : List ℕ = setNewBlocks t ks cs ws in
@@ -65,9 +66,9 @@ header-read L s t ks f ht src tail room p ws rs es c W y b q term enough e =
     let g = packed-bits-read src tail 1 (headerBlocks t ks c ws .bits) p (omega arith) (bits-blocks t ks cs (c .lengths) (c .marks) us) e in
     let ready = all-ready L s t ws us ks es cs (c .lengths) (c .marks) ht f (N .only) b (n .1) (λ a m. W .blocks a m .most)
     (q .counts) (q .lengths) (q .marks) (q .few) (q .fits) term in
-    let z = blocks-read L s t src room (g .end) ks es cs (c .lengths) (c .marks) 0 us rs (bioAfter src (bioAt p)) [] [] ht f set
-    ready (g .reads .2)
-    (le-trans (le-of-eq (zero-add (length (entryFrom s 0 es cs (c .lengths) .records)))) enough) in
+    let z = blocks-read L s t src room (g .end) ks es cs (c .lengths) (c .marks) 0 0 us rs (bioAfter src (bioAt p)) [] [] ht f set
+    ready (g .reads .2) refl
+    (le-trans (le-of-eq (zero-add (length (entryFrom s 0 0 es cs (c .lengths) .records)))) enough) in
     record {
       words = z .words;
       first-bit = g .reads .1;

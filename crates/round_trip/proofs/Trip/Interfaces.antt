@@ -138,28 +138,30 @@ module _ (I : Interface) where
   -- ---- the reader's
 
   read-by : (ws : List ℕ) (m : I .reads .Made) → I .reads .found m ≡ ws → I .reads .asked m ≡ true → I .reads .left m
-      ≡ readOf ws (I .reads .args m)
-  read-by ws m e a = I .reads .meets m a ∙ ap (λ (vs : List ℕ). readOf vs (I .reads .args m)) e
+      ≡ readOf (I .form) ws (I .reads .args m)
+  read-by ws m e a = I .reads .meets m a ∙ ap (λ (vs : List ℕ). readOf (I .form) vs (I .reads .args m)) e
 
-  reads-are : (ws : List ℕ) (os : List Owed) (rs : List (ReaderMade I)) → ((cs : List ReaderCall) → ReadsAsOwed ws os cs)
+  reads-are : (ws : List ℕ) (os : List Owed) (rs : List (ReaderMade I))
+      → ((cs : List (ReaderCall (I .form))) → ReadsAsOwed (I .form) ws os cs)
       → made.ReadsAsOwed I ws os rs
   unfolding ReadsAsOwed made.ReadsAsOwed
   reads-are ws os [] h = h []
   reads-are ws os (refusedMade m ∷ rs) h =
       λ e n. on-bool (I .reads .asked m)
       (λ a. let k = read-by ws m e a in
-      subst (λ (z : ReadResult). made.ReadsAsOwed I (z .state) os rs) (sym k)
-      (reads-are (readOf ws (I .reads .args m) .state) os rs
-      (λ cs. h (refusedRead (I .reads .args m) ∷ cs) (subst (λ (z : ReadResult). 0 < z .answer .refusal) k n))))
+      subst (λ (z : ReadResult (I .form)). made.ReadsAsOwed I (z .state) os rs) (sym k)
+      (reads-are (readOf (I .form) ws (I .reads .args m) .state) os rs
+      (λ cs. h (refusedRead (I .reads .args m) ∷ cs) (subst (λ (z : ReadResult (I .form)). 0 < z .answer .refusal) k n))))
       (λ a. subst (λ (vs : List ℕ). made.ReadsAsOwed I vs os rs)
-      (sym (ap (λ (z : ReadResult). z .state) (I .reads .refuses m a) ∙ e)) (reads-are ws os rs h))
+      (sym (ap (λ (z : ReadResult (I .form)). z .state) (I .reads .refuses m a) ∙ e)) (reads-are ws os rs h))
   reads-are ws [] (packetMade m ∷ rs) h = tt
   reads-are ws (o ∷ os) (packetMade m ∷ rs) h =
       λ e a p. let k = read-by ws m e a in let g = h (packetRead (I .reads .args m) ∷ []) p in (
-        subst (GivesEntry o (I .reads .args m)) (sym k) (g .0),
-        (λ more n f b c. subst (GivesEntry o (I .reads .args m)) (sym (read-by ws n f b ∙ ap (readOf ws) c)) (g .1 more)),
-        subst (λ (z : ReadResult). made.ReadsAsOwed I (z .state) os rs) (sym k)
-            (reads-are (readOf ws (I .reads .args m) .state) os rs (λ cs. h (packetRead (I .reads .args m) ∷ cs) p .2)),
+        subst (GivesEntry (I .form) o (I .reads .args m)) (sym k) (g .0),
+        (λ more n f b c. subst (GivesEntry (I .form) o (I .reads .args m)) (sym (read-by ws n f b ∙ ap (readOf (I .form) ws) c))
+            (g .1 more)),
+        subst (λ (z : ReadResult (I .form)). made.ReadsAsOwed I (z .state) os rs) (sym k)
+            (reads-are (readOf (I .form) ws (I .reads .args m) .state) os rs (λ cs. h (packetRead (I .reads .args m) ∷ cs) p .2)),
       )
 
   -- ---- starts
@@ -220,9 +222,9 @@ module _ (I : Interface) where
         let g : Follows I first ws = subst (λ (z : StartResult). Follows I (z .state) ws) writer-is f in
         subst (λ (z : StartResult). made.ReadsAsOwed I (z .state) (made.owed I style (bookOf I w) ws) rs) (sym reader-is)
         (reads-are (start reader n given style [] (I .starts reader .found r) .state) (made.owed I style (bookOf I w) ws) rs
-        (λ cs. subst (λ (os : List Owed). ReadsAsOwed (start reader n given style [] (I .starts reader .found r) .state) os cs)
+        (λ cs. subst (λ (os : List Owed). ReadsAsOwed (I .form) (start reader n given style [] (I .starts reader .found r) .state) os cs)
         (sym (owed-is style first (bookOf I w) ws g))
-        (all-packets-read n given style planes (I .starts writer .found w) (I .starts reader .found r) writer-accepts
+        (all-packets-read (I .form) n given style planes (I .starts writer .found w) (I .starts reader .found r) writer-accepts
         (sym (ap (λ (z : StartResult). z .answer) reader-is) ∙ er) (callsOf ws)
         (subst T (terminated-is style first (bookOf I w) ws g) t) cs)))
 

@@ -3,7 +3,7 @@ use mathlib.Core.Path.{_≡_, refl, sym, ap, _∙_, subst}
 use mathlib.Core.Logic.{_≢_, _⊎_, inl, inr}
 use mathlib.Core.Bool.{true, not}
 use mathlib.Core.List.{List, [], _∷_}
-use Prim.Native.Nat.{ℕ, suc, _+_, _*_, _/_, _≤_, _<_}
+use Prim.Native.Nat.{ℕ, suc, _+_, _*_, _≤_, _<_}
 use native.Mathlib.Nat.{le-trans, le-of-eq}
 use native.Mathlib.Omega.{arith}
 use lib.ListN.{length, set, take, drop, length-take}
@@ -14,6 +14,7 @@ use Rattle.t800.specs.declared.Band.{Band}
 use Rattle.t800.specs.declared.Markers.{Markers}
 use Rattle.t800.specs.declared.ReadAnswer.{ReadAnswer}
 use Rattle.t800.specs.declared.Bio.{Bio}
+use Rattle.t800.specs.Base.{sum}
 use Rattle.t800.specs.Bits.{bioAt, pack}
 use Rattle.t800.specs.TagTree.{Coded}
 use Rattle.t800.specs.State.{Block, notYetIncluded, blocks, bands, layer, writer, reader}
@@ -28,7 +29,7 @@ use Rattle.t800.specs.Book.{BlockEntry, entryFrom, entry, newBook, addCounts, t
 use Rattle.t800.specs.Interface.{WriteCall, writeOf, ReadCall, readOf}
 use Rattle.t800.specs.RoundTrip.{Owed, ReadsPacket, GivesEntry, withMore}
 use Rattle.round_trip.proofs.Trip.Lists.{accepted, owedFor}
-use Rattle.t800.specs.Reports.{reportWidth, recordWidth}
+use Rattle.t800.specs.Reports.{reportWidth, RecordForm}
 use Rattle.t800_laws.proofs.Laws.Lists.{no-planes}
 use Rattle.t800_laws.proofs.Laws.Layout.{Layout, layoutOf, blocks-placed, end-after}
 use Rattle.t800_laws.proofs.Laws.FirstWords.{FirstWords, next-layer}
@@ -83,16 +84,17 @@ after-start n given s planes lent lent′ ew er =
 
 -- ---- a packet
 
-reports-length : (s i : ℕ) (es : List BlockEntry) (cs ls : List ℕ) → length cs ≡ length es
-    → length (entryFrom s i es cs ls .reports) ≡ length es
+reports-length : (s i before : ℕ) (es : List BlockEntry) (cs ls : List ℕ) → length cs ≡ length es
+    → length (entryFrom s i before es cs ls .reports) ≡ length es
 unfolding entryFrom
-reports-length s i [] cs ls h = refl
-reports-length s i (e ∷ es) [] ls h = absurd (omega arith)
-reports-length s i (e ∷ es) (c ∷ cs) ls h = ap suc (reports-length s (i + 1) es cs (drop c ls) (omega arith))
+reports-length s i before [] cs ls h = refl
+reports-length s i before (e ∷ es) [] ls h = absurd (omega arith)
+reports-length s i before (e ∷ es) (c ∷ cs) ls h =
+    ap suc (reports-length s (i + 1) (before + sum (take c ls)) es cs (drop c ls) (omega arith))
 
 entry-reports : (s : ℕ) (es : List BlockEntry) (cs ls : List ℕ) → length cs ≡ length es → length (entry s es cs ls .reports) ≡ length es
 unfolding entry
-entry-reports s es cs ls h = reports-length s 0 es cs ls h
+entry-reports s es cs ls h = reports-length s 0 0 es cs ls h
 
 read-not-refused : (rs scratch reports : List ℕ) → validState reader rs (length scratch) ≡ true → layer rs ≢ notYetIncluded
     → length reports ≡ reportWidth * length (blocks (bands rs)) → readRefusal rs scratch reports ≡ 0
@@ -106,8 +108,9 @@ unfolding front
 front-coded ws c m number t ks l k = ap (λ (x : Coded). withMarkers m number (pack (x .bits))) (header-coded c ws t ks l k)
 
 -- the same call with more input reads the packet too
-reads-with-more : (rs : List ℕ) (o : Owed) (r : ReadCall) (more : List ℕ) → ReadsPacket rs o r → ReadsPacket rs o (withMore r more)
-reads-with-more rs o r more a =
+reads-with-more : (form : RecordForm) (rs : List ℕ) (o : Owed) (r : ReadCall form) (more : List ℕ) → ReadsPacket form rs o r
+    → ReadsPacket form rs o (withMore form r more)
+reads-with-more form rs o r more a =
     record {
       same-markers = a .same-markers;
       begins = take-append-le (length (o .front)) (r .input) more (long (length (o .front)) (r .input) (o .front) refl (a .begins))
@@ -147,7 +150,7 @@ module _ (bs : List Band) (s t : ℕ) (ws rs : List ℕ) (es : List BlockEntry) 
       entry-reports s es (c .counts) (c .lengths) (acceptable bs s t ws w W a .counts ∙ sym l) ∙ l
 
   -- the call r reads the packet
-  module _ (r : ReadCall) (ask : ReadsPacket rs (owedFor s ws es w) r) where
+  module _ (form : RecordForm) (r : ReadCall form) (ask : ReadsPacket form rs (owedFor s ws es w) r) where
     not-refused-yet : readRefusal rs (r .scratch) (r .reports) ≡ 0
     not-refused-yet = read-not-refused rs (r .scratch) (r .reports)
         (reader-in-range bs s t ws rs es (length (r .scratch)) y (ask .scratch-length))
@@ -157,8 +160,8 @@ module _ (bs : List Band) (s t : ℕ) (ws rs : List ℕ) (es : List BlockEntry) 
     abbrev Reads : List ℕ → Markers → Type 0
     Reads src m = PacketRead (layoutOf bs) s t ks (blocks-placed bs) (layer-left bs s t ws w W a) ws rs es c (W .state) (y .in-step)
         (y .booked) (acceptable bs s t ws w W a) term (y .reader-first .layer-is)
-        (ap blocks (y .reader-first .bands-are)) (w .markers) (w .number) src (r .records)
-        (read rs (r .scratch) m src (r .reports) (r .records))
+        (ap blocks (y .reader-first .bands-are)) (w .markers) (w .number) src form (r .records)
+        (read form rs (r .scratch) m src (r .reports) (r .records))
 
     reads : Reads (r .input) (r .markers)
     unfolding owedFor
@@ -166,11 +169,11 @@ module _ (bs : List Band) (s t : ℕ) (ws rs : List ℕ) (es : List BlockEntry) 
         subst (Reads (r .input)) (sym (ask .same-markers))
         (packet-read (layoutOf bs) s t ks (blocks-placed bs) (layer-left bs s t ws w W a) ws rs es c (W .state) (y .in-step)
         (y .booked) (acceptable bs s t ws w W a) term (y .reader-first .layer-is)
-        (ap blocks (y .reader-first .bands-are)) (w .markers) (w .number) (r .input) (r .scratch) (r .reports) (r .records)
+        (ap blocks (y .reader-first .bands-are)) (w .markers) (w .number) (r .input) form (r .scratch) (r .reports) (r .records)
         not-refused-yet (ask .records-enough)
         (subst (λ (x : List ℕ). take (length x) (r .input) ≡ x) front-is (ask .begins)))
 
-    pub packet-gives : GivesEntry (owedFor s ws es w) r (readOf rs r)
+    pub packet-gives : GivesEntry form (owedFor s ws es w) r (readOf form rs r)
     unfolding owedFor
     packet-gives =
         let ans = reads .answer in
@@ -185,7 +188,7 @@ module _ (bs : List Band) (s t : ℕ) (ws rs : List ℕ) (es : List BlockEntry) 
           records = reads .records-are;
         }
 
-    pub after-packet : Invariant bs s (t + 1) (writeOf ws w .state) (readOf rs r .state) (addCounts es (c .counts))
+    pub after-packet : Invariant bs s (t + 1) (writeOf ws w .state) (readOf form rs r .state) (addCounts es (c .counts))
     after-packet =
         let L : Layout = layoutOf bs in
         let vs : List ℕ = headerBlocks t ks c ws .words in
@@ -203,10 +206,10 @@ module _ (bs : List Band) (s t : ℕ) (ws rs : List ℕ) (es : List BlockEntry) 
         })
 
   -- more input doesn't change what is given
-  pub more-gives : (r : ReadCall) → ReadsPacket rs (owedFor s ws es w) r → (more : List ℕ)
-      → GivesEntry (owedFor s ws es w) r (readOf rs (withMore r more))
-  more-gives r ask more =
-      let g = packet-gives (withMore r more) (reads-with-more rs (owedFor s ws es w) r more ask) in
+  pub more-gives : (form : RecordForm) (r : ReadCall form) → ReadsPacket form rs (owedFor s ws es w) r → (more : List ℕ)
+      → GivesEntry form (owedFor s ws es w) r (readOf form rs (withMore form r more))
+  more-gives form r ask more =
+      let g = packet-gives form (withMore form r more) (reads-with-more form rs (owedFor s ws es w) r more ask) in
       record {
         accepts = g .accepts;
         present = g .present;
@@ -219,17 +222,18 @@ module _ (bs : List Band) (s t : ℕ) (ws rs : List ℕ) (es : List BlockEntry) 
       }
 
   -- a read of the packet, whatever else is lent: never 9 or 12, and 13 only for want of records
-  abbrev pub Harmless : ReadCall → ℕ → Type 0
-  Harmless r x = (x ≢ 9) × (x ≢ 12) × (x ≡ 13 → length (r .records) < recordWidth * length (owedFor s ws es w .entry .records))
+  abbrev pub Harmless : (form : RecordForm) → ReadCall form → ℕ → Type 0
+  Harmless form r x = (x ≢ 9) × (x ≢ 12) × (x ≡ 13 → form .room (r .records) < length (owedFor s ws es w .entry .records))
 
-  pub read-harmless : (r : ReadCall) → r .markers ≡ w .markers → take (length (owedFor s ws es w .front)) (r .input)
-      ≡ owedFor s ws es w .front → Harmless r (readOf rs r .answer .refusal)
+  pub read-harmless : (form : RecordForm) (r : ReadCall form) → r .markers ≡ w .markers
+      → take (length (owedFor s ws es w .front)) (r .input) ≡ owedFor s ws es w .front
+      → Harmless form r (readOf form rs r .answer .refusal)
   unfolding read readAbsent readPresent readRefusal owedFor
-  read-harmless r marked begins =
-      let room : ℕ = length (r .records) / recordWidth in
+  read-harmless form r marked begins =
+      let room : ℕ = form .room (r .records) in
       let src : List ℕ = r .input in
-      let P : ℕ → Type 0 = Harmless r in
-      let Q : ReadResult → Type 0 = λ x. P (x .answer .refusal) in
+      let P : ℕ → Type 0 = Harmless form r in
+      let Q : ReadResult form → Type 0 = λ x. P (x .answer .refusal) in
       let zero-is : P 0 = (omega arith, omega arith, λ e. absurd (omega arith)) in
       let early : P (readRefusal rs (r .scratch) (r .reports))
       = either P (not (validState reader rs (length (r .scratch)))) 5 _ (omega arith, omega arith, λ e. absurd (omega arith))
@@ -244,14 +248,12 @@ module _ (bs : List Band) (s t : ℕ) (ws rs : List ℕ) (es : List BlockEntry) 
       ∙ ap (λ (x : MarkerRead). bioAt (x .skip)) (h .1) in
       let late : P (readHeader src room rs (bioAfter src (bioAt (readSop (r .markers) src .skip))) .refusal)
       = subst (λ (b : Bio). P (readHeader src room rs (bioAfter src b) .refusal)) (sym place)
-      (by-refusal r (readHeader src room rs (bioAfter src (bioAt (h .0))) .refusal) (h .3)) in
+      (by-refusal room (readHeader src room rs (bioAfter src (bioAt (h .0))) .refusal) (h .3)) in
       either Q (not (eqb (readRefusal rs (r .scratch) (r .reports)) 0)) _ _ early
       (either Q (eqb (nextBit src (bioAt (readSop (r .markers) src .skip))) 0) _ _ zero-is
       (either Q (eqb (readHeader src room rs (bioAfter src (bioAt (readSop (r .markers) src .skip))) .refusal) 0) _ _ zero-is late))
     where
-      by-refusal : (r : ReadCall) (x : ℕ)
-          → (x ≡ 0) ⊎ ((x ≡ 13) × (length (r .records) / recordWidth < length (entry s es (c .counts) (c .lengths) .records)))
-          → (x ≢ 9) × (x ≢ 12)
-          × (x ≡ 13 → length (r .records) < recordWidth * length (entry s es (c .counts) (c .lengths) .records))
-      by-refusal r x (inl e) = (omega arith, omega arith, λ z. absurd (omega arith))
-      by-refusal r x (inr e) = (omega (arith, e .0), omega (arith, e .0), λ z. omega (arith, e .1))
+      by-refusal : (room x : ℕ) → (x ≡ 0) ⊎ ((x ≡ 13) × (room < length (entry s es (c .counts) (c .lengths) .records)))
+          → (x ≢ 9) × (x ≢ 12) × (x ≡ 13 → room < length (entry s es (c .counts) (c .lengths) .records))
+      by-refusal room x (inl e) = (omega arith, omega arith, λ z. absurd (omega arith))
+      by-refusal room x (inr e) = (omega (arith, e .0), omega (arith, e .0), λ z. e .1)

@@ -7,6 +7,7 @@ use lib.ListN.{length}
 use lib.Dec.{eqb}
 use Rattle.t800.specs.State.{reader}
 use Rattle.t800.specs.Ranges.{validState}
+use Rattle.t800.specs.Reports.{RecordForm}
 use Rattle.t800.specs.Book.{BlockEntry, addCounts, terminatedAsStyle}
 use Rattle.t800.specs.Interface.{WriteCall, writeOf, ReadCall, readOf}
 use Rattle.t800.specs.RoundTrip as made
@@ -47,14 +48,14 @@ allTerminatedAsStyle style ws book (writing c ∷ cs) =
 
 -- ---- the reader's
 
-pub data ReaderCall : Type 0 where
-  refusedRead packetRead : ReadCall → ReaderCall
+pub data ReaderCall (form : RecordForm) : Type 0 where
+  refusedRead packetRead : ReadCall form → ReaderCall form
 
-unfoldable pub ReadsAsOwed : List ℕ → List Owed → List ReaderCall → Type 0
-ReadsAsOwed ws os [] = validState reader ws (length ws) ≡ true
-ReadsAsOwed ws os (refusedRead c ∷ cs) = 0 < readOf ws c .answer .refusal → ReadsAsOwed (readOf ws c .state) os cs
-ReadsAsOwed ws [] (packetRead c ∷ cs) = Unit {0}
-ReadsAsOwed ws (o ∷ os) (packetRead c ∷ cs) =
-    ReadsPacket ws o c
-    → (GivesEntry o c (readOf ws c)) × ((more : List ℕ) → GivesEntry o c (readOf ws (withMore c more)))
-    × ReadsAsOwed (readOf ws c .state) os cs
+unfoldable pub ReadsAsOwed : (form : RecordForm) → List ℕ → List Owed → List (ReaderCall form) → Type 0
+ReadsAsOwed form ws os [] = validState reader ws (length ws) ≡ true
+ReadsAsOwed form ws os (refusedRead c ∷ cs) = 0 < readOf form ws c .answer .refusal → ReadsAsOwed form (readOf form ws c .state) os cs
+ReadsAsOwed form ws [] (packetRead c ∷ cs) = Unit {0}
+ReadsAsOwed form ws (o ∷ os) (packetRead c ∷ cs) =
+    ReadsPacket form ws o c
+    → (GivesEntry form o c (readOf form ws c)) × ((more : List ℕ) → GivesEntry form o c (readOf form ws (withMore form c more)))
+    × ReadsAsOwed form (readOf form ws c .state) os cs

@@ -3,7 +3,7 @@ use mathlib.Core.Path.{_≡_, refl, sym, ap, ap₂, _∙_}
 use mathlib.Core.Logic.{_⊎_, inl, inr}
 use mathlib.Core.Bool.{Bool, true, false, cond, _&&_}
 use mathlib.Core.List.{List, [], _∷_, _++_, append-assoc}
-use Prim.Native.Nat.{ℕ, suc, _+_, _-_, _*_, _/_, _%_, _≤_, _<_}
+use Prim.Native.Nat.{ℕ, suc, _+_, _-_, _/_, _%_, _≤_, _<_}
 use native.Mathlib.Nat.{le-refl}
 use native.Mathlib.Numerals.{add-one}
 use native.Mathlib.Omega.{arith}
@@ -13,9 +13,9 @@ use lib.Dec.{T, eqb}
 use borrow.Author.Tests.{eq-eqb}
 use Rattle.t800.specs.declared.Bio.{Bio}
 use Rattle.t800.specs.declared.Markers.{Markers}
-use Rattle.t800.specs.Base.{overwrite}
 use Rattle.t800.specs.Bits.{bioAt, pack, endsInFF, bytesTaken}
-use Rattle.t800.specs.Reports.{BlockReport, SegmentRecord, reportWords, recordWords, recordWidth}
+use Rattle.t800.specs.declared.SegmentRecord.{SegmentRecord}
+use Rattle.t800.specs.Reports.{BlockReport, reportWords, RecordForm}
 use Rattle.t800.specs.State.{Block, notYetIncluded, blocks, bands, layer}
 use Rattle.t800.specs.WriteHeader.{Contribution}
 use Rattle.t800.specs.ReadHeader.{HeaderRead, readBlocks, readHeader}
@@ -76,27 +76,27 @@ header-is : (src : List ℕ) (room : ℕ) (rs : List ℕ) (h : Bio) (t : ℕ) (k
 unfolding readHeader
 header-is src room rs h t ks us end reps recs l k e w = rw (l, k, e, w)
 
-read-is : (rs scratch : List ℕ) (m : Markers) (src reports records : List ℕ) (n : ℕ) (us : List ℕ) (end : Bio)
-    (reps : List BlockReport) (recs : List SegmentRecord) → readRefusal rs scratch reports ≡ 0
+read-is : (form : RecordForm) (rs scratch : List ℕ) (m : Markers) (src reports : List ℕ) (records : form .Lent) (n : ℕ)
+    (us : List ℕ) (end : Bio) (reps : List BlockReport) (recs : List SegmentRecord) → readRefusal rs scratch reports ≡ 0
     → readSop m src ≡ found n → nextBit src (bioAt n) ≡ 1
-    → readHeader src (length records / recordWidth) rs (bioAfter src (bioAt n)) ≡ readSoFar us end reps recs
-    → read rs scratch m src reports records ≡ readPresent rs m src records (found n) (readSoFar us end reps recs)
+    → readHeader src (form .room records) rs (bioAfter src (bioAt n)) ≡ readSoFar us end reps recs
+    → read form rs scratch m src reports records ≡ readPresent form rs m src records (found n) (readSoFar us end reps recs)
 unfolding read
-read-is rs scratch m src reports records n us end reps recs e₁ e₂ e₃ e₄ = rw (e₁, e₂, e₃, e₄)
+read-is form rs scratch m src reports records n us end reps recs e₁ e₂ e₃ e₄ = rw (e₁, e₂, e₃, e₄)
 
-present-is : (rs : List ℕ) (t : ℕ) (m : Markers) (src records : List ℕ) (n : ℕ) (us : List ℕ) (end : Bio) (reps : List BlockReport)
-    (recs : List SegmentRecord) (at skip : ℕ) → layer rs ≡ t → bytesTaken src end ≡ at
+present-is : (form : RecordForm) (rs : List ℕ) (t : ℕ) (m : Markers) (src : List ℕ) (records : form .Lent) (n : ℕ) (us : List ℕ)
+    (end : Bio) (reps : List BlockReport) (recs : List SegmentRecord) (at skip : ℕ) → layer rs ≡ t → bytesTaken src end ≡ at
     → readEph m src at ≡ found skip
-    → readPresent rs m src records (found n) (readSoFar us end reps recs)
+    → readPresent form rs m src records (found n) (readSoFar us end reps recs)
     ≡ record {
       answer = record { refusal = 0; present = 1; taken = at + skip; segments = length recs; sop = 0; eph = 0 };
       state = set us 3 (t + 1);
       scratch = set us 3 (t + 1);
       reports = reportWords reps;
-      records = overwrite records (recordWords recs);
+      records = form .stored records recs;
     }
 unfolding readPresent
-present-is rs t m src records n us end reps recs at skip l a e = rw (a, e, l)
+present-is form rs t m src records n us end reps recs at skip l a e = rw (a, e, l)
 
 -- ---- the packet
 
@@ -150,7 +150,7 @@ module _ (L : Layout) (s t : ℕ) (ks : List Block) (f : AllPlaced L ks) (ht : t
         all = sym (length-append (A ++ header) C ∙ ap (λ (z : ℕ). z + length C) (length-append A header));
       }
 
-  pub record PacketRead (records : List ℕ) (r : ReadResult) : Type 0 where
+  pub record PacketRead (form : RecordForm) (records : form .Lent) (r : ReadResult form) : Type 0 where
     pub words : List ℕ
     pub answer : r .answer
         ≡ record {
@@ -162,31 +162,31 @@ module _ (L : Layout) (s t : ℕ) (ks : List Block) (f : AllPlaced L ks) (ht : t
           eph = 0;
         }
     pub reports : r .reports ≡ reportWords (owedEntry .reports)
-    pub records-are : r .records ≡ overwrite records (recordWords (owedEntry .records))
+    pub records-are : r .records ≡ form .stored records (owedEntry .records)
     pub state : r .state ≡ set words 3 (t + 1)
     pub in-step : InStep L s (headerBlocks t ks c ws .words) words
     pub booked-after : AllBooked (headerBlocks t ks c ws .words) ks (addCounts es (c .counts))
     pub reader-first : (j : ℕ) → j < 13 → getD words j 0 ≡ getD rs j 0
 
-  pub packet-read : (scratch reports records : List ℕ) → readRefusal rs scratch reports ≡ 0
-      → recordWidth * length (owedEntry .records) ≤ length records
+  pub packet-read : (form : RecordForm) (scratch reports : List ℕ) (records : form .Lent) → readRefusal rs scratch reports ≡ 0
+      → length (owedEntry .records) ≤ form .room records
       → take (length (withMarkers m number header)) src ≡ withMarkers m number header
-      → PacketRead records (read rs scratch m src reports records)
-  packet-read scratch reports records why enough e =
-      let F = front-read (length records / recordWidth) (omega arith) e in
+      → PacketRead form records (read form rs scratch m src reports records)
+  packet-read form scratch reports records why enough e =
+      let F = front-read (form .room records) enough e in
       let h = F .back in
-      let is = read-is rs scratch m src reports records (F .before) (h .words) (h .end) (owedEntry .reports) (owedEntry .records)
+      let is = read-is form rs scratch m src reports records (F .before) (h .words) (h .end) (owedEntry .reports) (owedEntry .records)
       why (F .sop-is) (h .first-bit) (F .header-back)
-      ∙ present-is rs t m src records (F .before) (h .words) (h .end) (owedEntry .reports) (owedEntry .records)
+      ∙ present-is form rs t m src records (F .before) (h .words) (h .end) (owedEntry .reports) (owedEntry .records)
       (F .before + length header) (F .after) l (h .taken) (F .eph-is) in
       record {
         words = h .words;
-        answer = ap (λ (r : ReadResult). r .answer) is
+        answer = ap (λ (r : ReadResult form). r .answer) is
             ∙ ap (λ (z : ℕ). record { refusal = 0; present = 1; taken = z; segments = length (owedEntry .records); sop = 0; eph = 0 })
             (F .all);
-        reports = ap (λ (r : ReadResult). r .reports) is;
-        records-are = ap (λ (r : ReadResult). r .records) is;
-        state = ap (λ (r : ReadResult). r .state) is;
+        reports = ap (λ (r : ReadResult form). r .reports) is;
+        records-are = ap (λ (r : ReadResult form). r .records) is;
+        state = ap (λ (r : ReadResult form). r .state) is;
         in-step = h .in-step;
         booked-after = h .booked;
         reader-first = h .reader-first;

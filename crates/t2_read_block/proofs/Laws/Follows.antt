@@ -15,7 +15,8 @@ use Rattle.t800.specs.Bits.{Decoded, getBit, readBits}
 use Rattle.t800.specs.PassCount.{readPasses}
 use Rattle.t800.specs.TagTree.{PathRead, value, readPath}
 use Rattle.t800.specs.Segments.{width, readComma}
-use Rattle.t800.specs.Reports.{BlockReport, SegmentRecord, absent, reportWords, recordWords, recordWidth}
+use Rattle.t800.specs.declared.SegmentRecord.{SegmentRecord}
+use Rattle.t800.specs.Reports.{BlockReport, absent, reportWords, recordWords, recordWidth}
 use Rattle.t800.specs.State.{Block, notYetPlanes, lengthBits}
 use Rattle.t800.specs.WriteHeader.{isNew, lengthBitsBefore}
 use Rattle.t800.specs.ReadHeader.{HeaderRead, refused, movedTo, withReport, opensSegment, currentLimit, currentPasses, passesTaken}
@@ -28,7 +29,7 @@ use Rattle.t800_laws.proofs.Laws.Lists.{record-words-length}
 use Rattle.lists.proofs.Laws.Filled.{record-put, report-put}
 use Rattle.lists.specs.Rows.{putRow}
 use Rattle.t2_read_codes.specs.CommaCode.{mostOnes, readCommaLimited}
-use Rattle.t2_read_codes.proofs.Laws.PassCount.{passes-between}
+use Rattle.t800_laws.proofs.Laws.ReadValues.{passes-between}
 use Rattle.t2_read_codes.proofs.Laws.CommaCode.{comma-below, comma-value}
 use Rattle.t2_read_segments.specs.Reading.{Reading, stopped, movedOn, reported, nextSegment, nextSegments}
 use Rattle.t2_read_block_parts.specs.Blocks.{passesRead}

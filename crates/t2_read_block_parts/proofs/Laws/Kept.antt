@@ -20,7 +20,8 @@ use Rattle.bio_read.proofs.Laws.ReadChunks.{getBit-ct, getBit-place, readBits-c
 use Rattle.tgt_read.specs.Reading.{ValueAfter}
 use Rattle.tgt_read.proofs.Laws.Reading.{readPath-ct, readPath-place, raising-ct, raising-place}
 use Rattle.t2_read_codes.specs.CommaCode.{onesLimit, readCommaLimited}
-use Rattle.t2_read_codes.proofs.Laws.PassCount.{passes-ct, passes-place, passes-between}
+use Rattle.t800_laws.proofs.Laws.ReadValues.{passes-between}
+use Rattle.t2_read_codes.proofs.Laws.PassCount.{passes-ct, passes-place}
 use Rattle.t2_read_codes.proofs.Laws.CommaCode.{ones-ct, ones-place}
 use Rattle.t2_read_segments.specs.Reading.{Reading, stopped, nextSegment, nextSegments}
 use Rattle.t2_read_block_parts.specs.Blocks.{passesRead, nextFirst, nextAgain, nextNew}

@@ -3,7 +3,8 @@ use mathlib.Core.Path.{ap}
 use native.Mathlib.Omega.{arith}
 use lib.ListN.{length-set}
 use Rattle.t800.specs.Bits.{Decoded}
-use Rattle.t2_read_codes.proofs.Laws.PassCount.{ct-kept, passes-ct, passes-between}
+use Rattle.t800_laws.proofs.Laws.ReadValues.{passes-between}
+use Rattle.t2_read_codes.proofs.Laws.PassCount.{ct-kept, passes-ct}
 use Rattle.t2_read_codes.proofs.Laws.CommaCode.{comma-value}
 use Rattle.t2_read_block_parts.proofs.Laws.BlockParts.{passes-stored}
 use borrow.Author.Needs.{needs}

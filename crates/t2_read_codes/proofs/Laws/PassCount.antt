@@ -10,7 +10,7 @@ use borrow.Author.Tests.{eq-eqb, ne-eqb, le-leb, lt-leb}
 use Rattle.t800.specs.declared.Bio.{Bio}
 use Rattle.t800.specs.Bits.{Decoded, getBit, readBits}
 use Rattle.t800.specs.PassCount.{plus, readPasses}
-use Rattle.bio_read.proofs.Laws.ReadChunks.{getBit-ct, readBits-ct, getBit-place, readBits-place, readBits-below}
+use Rattle.bio_read.proofs.Laws.ReadChunks.{getBit-ct, readBits-ct, getBit-place, readBits-place}
 use Rattle.t2_read_codes.specs.PassCount.{readFrom3}
 
 abbrev pub passes : ℕ → Bio → Decoded
@@ -103,15 +103,6 @@ module _ (src : List ℕ) (b : Bio) where
       let h5 = readBits-place src 5 _ h2 in
       from3-each (λ d. d .bio .bp ≤ length src + 1) src b h2 h5 (readBits-place src 7 _ h5)
 
-  from3-between : (1 ≤ readFrom3 src b .value) × (readFrom3 src b .value ≤ 164)
-  from3-between =
-      let two = readBits src 2 b in
-      let five = readBits src 5 (two .bio) in
-      let l2 = readBits-below src 2 b in
-      let l5 = readBits-below src 5 (two .bio) in
-      let l7 = readBits-below src 7 (five .bio) in
-      from3-each (λ d. (1 ≤ d .value) × (d .value ≤ 164)) src b (omega arith) (omega arith) (omega arith)
-
 module _ (src : List ℕ) (b : Bio) where
   pub passes-ct : b .ct ≤ 8 → readPasses src b .bio .ct ≤ 8
   passes-ct h =
@@ -124,6 +115,3 @@ module _ (src : List ℕ) (b : Bio) where
       let h1 = getBit-place src b h in
       let h2 = getBit-place src _ h1 in
       passes-each (λ d. d .bio .bp ≤ length src + 1) src b h1 h2 (from3-place src _ h2)
-
-  pub passes-between : (1 ≤ readPasses src b .value) × (readPasses src b .value ≤ 164)
-  passes-between = passes-each (λ d. (1 ≤ d .value) × (d .value ≤ 164)) src b (omega arith) (omega arith) (from3-between src _)

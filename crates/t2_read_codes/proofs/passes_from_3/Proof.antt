@@ -5,7 +5,8 @@ use native.Mathlib.Omega.{arith}
 use borrow.Author.Needs.{needs}
 use Rattle.t800.specs.Bits.{Decoded}
 use Rattle.bio_read.specs.Reading.{decoded}
-use Rattle.bio_read.proofs.Laws.ReadChunks.{readBits-ct, readBits-below}
+use Rattle.t800_laws.proofs.Laws.ReadValues.{readBits-below}
+use Rattle.bio_read.proofs.Laws.ReadChunks.{readBits-ct}
 use Rattle.t2_read_codes.proofs.Laws.PassCount.{ct-kept, from-3, from-6, from-37}
 use Rattle.t2_read_codes.proofs.passes_from_3.Statement.{statement}
 use Rattle.t2_read_codes.proofs.passes_from_3.Tie as tie

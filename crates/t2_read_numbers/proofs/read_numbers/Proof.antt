@@ -2,6 +2,7 @@
 use mathlib.Core.Path.{sym, ap, _∙_}
 use Prim.Native.Nat.{ℕ}
 use borrow.Author.Tests.{not-true, not-false}
+use Rattle.t800.specs.Reports.{asWords}
 use Rattle.t800.specs.Packet.{refusedAnswer, readResult}
 use Rattle.t2_read_numbers.proofs.Numbers.{numbers-refused, numbers-read}
 use borrow.Author.Needs.{needs}
@@ -11,7 +12,7 @@ use Rattle.t2_read_numbers.proofs.read_numbers.Tie as tie
 returns : tie.Need-returns
 returns c =
     let a = c .before .before .before .before .before .before .before .before .before .before .args in
-    ap (λ (n : ℕ). readResult (a .state .now) (a .scratch .now) (a .reports .now) (a .work .now) (refusedAnswer n))
+    ap (λ (n : ℕ). readResult asWords (a .state .now) (a .scratch .now) (a .reports .now) (a .work .now) (refusedAnswer n))
     (c .work-refusal .ensures)
     ∙ sym (numbers-refused (a .state .now) (a .scratch .now) (a .markers) (a .src .now) (a .reports .now) (a .work .now)
     (a .room) (sym (c .before .before .before .before .four-each .ensures) ∙ not-true _ (c .before .before .before .if1 .taken)))

@@ -12,14 +12,14 @@ use Rattle.t800.specs.MarkerSegments.{MarkerRead, readMarker, readSop}
 use Rattle.t800.specs.ReadHeader.{readHeader}
 use Rattle.t800.specs.Packet.{ReadResult, refusedAnswer, readRefusal, readAbsent, read, readResult}
 use Rattle.t2_read_present.specs.Answers.{presentOrBroken}
-use Rattle.t800.specs.Reports.{recordWidth}
+use Rattle.t800.specs.Reports.{recordWidth, asWords}
 
 module _ (ws scratch : List ℕ) (m : Markers) (src reports records : List ℕ) where
   pub unchanged-is : (why : ℕ) (answer : ReadAnswer) → why ≡ readRefusal ws scratch reports → why ≢ 0 → answer ≡ refusedAnswer why
-      → readResult ws scratch reports records answer ≡ read ws scratch m src reports records
+      → readResult asWords ws scratch reports records answer ≡ read asWords ws scratch m src reports records
   unfolding read
   unchanged-is why answer e n a =
-      ap (readResult ws scratch reports records) (a ∙ ap refusedAnswer e) ∙ rw (ne-eqb (readRefusal ws scratch reports) 0 (λ z. n (e ∙ z)))
+      ap (readResult asWords ws scratch reports records) (a ∙ ap refusedAnswer e) ∙ rw (ne-eqb (readRefusal ws scratch reports) 0 (λ z. n (e ∙ z)))
 
   module _ (none : readRefusal ws scratch reports ≡ 0) (s : MarkerRead) (is : s ≡ readMarker (m .sop) 6 0x91 src 0)
       (first : Decoded) (bit : first ≡ getBit src (bioAt (s .skip))) where
@@ -30,19 +30,19 @@ module _ (ws scratch : List ℕ) (m : Markers) (src reports records : List ℕ) 
     first-is : first ≡ getBit src (bioAt (readSop m src .skip))
     first-is = bit ∙ ap (λ (f : MarkerRead). getBit src (bioAt (f .skip))) sop-is
 
-    pub read-absent-is : (o : ReadResult) → first .value ≡ 0 → o ≡ readAbsent ws m src reports records s (first .bio) → o
-        ≡ read ws scratch m src reports records
+    pub read-absent-is : (o : ReadResult asWords) → first .value ≡ 0 → o ≡ readAbsent asWords ws m src reports records s (first .bio) → o
+        ≡ read asWords ws scratch m src reports records
     unfolding read
     read-absent-is o z e =
-        e ∙ (λ j. readAbsent ws m src reports records (sop-is j) (first-is j .bio))
+        e ∙ (λ j. readAbsent asWords ws m src reports records (sop-is j) (first-is j .bio))
         ∙ rw (
           eq-eqb (readRefusal ws scratch reports) 0 none,
           eq-eqb (getBit src (bioAt (readSop m src .skip)) .value) 0 (sym (ap (λ (d : Decoded). d .value) first-is) ∙ z),
         )
 
-    pub read-present-is : (o : ReadResult) → first .value ≢ 0 → o
+    pub read-present-is : (o : ReadResult asWords) → first .value ≢ 0 → o
         ≡ presentOrBroken ws scratch m src reports records s (readHeader src (length records / recordWidth) ws (first .bio)) → o
-        ≡ read ws scratch m src reports records
+        ≡ read asWords ws scratch m src reports records
     unfolding read presentOrBroken
     read-present-is o z e =
         e ∙ (λ j. presentOrBroken ws scratch m src reports records (sop-is j)

@@ -9,7 +9,7 @@ use Rattle.t800.specs.declared.Bio.{Bio}
 use Rattle.t800.specs.declared.Markers.{Markers}
 use Rattle.t800.specs.declared.ReadAnswer.{ReadAnswer}
 use Rattle.t800.specs.Base.{overwrite, wiped}
-use Rattle.t800.specs.Reports.{BlockReport, reportWords, reportWidth, recordWidth}
+use Rattle.t800.specs.Reports.{BlockReport, reportWords, reportWidth, recordWidth, asWords}
 use Rattle.t800.specs.State.{layer, bands, blocks}
 use Rattle.t800.specs.MarkerSegments.{MarkerRead}
 use Rattle.t800.specs.ReadHeader.{HeaderRead, readHeader}
@@ -41,17 +41,17 @@ module _ (ws scratch : List ℕ) (m : Markers) (src reports records : List ℕ) 
   pub broken-is : (xs ys zs : List ℕ) (answer : ReadAnswer) → a .refusal ≢ 0 → length (a .words) ≡ length scratch
       → length (a .reports) ≡ length reports → length (a .records) ≡ length records
       → xs ≡ wiped (a .words) → ys ≡ wiped (a .reports) → zs ≡ wiped (a .records) → answer ≡ refusedAnswer (a .refusal)
-      → readResult ws xs ys zs answer ≡ presentOrBroken ws scratch m src reports records s header
+      → readResult asWords ws xs ys zs answer ≡ presentOrBroken ws scratch m src reports records s header
   unfolding presentOrBroken
   broken-is xs ys zs answer z kx ky kz ex ey ez ea =
       let f : a .refusal ≡ header .refusal = reads-state .follows .refuses in
-      (λ j. readResult ws ((ex ∙ ap (λ (n : ℕ). replicate n 0) kx) j) ((ey ∙ ap (λ (n : ℕ). replicate n 0) ky) j)
+      (λ j. readResult asWords ws ((ex ∙ ap (λ (n : ℕ). replicate n 0) kx) j) ((ey ∙ ap (λ (n : ℕ). replicate n 0) ky) j)
       ((ez ∙ ap (λ (n : ℕ). replicate n 0) kz) j) ((ea ∙ ap refusedAnswer f) j))
       ∙ sym (if-ne (header .refusal) 0 _ _ (λ y. z (f ∙ y)))
 
   pub present-is : (xs ys : List ℕ) (answer : ReadAnswer) → a .refusal ≡ 0 → length reports
       ≡ reportWidth * length (blocks (bands ws)) → xs ≡ set (a .words) 3 (layer ws + 1) → ys ≡ set (a .words) 3 (layer ws + 1)
-      → answer ≡ doneAnswer m src s (a .bio) 1 (a .count) → readResult xs ys (a .reports) (a .records) answer
+      → answer ≡ doneAnswer m src s (a .bio) 1 (a .count) → readResult asWords xs ys (a .reports) (a .records) answer
       ≡ presentOrBroken ws scratch m src reports records s header
   unfolding presentOrBroken readPresent doneAnswer
   present-is xs ys answer z lent ex ey ea =
@@ -60,9 +60,9 @@ module _ (ws scratch : List ℕ) (m : Markers) (src reports records : List ℕ) 
       let o : overwrite reports (reportWords (header .reports))
       ≡ reportWords (header .reports) =
       over-all reports (header .reports) (lent ∙ ap (λ (n : ℕ). 4 * n) (sym (reads-state .reported ok))) in
-      (λ j. readResult (ex j) (ey j) (a .reports) (a .records) (ea j))
-      ∙ ap (λ (x : Reading). readResult (set (x .words) 3 (layer ws + 1)) (set (x .words) 3 (layer ws + 1)) (x .reports)
+      (λ j. readResult asWords (ex j) (ey j) (a .reports) (a .records) (ea j))
+      ∙ ap (λ (x : Reading). readResult asWords (set (x .words) 3 (layer ws + 1)) (set (x .words) 3 (layer ws + 1)) (x .reports)
       (x .records) (doneAnswer m src s (x .bio) 1 (x .count))) h
-      ∙ ap (λ (rows : List ℕ). readResult (set (header .words) 3 (layer ws + 1)) (set (header .words) 3 (layer ws + 1)) rows
+      ∙ ap (λ (rows : List ℕ). readResult asWords (set (header .words) 3 (layer ws + 1)) (set (header .words) 3 (layer ws + 1)) rows
       (heldBy reports records header .records) (doneAnswer m src s (header .bio) 1 (length (header .records)))) o
       ∙ sym (if-eq (header .refusal) 0 _ _ ok)

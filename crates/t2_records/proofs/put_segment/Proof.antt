@@ -44,9 +44,9 @@ use denote.Triple.Spec.{Meets, tripleOf}
 use denote.Triple.Table.{entered}
 use denote.Triple.Walked.{says, Stays, stay-slice, stay-none, walkOf, AllGo, goes-slice, goes-none, Walks, ends-at, walked, walk-meets}
 use denote.Exit.{yes}
-use Rattle.t800.specs.declared.Segment.{Segment}
-use Rattle.t800.proofs.Segment as T
-use Rattle.t800.proofs.Segment.Laws as T′
+use Rattle.t800.specs.declared.SegmentRecord.{SegmentRecord}
+use Rattle.t800.proofs.SegmentRecord as T
+use Rattle.t800.proofs.SegmentRecord.Laws as T′
 use Rattle.t2_records.proofs.put_segment.Key.{name as #me}
 use Rattle.t2_records.proofs.put_segment as f
 use Rattle.t2_records.proofs.put_segment.Statement as stated
@@ -56,7 +56,7 @@ use Rattle.t2_records.proofs.put_segment.Code.Mir as steps
 abbrev R : RattleType
 R = T.the-row
 
-abbrev val : Segment → Val
+abbrev val : SegmentRecord → Val
 val = LL.val T.the-type T′.the-laws
 
 abbrev stayed : Stays (f.ended .signature .params) (f.ended .kept)
@@ -70,12 +70,12 @@ byte-fits : {i n : ℕ} → Room R n → i < n → i * mem R .size < 2 ^ 64
 byte-fits {i = i} {n = n} room l = scaled (mem R .size) i n (room .1) l
 
 module _ {M : Type 1} (𝓤 : URA M) (H : Heap 𝓤) (A : Atoms 𝓤) (W : Given 𝓤 H A) (at-mem : Memory → SProp 𝓤) (run : Routine → Fun 𝓤)
-    (κ : Lft) (q : Share) (b o : ℕ) (γ : GName) (ys : List Segment) (i : ℕ) (v : Segment) (gn : Room R (length ys))
+    (κ : Lft) (q : Share) (b o : ℕ) (γ : GName) (ys : List SegmentRecord) (i : ℕ) (v : SegmentRecord) (gn : Room R (length ys))
     (gi : i < 2 ^ 64) (gv : Is R v (val v ∷ [])) where
   abbrev Arg : Type 0
-  Arg = RefT (List Segment) × (ℕ × (Segment × Unit {0}))
+  Arg = RefT (List SegmentRecord) × (ℕ × (SegmentRecord × Unit {0}))
 
-  abbrev ref : List Segment → RefT (List Segment)
+  abbrev ref : List SegmentRecord → RefT (List SegmentRecord)
   ref zs = record { ptr = (b, o); name = γ; now = zs }
 
   abbrev x : Arg
@@ -93,7 +93,7 @@ module _ {M : Type 1} (𝓤 : URA M) (H : Heap 𝓤) (A : Atoms 𝓤) (W : Given
   abbrev Post : Val → SProp 𝓤
   Post = walkOf 𝓤 H A f.ended stayed (f.clauses 𝓤 H A at-mem run) .post y
 
-  exits : (zs : List Segment) → zs ≡ set ys i v → length zs ≡ length ys
+  exits : (zs : List SegmentRecord) → zs ≡ set ys i v → length zs ≡ length ys
       → ent 𝓤 (⋆ 𝓤 H A (‵ (fobs γ (codedHoleys R .code (heres R zs))) ∷ ‵ (fbor κ (Held R (length zs) b o γ)) ∷ ‵ (flft κ q) ∷ []))
       (Post vunit)
   exits zs e l =

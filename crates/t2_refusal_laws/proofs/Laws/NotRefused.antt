@@ -18,7 +18,7 @@ use Rattle.t800_laws.proofs.Laws.Lists.{lists-right}
 use Rattle.t800_laws.proofs.Laws.Tests.{or-left, or-right, not-refused}
 use Rattle.t2_segments.specs.Segments.{anyTooLong, blockTooWide}
 use Rattle.t2_refusal_laws.specs.Refusals.{contributionRefusal, measureRefusalFor}
-use Rattle.t2_refusal_laws.proofs.Laws.WriterState.{blocks-of-valid}
+use Rattle.tcd_laws.proofs.Laws.ValidStates.{blocks-of-valid}
 
 -- ---- counts
 
@@ -68,7 +68,7 @@ not-refused-for ws n p e =
       lengths-are = l .1;
       marks-are = l .2;
       few = c₄ .0;
-      passes-are = omega (arith, passes-up-to (p .counts) (c₄ .0), l .0, blocks-of-valid ws n v);
+      passes-are = omega (arith, passes-up-to (p .counts) (c₄ .0), l .0, blocks-of-valid writer ws n v);
       none-long = c₅ .0;
       none-wide = c₆ .0;
     }

@@ -6,10 +6,9 @@ use Prim.Native.Nat.{ℕ, _≤_}
 use native.Mathlib.Omega.{arith}
 use lib.ListN.{length, take}
 use Rattle.t800.specs.declared.Band.{Band}
-use Rattle.t800.specs.State.{writer, bandCount, bands, blocks, stateLength}
+use Rattle.t800.specs.State.{writer, bandCount, bands, stateLength}
 use Rattle.t800.specs.Ranges.{validState}
 use Rattle.tcd_laws.specs.Geometry.{AllUpTo64}
-use Rattle.tcd_laws.proofs.Laws.Bands.{blocks-up-to-12288}
 use Rattle.tcd_laws.specs.Parts.{threeBands}
 use Rattle.tcd_laws.proofs.Laws.FirstWords.{first-bands}
 use Rattle.tcd_laws.proofs.Laws.ValidStates.{valid-state, long-enough}
@@ -33,7 +32,3 @@ module _ (ws : List ℕ) (k : ℕ) (valid : validState writer ws k ≡ true) whe
 
     pub length-is : length ws ≡ stateLength (take n bs)
     length-is = valid-state writer ws k valid .length-is ∙ ap stateLength (sym bands-are)
-
-pub blocks-of-valid : (ws : List ℕ) (n : ℕ) → validState writer ws n ≡ true → length (blocks (bands ws)) ≤ 12288
-unfolding bands
-blocks-of-valid ws n v = let k = valid-state writer ws n v in blocks-up-to-12288 (bandCount ws) (threeBands ws) (k .three-bands) (k .sides)

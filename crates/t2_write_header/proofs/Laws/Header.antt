@@ -19,7 +19,7 @@ use Rattle.bio_write.proofs.Laws.Packed.{flushed-is-packed, packed-place}
 use Rattle.tcd_laws.proofs.Laws.ValidStates.{valid-state, block-known, block-bounds}
 use Rattle.tgt_write.specs.Coding.{LeafCoded, putCoded}
 use Rattle.t2_refusal_laws.proofs.Laws.NotRefused.{NotRefused}
-use Rattle.t2_refusal_laws.proofs.Laws.WriterState.{blocks-of-valid}
+use Rattle.tcd_laws.proofs.Laws.ValidStates.{blocks-of-valid}
 use Rattle.t2_write_header.specs.Header.{headerCoded, putHeader}
 
 module _ (ws : List ℕ) (n : ℕ) (p : Contribution) (r : NotRefused ws n p) where
@@ -36,7 +36,7 @@ module _ (ws : List ℕ) (n : ℕ) (p : Contribution) (r : NotRefused ws n p) wh
       let k = header-up-to (layoutOf (bands ws)) (layer ws) (bands ws) p ws layer-left (blocks-placed (bands ws)) (s .length-is)
       (λ q b. block-bounds ws q (block-known ws 13 (bands ws) q (s .ranges) b) .0)
       (record { counts = r .counts-are; lengths = r .lengths-are; marks = r .marks-are; few = r .few; fits = r .none-wide }) in
-      omega (arith, k, blocks-of-valid ws n (r .valid))
+      omega (arith, k, blocks-of-valid writer ws n (r .valid))
 
   pub header-small : length (pack (codeHeader p ws .bits)) ≤ 250000000
   unfolding codeHeader

@@ -2,21 +2,26 @@
 use mathlib.Core.Path.{_≡_, refl, _∙_}
 use mathlib.Core.Bool.{_&&_}
 use mathlib.Core.List.{List, [], _∷_, reverse}
-use Prim.Native.Nat.{ℕ, zero, suc, _+_, _-_, _*_}
+use Prim.Native.Nat.{ℕ, zero, suc, _+_, _-_, _*_, _^_, _≤_, _<_}
+use native.Mathlib.Nat.{lt-of-lt-of-le}
 use lib.ListN.{length, set, length-set}
+use lib.Pow.{pow-mono}
 use lib.Dec.{ltb, leb, eqb}
+use borrow.Author.Tests.{ltb-false}
 use Rattle.t800.specs.declared.Bio.{Bio}
 use Rattle.t800.specs.Refusals.{widthRefusal, headerEndRefusal, recordsRefusal}
-use Rattle.t800.specs.Bits.{getBit, endsInFF}
+use Rattle.t800.specs.Bits.{getBit, readBits, endsInFF}
 use Rattle.t800.specs.TagTree.{PathRead, value, readPath}
 use Rattle.t800.specs.Segments.{width}
 use Rattle.t800.specs.State.{Block, notYetPlanes, blocks, bands, layer, lengthBits}
-use Rattle.t800.specs.Reports.{BlockReport, SegmentRecord}
+use Rattle.t800.specs.declared.SegmentRecord.{SegmentRecord}
+use Rattle.t800.specs.Reports.{BlockReport, bodyBytes}
 use Rattle.t800.specs.WriteHeader.{isNew}
 use Rattle.t800.specs.ReadHeader.{HeaderRead, refused, movedTo, withReport, withRecord, passesTaken, readSegment, readSegments}
 use Rattle.t800.specs.ReadHeader.{readZeroPlanesFrom, readZeroPlanes, readIncluded, readNewBlock, readOldBlock, readBlock, readBlocks}
 use Rattle.t800.specs.ReadHeader.{readHeader}
-use Rattle.t800_laws.proofs.Laws.Tests.{either}
+use Rattle.t800_laws.proofs.Laws.Tests.{either, either-by}
+use Rattle.t800_laws.proofs.Laws.ReadValues.{readBits-below}
 
 -- ---- trees
 
@@ -45,17 +50,23 @@ planes-read src k r =
 
 -- ---- segments, blocks, the header
 
+up-to-32-bits : (src : List ℕ) (n : ℕ) (b : Bio) → n ≤ 32 → readBits src n b .value < 2 ^ 32
+up-to-32-bits src n b h = lt-of-lt-of-le (readBits-below src n b) (pow-mono h)
+
 module _ (src : List ℕ) (room : ℕ) (P : HeaderRead → Type 0) (wide : P (refused widthRefusal)) (full : P (refused recordsRefusal))
     (ends : P (refused headerEndRefusal))
     (moved : (ws : List ℕ) (b : Bio) (r : HeaderRead) → length ws ≡ length (r .words) → P r → P (movedTo ws b r))
     (reported : (a : BlockReport) (r : HeaderRead) → P r → P (withReport a r))
-    (recorded : (a : SegmentRecord) (r : HeaderRead) → P r → P (withRecord a r)) where
+    (recorded : (a : SegmentRecord) (r : HeaderRead) → a .start ≡ bodyBytes (r .records) → a .bytes < 2 ^ 32
+    → P r → P (withRecord a r)) where
   segment-keeps : (i : ℕ) (k : Block) (n : ℕ) (r : HeaderRead) → P r → P (readSegment src room i k n r)
   unfolding readSegment
   segment-keeps i k n r h =
-      either P (ltb 32 (width (lengthBits (r .words) (k .at)) n)) _ _ wide
-      (either P (leb room (length (r .records))) _ _ full
-      (recorded _ _ (moved _ _ r (length-set (set (r .words) (k .at + 2) _) (k .at + 3) _ ∙ length-set (r .words) (k .at + 2) _) h)))
+      let w : ℕ = width (lengthBits (r .words) (k .at)) n in
+      either-by P (ltb 32 w) _ _ (λ t. wide)
+      (λ f. either P (leb room (length (r .records))) _ _ full
+      (recorded _ _ refl (up-to-32-bits src w (r .bio) (ltb-false 32 w f))
+      (moved _ _ r (length-set (set (r .words) (k .at + 2) _) (k .at + 3) _ ∙ length-set (r .words) (k .at + 2) _) h)))
 
   segments-keep : (i : ℕ) (k : Block) (f left : ℕ) (r : HeaderRead) → P r → P (readSegments src room i k f left r)
   unfolding readSegments

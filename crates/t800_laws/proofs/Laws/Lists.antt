@@ -12,7 +12,8 @@ use borrow.Author.Tests.{not-false, eqb-true}
 use Rattle.t800.specs.declared.Band.{Band}
 use Rattle.t800.specs.Base.{sum}
 use Rattle.t800.specs.Segments.{segmentsFrom}
-use Rattle.t800.specs.Reports.{SegmentRecord, recordWidth, recordWords}
+use Rattle.t800.specs.declared.SegmentRecord.{SegmentRecord}
+use Rattle.t800.specs.Reports.{recordWidth, recordWords}
 use Rattle.t800.specs.State.{Block, blocksFrom}
 use Rattle.t800.specs.Ranges.{blockTooDeep}
 use Rattle.t800.specs.Start.{setZeroPlanes}

@@ -20,7 +20,7 @@ use Rattle.t800.specs.State.{notYetIncluded, notYetPlanes, writer, reader, role
 use Rattle.t800.specs.State.{bandNodes, bandLength, stateLength, passesSoFar, lengthBits, segmentLimit, segmentPasses}
 use Rattle.t800.specs.Ranges.{badShape, badStyle, bandTooDeep, unusedBandsZero, nodeInRange, blockInRange, bandInRange}
 use Rattle.t800.specs.Ranges.{bandsInRange, validState}
-use Rattle.t800.specs.Reports.{recordWidth}
+use Rattle.t800.specs.Reports.{RecordForm}
 use Rattle.t800.specs.WriteHeader.{Contribution, codeHeader}
 use Rattle.t800.specs.ReadHeader.{HeaderRead, readHeader}
 use Rattle.t800.specs.MarkerSegments.{MarkerRead, readMarker, readSop}
@@ -65,7 +65,7 @@ unfolding stateLength
 has-first-words ws n h = rw (h .long) (end-after 13 (bands ws))
 
 -- a read whose state gives neither 5 nor 6
-read-in-range : (ws scratch reports : List ℕ) → readRefusal ws scratch reports ≡ 0
+pub read-in-range : (ws scratch reports : List ℕ) → readRefusal ws scratch reports ≡ 0
     → (validState reader ws (length scratch) ≡ true) × (layer ws ≢ notYetIncluded)
 unfolding readRefusal
 read-in-range ws scratch reports e =
@@ -193,7 +193,7 @@ module _ (ws scratch : List ℕ) (p : Contribution) (body : List ℕ) (m : Marke
 -- ---- reads
 
 -- a packet that is absent: only the next layer moves, the state stays in range, no block is reported, no record is touched
-pub record LeftByAbsent (ws reports records : List ℕ) (o : ReadResult) : Type 0 where
+pub record LeftByAbsent (form : RecordForm) (ws reports : List ℕ) (records : form .Lent) (o : ReadResult form) : Type 0 where
   pub next-layer : layer (o .state) ≡ layer ws + 1
   pub other-words-stay : (i : ℕ) → i ≢ 3 → getD (o .state) i 0 ≡ getD ws i 0
   pub length-stays : length (o .state) ≡ length ws
@@ -203,9 +203,9 @@ pub record LeftByAbsent (ws reports records : List ℕ) (o : ReadResult) : Type 
   pub records-stay : o .records ≡ records
   pub no-segments : o .answer .segments ≡ 0
 
-module _ (ws scratch : List ℕ) (m : Markers) (src reports records : List ℕ) where
-  abbrev result : ReadResult
-  result = read ws scratch m src reports records
+module _ (form : RecordForm) (ws scratch : List ℕ) (m : Markers) (src reports : List ℕ) (records : form .Lent) where
+  abbrev result : ReadResult form
+  result = read form ws scratch m src reports records
 
   abbrev why : ℕ
   why = readRefusal ws scratch reports
@@ -215,12 +215,12 @@ module _ (ws scratch : List ℕ) (m : Markers) (src reports records : List ℕ) 
   firstBit start = getBit src (bioAt start) .value
 
   abbrev header : ℕ → HeaderRead
-  header start = readHeader src (length records / recordWidth) ws (getBit src (bioAt start) .bio)
+  header start = readHeader src (form .room records) ws (getBit src (bioAt start) .bio)
 
   pub refused-read-leaves-state : result .answer .refusal ≢ 0 → result .state ≡ ws
   unfolding read readAbsent readPresent
   refused-read-leaves-state =
-      let P : ReadResult → Type 0 = λ o. o .answer .refusal ≢ 0 → o .state ≡ ws in
+      let P : ReadResult form → Type 0 = λ o. o .answer .refusal ≢ 0 → o .state ≡ ws in
       let start : ℕ = readSop m src .skip in
       either P (not (eqb why 0)) _ _ (λ h. refl)
       (either P (eqb (firstBit start) 0) _ _ (λ h. absurd (h refl))
@@ -235,7 +235,7 @@ module _ (ws scratch : List ℕ) (m : Markers) (src reports records : List ℕ) 
   pub accepted-read-next-layer : result .answer .refusal ≡ 0 → layer (result .state) ≡ layer ws + 1
   unfolding read readAbsent readPresent
   accepted-read-next-layer =
-      let P : ReadResult → Type 0 = λ o. o .answer .refusal ≡ 0 → layer (o .state) ≡ layer ws + 1 in
+      let P : ReadResult form → Type 0 = λ o. o .answer .refusal ≡ 0 → layer (o .state) ≡ layer ws + 1 in
       let start : ℕ = readSop m src .skip in
       either-by P (not (eqb why 0)) _ _ (λ t e. absurd (not-given t e))
       (λ f. let long = has-first-words ws (length scratch) (tested reader ws (length scratch) (in-range-first f .0)) in
@@ -244,15 +244,15 @@ module _ (ws scratch : List ℕ) (m : Markers) (src reports records : List ℕ) 
       (λ t e. getD-set-same (header start .words) 3 (layer ws + 1) 0
       (omega (
         arith,
-        header-read src (length records / recordWidth) ws (getBit src (bioAt start) .bio)
+        header-read src (form .room records) ws (getBit src (bioAt start) .bio)
             (eqb-true (header start .refusal) 0 t),
       )))
       (λ n e. absurd (eqb-false (header start .refusal) 0 n e))))
 
-  pub absent-read : result .answer .refusal ≡ 0 → result .answer .present ≡ 0 → LeftByAbsent ws reports records result
+  pub absent-read : result .answer .refusal ≡ 0 → result .answer .present ≡ 0 → LeftByAbsent form ws reports records result
   unfolding read readAbsent readPresent
   absent-read =
-      let P : ReadResult → Type 0 = λ o. o .answer .refusal ≡ 0 → o .answer .present ≡ 0 → LeftByAbsent ws reports records o in
+      let P : ReadResult form → Type 0 = λ o. o .answer .refusal ≡ 0 → o .answer .present ≡ 0 → LeftByAbsent form ws reports records o in
       let start : ℕ = readSop m src .skip in
       either-by P (not (eqb why 0)) _ _ (λ t e z. absurd (not-given t e))
       (λ f. let v = in-range-first f in
@@ -275,12 +275,12 @@ module _ (ws scratch : List ℕ) (m : Markers) (src reports records : List ℕ) 
       (λ n e. absurd (eqb-false (header start .refusal) 0 n e))))
 
   -- 5, 6 and 3 leave every lent list; 9, 12 and 13 wipe all but the state
-  pub refused-before-reading : why ≢ 0 → result ≡ readResult ws scratch reports records (refusedAnswer why)
+  pub refused-before-reading : why ≢ 0 → result ≡ readResult form ws scratch reports records (refusedAnswer why)
   unfolding read
   refused-before-reading h = rw (ne-eqb why 0 h)
 
   pub refused-in-header : why ≡ 0 → firstBit (readSop m src .skip) ≢ 0 → header (readSop m src .skip) .refusal ≢ 0
-      → result ≡ readResult ws (wiped scratch) (wiped reports) (wiped records) (refusedAnswer (header (readSop m src .skip) .refusal))
+      → result ≡ readResult form ws (wiped scratch) (wiped reports) (form .cleared records) (refusedAnswer (header (readSop m src .skip) .refusal))
   unfolding read
   refused-in-header e b h = rw (e, ne-eqb (firstBit (readSop m src .skip)) 0 b, ne-eqb (header (readSop m src .skip) .refusal) 0 h)
 
@@ -298,7 +298,7 @@ module _ (ws scratch : List ℕ) (m : Markers) (src reports records : List ℕ) 
   unfolding read readAbsent readPresent refusalFrom
   refusal-is =
       let start : ℕ = readSop m src .skip in
-      let P : ReadResult → Type 0 = λ o. o .answer .refusal ≡ refusalFrom start in
+      let P : ReadResult form → Type 0 = λ o. o .answer .refusal ≡ refusalFrom start in
       let late : ℕ = cond (eqb (firstBit start) 0) 0 (header start .refusal) in
       either-by P (not (eqb why 0)) _ _ (λ t. sym (if-true (not (eqb why 0)) why late t))
       (λ f. let on = sym (if-false (not (eqb why 0)) why late f) in
@@ -307,24 +307,26 @@ module _ (ws scratch : List ℕ) (m : Markers) (src reports records : List ℕ) 
       either-by P (eqb (header start .refusal) 0) _ _ (λ t. sym (eqb-true (header start .refusal) 0 t) ∙ rest) (λ n. rest)))
 
 -- markers have no part in a refusal but by where the header's bits begin
-pub refused-by-start : (ws scratch : List ℕ) (m n : Markers) (src reports records : List ℕ) → readSop m src .skip ≡ readSop n src .skip
-    → read ws scratch m src reports records .answer .refusal ≡ read ws scratch n src reports records .answer .refusal
+pub refused-by-start : (form : RecordForm) (ws scratch : List ℕ) (m n : Markers) (src reports : List ℕ) (records : form .Lent)
+    → readSop m src .skip ≡ readSop n src .skip
+    → read form ws scratch m src reports records .answer .refusal ≡ read form ws scratch n src reports records .answer .refusal
 unfolding refusalFrom
-refused-by-start ws scratch m n src reports records e =
-    refusal-is ws scratch m src reports records ∙ ap (refusalFrom ws scratch m src reports records) e
-    ∙ sym (refusal-is ws scratch n src reports records)
+refused-by-start form ws scratch m n src reports records e =
+    refusal-is form ws scratch m src reports records ∙ ap (refusalFrom form ws scratch m src reports records) e
+    ∙ sym (refusal-is form ws scratch n src reports records)
 
 abbrev noMarkers : Markers
 noMarkers = record { sop = false; eph = false }
 
 -- so that a missing marker refuses nothing: whatever EPH is, and where SOP isn't found, a read is refused as it is without markers
-pub missing-marker-refuses-nothing : (ws scratch : List ℕ) (m : Markers) (src reports records : List ℕ) → 0 < readSop m src .mark
-    → read ws scratch m src reports records .answer .refusal ≡ read ws scratch noMarkers src reports records .answer .refusal
+pub missing-marker-refuses-nothing : (form : RecordForm) (ws scratch : List ℕ) (m : Markers) (src reports : List ℕ) (records : form .Lent)
+    → 0 < readSop m src .mark
+    → read form ws scratch m src reports records .answer .refusal ≡ read form ws scratch noMarkers src reports records .answer .refusal
 unfolding readSop readMarker
-missing-marker-refuses-nothing ws scratch m src reports records h =
+missing-marker-refuses-nothing form ws scratch m src reports records h =
     let P : MarkerRead → Type 0 = λ s. 0 < s .mark → s .skip ≡ 0 in
     let none : readSop m src .skip ≡ 0 =
     either P (not (m .sop)) _ _ (λ l. refl)
     (either P (ltb (length src - 0) 6) _ _ (λ l. refl)
     (either P (eqb (getD src 0 0) 0xff && eqb (getD src (0 + 1) 0) 0x91) _ _ (λ l. absurd (omega (arith, l))) (λ l. refl))) h in
-    refused-by-start ws scratch m noMarkers src reports records none
+    refused-by-start form ws scratch m noMarkers src reports records none

@@ -84,5 +84,5 @@ header-read src room ws b =
     (λ e. absurd (omega (arith, e)))
     (λ vs c r l h e. l ∙ h e)
     (λ a r h. h)
-    (λ a r h. h)
+    (λ a r e g h. h)
     ws b (λ e. refl)

@@ -11,14 +11,15 @@ use borrow.Author.Tests.{not-true, eqb-true, ne-eqb, leb-true, ltb-false}
 use Rattle.t800.specs.declared.Band.{Band}
 use Rattle.t800.specs.Base.{every}
 use Rattle.t800.specs.Segments.{termAll, bypass, firstLimit, nextLimit, isLimit}
-use Rattle.t800.specs.State.{writer, notYetIncluded, notYetPlanes, role, bandCount, style, layer, bands, bandNodes, blocksIn}
+use Rattle.t800.specs.State.{writer, notYetIncluded, notYetPlanes, role, bandCount, style, layer, bands, blocks, bandNodes, blocksIn}
 use Rattle.t800.specs.State.{bandLength, stateLength, endOf, passesSoFar, lengthBits, segmentLimit, segmentPasses}
 use Rattle.t800.specs.Ranges.{badShape, badStyle, bandTooDeep, nodeInRange, blockInRange, bandInRange, bandsInRange}
 use Rattle.t800.specs.Ranges.{unusedBandsZero, validState}
 use Rattle.t800_laws.proofs.Laws.Tests.{on-eq, and-left, and-right}
 use Rattle.t800_laws.proofs.Laws.Layout.{BlockFrom, end-after}
 use Rattle.tcd_laws.specs.Geometry.{AllUpTo64}
-use Rattle.tcd_laws.specs.Parts.{shapeInRange}
+use Rattle.tcd_laws.specs.Parts.{threeBands, shapeInRange}
+use Rattle.tcd_laws.proofs.Laws.Bands.{blocks-up-to-12288}
 use Rattle.tcd_laws.proofs.Laws.FirstWords.{shape-known}
 
 -- ---- the first words and the length
@@ -89,6 +90,10 @@ too-short r ws n h = go (validState r ws n) refl
     go : (t : Bool) → validState r ws n ≡ t → false ≡ t
     go true e = absurd (omega (arith, long-enough r ws n e))
     go false e = refl
+
+pub blocks-of-valid : (r : ℕ) (ws : List ℕ) (n : ℕ) → validState r ws n ≡ true → length (blocks (bands ws)) ≤ 12288
+unfolding bands
+blocks-of-valid r ws n v = let k = valid-state r ws n v in blocks-up-to-12288 (bandCount ws) (threeBands ws) (k .three-bands) (k .sides)
 
 -- ---- nodes and blocks, wherever they stand
 

@@ -50,12 +50,12 @@ use Rattle.t800.specs.declared.ReadAnswer.{ReadAnswer}
 use Rattle.t800.proofs.ReadAnswer as Q
 use Rattle.t800.proofs.ReadAnswer.Laws as Q′
 use Rattle.t800.specs.Packet.{readResult}
-use Rattle.t800.specs.declared.Segment.{Segment}
+use Rattle.t800.specs.declared.SegmentRecord.{SegmentRecord}
 use Rattle.t800.specs.Exports.{wordsOf, ReadExit, readCall}
 use Rattle.t2_records.specs.Segments.{filled}
 use Rattle.t2_read_numbers.specs.Reading.{toFill}
 use Rattle.t2_records.proofs.Lent.{LentAgain, Shared, lends-again, comes-back, shares-again, unshares}
-use Rattle.t800.proofs.Segment as T
+use Rattle.t800.proofs.SegmentRecord as T
 use Rattle.t2_read_numbers.proofs.to_fill as c
 use Rattle.t2_read_numbers.proofs.to_fill.Symbol as c-def
 use Rattle.t2_read_numbers.proofs.to_fill.Symbol.{name as #c}
@@ -119,7 +119,7 @@ module _ {M : Type 1} (𝓤 : URA M) (H : Heap 𝓤) (A : Atoms 𝓤) (mem : Mem
 -- state, scratch, input, the two marker settings and reports; the work list at (b, o); the records; the answer words
 module _ {M : Type 1} (𝓤 : URA M) (H : Heap 𝓤) (A : Atoms 𝓤) (W : Given 𝓤 H A) (at-mem : Memory → SProp 𝓤) (run : Routine → Fun 𝓤)
     (κ₀ κ₁ κ₂ κ₃ κ₄ κ₅ κ₆ : Lft) (q₀ q₁ q₂ q₃ q₄ q₅ q₆ : Share) (st sc sr : RefT (List ℕ)) (sp ep : Bool) (rp : RefT (List ℕ))
-    (b o : ℕ) (γ : GName) (xs : List ℕ) (rr : RefT (List Segment)) (an : RefT (List ℕ))
+    (b o : ℕ) (γ : GName) (xs : List ℕ) (rr : RefT (List SegmentRecord)) (an : RefT (List ℕ))
     (g₀ : Room u32 (length (st .now))) (g₁ : Room u32 (length (sc .now))) (g₃ : Room u32 (length (rp .now)))
     (gx : Room u32 (length xs)) (gr : Room R (length (rr .now))) (g₆ : Room u64 (length (an .now))) where
   abbrev ref : GName → List ℕ → RefT (List ℕ)
@@ -157,7 +157,7 @@ module _ {M : Type 1} (𝓤 : URA M) (H : Heap 𝓤) (A : Atoms 𝓤) (W : Given
   Lists X = RefT (List ℕ)
       × (RefT (List ℕ) × (RefT (List ℕ) × (Bool × (Bool × (RefT (List ℕ) × (RefT (List ℕ) × (X × (RefT (List ℕ) × Unit {0}))))))))
 
-  abbrev x : Lists (RefT (List Segment))
+  abbrev x : Lists (RefT (List SegmentRecord))
   x = (st, (sc, (sr, (sp, (ep, (rp, (ref γ xs, (rr, (an, tt)))))))))
 
   abbrev Vals : Type 0
@@ -268,7 +268,7 @@ module _ {M : Type 1} (𝓤 : URA M) (H : Heap 𝓤) (A : Atoms 𝓤) (W : Given
   count-said a m = exE 𝓤 _ (λ ws. snd∗ 𝓤 (sem 𝓤 H A (lasts c.ended tt (a, (room, tt)) ws)) (fact 𝓤 (m ≡ toFill a room)))
 
   -- `fill`, with the work list shared for β under δ
-  abbrev passed : GName → List ℕ → ℕ → RefT (List Segment) × (RefT (List ℕ) × (ℕ × Unit {0}))
+  abbrev passed : GName → List ℕ → ℕ → RefT (List SegmentRecord) × (RefT (List ℕ) × (ℕ × Unit {0}))
   passed δ zs m = (rr, (ref δ zs, (m, tt)))
 
   abbrev Shr : ℕ → GName → List ℕ → Fml
@@ -285,13 +285,13 @@ module _ {M : Type 1} (𝓤 : URA M) (H : Heap 𝓤) (A : Atoms 𝓤) (W : Given
       nothing ! $ owned ! usize (Is usize) (uint-makes 𝓤 H A W w64) m _ (refl, gn) $ fjoin ! $ move ! (3 ∷ 0 ∷ []) $ fjoin ! $ move
       ! (2 ∷ 0 ∷ []) $ fjoin ! $ move ! (1 ∷ 0 ∷ []) $ join ! $ nothing ! $ move ! (1 ∷ 0 ∷ []) $ done !
 
-  abbrev Exit : ℕ → List ℕ → List ℕ → List ℕ → List ℕ → List ℕ → List Segment → Type 0
+  abbrev Exit : ℕ → List ℕ → List ℕ → List ℕ → List ℕ → List ℕ → List SegmentRecord → Type 0
   Exit n z₀ z₁ z₃ z₄ z₆ rs =
       _≡_ {A = ReadExit}
       (record { refusal = n; state = z₀; scratch = z₁; reports = z₃; work = z₄; records = wordsOf rs; answer = z₆ })
       (readCall (st .now) (sc .now) mk (sr .now) (rp .now) xs (rr .now) (an .now))
 
-  exits : (n : ℕ) (z₀ z₁ z₃ z₄ z₆ : List ℕ) (rs : List Segment) → Exit n z₀ z₁ z₃ z₄ z₆ rs → n < 2 ^ 32
+  exits : (n : ℕ) (z₀ z₁ z₃ z₄ z₆ : List ℕ) (rs : List SegmentRecord) → Exit n z₀ z₁ z₃ z₄ z₆ rs → n < 2 ^ 32
       → length z₀ ≡ length (st .now) → length z₁ ≡ length (sc .now) → length z₃ ≡ length (rp .now) → length z₄ ≡ length xs
       → length rs ≡ room → length z₆ ≡ length (an .now)
       → ent 𝓤
@@ -494,7 +494,7 @@ module _ {M : Type 1} (𝓤 : URA M) (H : Heap 𝓤) (A : Atoms 𝓤) (W : Given
         (ensured 𝓤 H A p.ended (p.clauses 𝓤 H A at-mem run) (κ₅, (β ∷ [], tt)) (passed δ′ (lastWork ws) m) tt r)))) (id⊢ 𝓤 _) $
         await ! tt $ pick ! (λ r.
         split ! $ move ! (1 ∷ []) $ use1 W
-        (some (λ (vs : List Segment × (Unit {0} × (Unit {0} × Unit {0}))). ‵
+        (some (λ (vs : List SegmentRecord × (Unit {0} × (Unit {0} × Unit {0}))). ‵
         (lasts p.ended (κ₅, (β ∷ [], tt)) (passed δ′ (lastWork ws) m) vs) ⊛ raw
         (fact 𝓤 (vs .0 ≡ filled (lastWork ws) m (rr .now))))) (id⊢ 𝓤 _) $ pick ! (λ vs.
         split ! $ move ! (1 ∷ []) $ heard ! (vs .0 ≡ filled (lastWork ws) m (rr .now))
