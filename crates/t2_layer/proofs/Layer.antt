@@ -162,7 +162,7 @@ module _ (l : FirstLayer) (b : Lent) (h : Premises l b) where
       ap length scratch-is ∙ sym state-length ∙ W .lent-length
       ∙ sym (ap length (R .state ∙ no-planes (blocks bs) (freshState reader (l .style) bs)) ∙ fresh-length reader (l .style) bs)
 
-  gives-entry : GivesEntry (owedOf l b) (readCallOf l b) result
+  gives-entry : GivesEntry asWords (owedOf l b) (readCallOf l b) result
   unfolding RoundTrip ReadsAsOwed Follows
   gives-entry =
       let k : ℕ = writeOfLayer l b .answer .bytes - sum (l .contribution .lengths) in
@@ -181,5 +181,5 @@ module _ (l : FirstLayer) (b : Lent) (h : Premises l b) where
 pub layer-read-back : LayerReadBack
 unfolding LayerReadBack
 layer-read-back l b h =
-    subst (λ (z : LayerResult). GivesEntry (owedOf l b) (readCallOf l b)
+    subst (λ (z : LayerResult). GivesEntry asWords (owedOf l b) (readCallOf l b)
     (readResult asWords (z .reader) (z .scratch) (z .reports) (z .records) (z .answer))) (sym (whole l b h)) (gives-entry l b h)

@@ -11,7 +11,7 @@ use Rattle.t800.specs.declared.ReadAnswer.{ReadAnswer}
 use Rattle.t800.specs.Base.{Words, Bytes}
 use Rattle.t800.specs.State.{writer, reader}
 use Rattle.t800.specs.Start.{StartResult, start}
-use Rattle.t800.specs.Reports.{reportWidth, recordWidth, asWords}
+use Rattle.t800.specs.Reports.{reportWidth, asWords}
 use Rattle.t800.specs.WriteHeader.{Contribution}
 use Rattle.t800.specs.Packet.{WriteResult, write, ReadResult, readResult, refusedAnswer, read}
 use Rattle.t800.specs.Book.{BlockEntry, newBook, terminatedAsStyle}
@@ -105,7 +105,7 @@ bookOf l = newBook (take (l .count) (l .bands)) (l .planes)
 abbrev pub owedOf : FirstLayer → Lent → Owed
 owedOf l b = owedFor (l .style) (bookOf l) (writeCallOf l b) (writeOfLayer l b)
 
-abbrev pub readCallOf : FirstLayer → Lent → ReadCall
+abbrev pub readCallOf : FirstLayer → Lent → ReadCall asWords
 readCallOf l b =
     let p = writeOfLayer l b in
     record { scratch = p .scratch; markers = l .markers; input = p .output; reports = b .reports; records = b .records }
@@ -117,7 +117,7 @@ pub record Premises (l : FirstLayer) (b : Lent) : Type 0 where
   pub accepted : writeOfLayer l b .answer .refusal ≡ 0
   pub terminated : T (terminatedAsStyle (l .style) (bookOf l) (l .contribution .counts) (l .contribution .marks))
   pub reports-length : length (b .reports) ≡ reportWidth * length (owedOf l b .entry .reports)
-  pub records-enough : recordWidth * length (owedOf l b .entry .records) ≤ length (b .records)
+  pub records-enough : length (owedOf l b .entry .records) ≤ asWords .room (b .records)
 
 -- then what is left is the entry
 unfoldable pub LayerReadBack : Type 0
@@ -125,4 +125,4 @@ LayerReadBack =
     (l : FirstLayer) (b : Lent)
     → Premises l b
     → let z = writeAndRead l b in
-    GivesEntry (owedOf l b) (readCallOf l b) (readResult asWords (z .reader) (z .scratch) (z .reports) (z .records) (z .answer))
+    GivesEntry asWords (owedOf l b) (readCallOf l b) (readResult asWords (z .reader) (z .scratch) (z .reports) (z .records) (z .answer))

@@ -11,7 +11,7 @@ use Rattle.t800.specs.declared.Markers.{Markers}
 use Rattle.t800.specs.WriteHeader.{contribution}
 use Rattle.t800.specs.Base.{sum}
 use Rattle.t800.specs.Segments.{termAll, bypass}
-use Rattle.t800.proofs.Table.{Step, starts, loads-writer, loads-reader, holds-writer, holds-reader, writes, heads, reads}
+use Rattle.t800.proofs.Table.{Step, starts, loads-writer, loads-reader, holds-writer, holds-reader, writes, heads, reads-starts, reads}
 use Rattle.t800.proofs.Table.{Row, rowHolds, failing}
 
 -- ---- short forms
@@ -733,11 +733,82 @@ slip-rows =
     }
     ∷ []
 
+-- ---- where segments begin
+
+-- a read of k blocks with n scratch words and six records, which begin there
+abbrev get-from : ℕ → ℕ → List ℕ → List ℕ → List ℕ → List ℕ → List ℕ → Step
+get-from n k src answer reports records begins =
+    reads-starts (record { markers = plain; input = src; scratch = n; reports = 4 * k; records = 24 }) answer reports records begins
+
+-- two blocks with every pass terminated: 5, 0 and 7 bytes, 1 and 2 bytes
+abbrev five-segments : List ℕ
+five-segments = 0xfe ∷ 0x28 ∷ 0xf6 ∷ 0x14 ∷ []
+
+pub segment-rows : List Row
+segment-rows =
+    -- the second block's behind all of the first's
+    precinct 2 0 (5 ∷ 4 ∷ [])
+    (puts 39 (3 ∷ 2 ∷ []) (2 ∷ 2 ∷ 1 ∷ 3 ∷ 4 ∷ []) (copies 5 0) (0xfe ∷ 0x16 ∷ 0xc7 ∷ [])
+    ∷ get-from 39 2 (0xfe ∷ 0x16 ∷ 0xc7 ∷ []) (told 1 3 2) (1 ∷ 0 ∷ 5 ∷ 3 ∷ 1 ∷ 1 ∷ 4 ∷ 2 ∷ [])
+    (0 ∷ 1 ∷ 3 ∷ 5 ∷ 1 ∷ 1 ∷ 2 ∷ 7 ∷ []) (0 ∷ 5 ∷ [])
+    ∷ [])
+    -- a segment of no bytes, and a second layer, whose packet has a body of its own
+    ∷ precinct 2 4 (5 ∷ 4 ∷ [])
+    (puts 39 (3 ∷ 2 ∷ []) (5 ∷ 0 ∷ 7 ∷ 1 ∷ 2 ∷ []) (copies 5 1) five-segments
+    ∷ puts 39 (1 ∷ 2 ∷ []) (4 ∷ 3 ∷ 6 ∷ []) (copies 3 1) (0xc9 ∷ 0x8f ∷ 0x00 ∷ [])
+    ∷ get-from 39 2 five-segments (told 1 4 5) (1 ∷ 0 ∷ 5 ∷ 3 ∷ 1 ∷ 1 ∷ 4 ∷ 2 ∷ [])
+    (0 ∷ 1 ∷ 1 ∷ 5 ∷ 0 ∷ 1 ∷ 1 ∷ 0 ∷ 0 ∷ 1 ∷ 1 ∷ 7 ∷ 1 ∷ 1 ∷ 1 ∷ 1 ∷ 1 ∷ 1 ∷ 1 ∷ 2 ∷ []) (0 ∷ 5 ∷ 5 ∷ 12 ∷ 13 ∷ [])
+    ∷ get-from 39 2 (0xc9 ∷ 0x8f ∷ 0x00 ∷ []) (told 1 3 3) (2 ∷ 0 ∷ 0 ∷ 1 ∷ 2 ∷ 0 ∷ 0 ∷ 2 ∷ [])
+    (0 ∷ 1 ∷ 1 ∷ 4 ∷ 1 ∷ 1 ∷ 1 ∷ 3 ∷ 1 ∷ 1 ∷ 1 ∷ 6 ∷ []) (0 ∷ 4 ∷ 7 ∷ [])
+    ∷ [])
+    -- segments that go on from layer 0 into layer 1
+    ∷ precinct 2 1 (5 ∷ 5 ∷ [])
+    (puts 39 (11 ∷ 1 ∷ []) (copies 11 1 ++ 9 ∷ []) (copies 9 0 ++ 1 ∷ 0 ∷ 0 ∷ []) (0xff ∷ 0x4a ∷ 0x28 ∷ 0xea ∷ 0x40 ∷ [])
+    ∷ puts 39 (2 ∷ 12 ∷ []) (3 ∷ 4 ∷ copies 12 2) (1 ∷ 0 ∷ copies 8 0 ++ 1 ∷ 0 ∷ 1 ∷ 0 ∷ []) (0xe3 ∷ 0x9f ∷ 0x30 ∷ 0x91 ∷ 0x08 ∷ [])
+    ∷ get-from 39 2 (0xff ∷ 0x4a ∷ 0x28 ∷ 0xea ∷ 0x40 ∷ []) (told 1 5 3) (1 ∷ 0 ∷ 5 ∷ 11 ∷ 1 ∷ 0 ∷ 5 ∷ 1 ∷ [])
+    (0 ∷ 1 ∷ 10 ∷ 10 ∷ 0 ∷ 1 ∷ 1 ∷ 1 ∷ 1 ∷ 1 ∷ 1 ∷ 9 ∷ []) (0 ∷ 10 ∷ 11 ∷ [])
+    ∷ get-from 39 2 (0xe3 ∷ 0x9f ∷ 0x30 ∷ 0x91 ∷ 0x08 ∷ []) (told 1 5 5) (2 ∷ 0 ∷ 0 ∷ 2 ∷ 2 ∷ 0 ∷ 0 ∷ 12 ∷ [])
+    (0 ∷ 0 ∷ 1 ∷ 3 ∷ 0 ∷ 1 ∷ 1 ∷ 4 ∷ 1 ∷ 0 ∷ 9 ∷ 18 ∷ 1 ∷ 1 ∷ 2 ∷ 4 ∷ 1 ∷ 1 ∷ 1 ∷ 2 ∷ []) (0 ∷ 3 ∷ 7 ∷ 25 ∷ 29 ∷ [])
+    ∷ [])
+    -- the longest lengths: the sum passes 2^32, in one block and in two
+    ∷ precinct 1 4 (5 ∷ [])
+    (get-from 23 1
+    (0xf9 ∷ 0xff ∷ 0x7f ∷ 0xff ∷ 0x7d ∷ 0xff ∷ 0x7f ∷ 0xff ∷ 0x7f ∷ 0xff ∷ 0x7f ∷ 0xff ∷ 0x7f ∷ 0xc0 ∷ 0x00 ∷ 0x00 ∷ 0x00 ∷ 0xa0 ∷ [])
+    (told 1 18 3) (1 ∷ 0 ∷ 5 ∷ 3 ∷ [])
+    (0 ∷ 1 ∷ 1 ∷ (2 ^ 32 - 1) ∷ 0 ∷ 1 ∷ 1 ∷ (2 ^ 32 - 2) ∷ 0 ∷ 1 ∷ 1 ∷ 5 ∷ []) (0 ∷ 4294967295 ∷ 8589934589 ∷ [])
+    ∷ [])
+    ∷ precinct 2 0 (5 ∷ 5 ∷ [])
+    (get-from 39 2
+    (0xfb ∷ 0xff ∷ 0x7f ∷ 0xff ∷ 0x7b ∷ 0xff ∷ 0x7f ∷ 0xff ∷ 0x7f ∷ 0xdf ∷ 0xff ∷ 0x7f ∷ 0xff ∷ 0x5f ∷ 0xff ∷ 0x7f ∷ 0xff ∷ 0x78 ∷ [])
+    (told 1 18 2) (1 ∷ 0 ∷ 5 ∷ 1 ∷ 1 ∷ 0 ∷ 5 ∷ 1 ∷ [])
+    (0 ∷ 1 ∷ 1 ∷ (2 ^ 32 - 1) ∷ 1 ∷ 1 ∷ 1 ∷ (2 ^ 32 - 1) ∷ []) (0 ∷ 4294967295 ∷ [])
+    ∷ [])
+    -- markers are no bytes of the body
+    ∷ precinct 2 4 (5 ∷ 4 ∷ [])
+    (reads-starts
+    (record {
+      markers = marked;
+      input = 0xff ∷ 0x91 ∷ 0x00 ∷ 0x04 ∷ 0x00 ∷ 0x00 ∷ five-segments ++ 0xff ∷ 0x92 ∷ copies 15 7;
+      scratch = 39;
+      reports = 8;
+      records = 20;
+    })
+    (told 1 12 5) (1 ∷ 0 ∷ 5 ∷ 3 ∷ 1 ∷ 1 ∷ 4 ∷ 2 ∷ [])
+    (0 ∷ 1 ∷ 1 ∷ 5 ∷ 0 ∷ 1 ∷ 1 ∷ 0 ∷ 0 ∷ 1 ∷ 1 ∷ 7 ∷ 1 ∷ 1 ∷ 1 ∷ 1 ∷ 1 ∷ 1 ∷ 1 ∷ 2 ∷ []) (0 ∷ 5 ∷ 5 ∷ 12 ∷ 13 ∷ [])
+    ∷ [])
+    -- refused once some were found, by 13, by 9 in the second block, and by 12 behind both: none is left
+    ∷ precinct 2 4 (5 ∷ 4 ∷ []) (reading 39 8 16 five-segments 13 ∷ [])
+    ∷ precinct 2 0 (5 ∷ 5 ∷ [])
+    (reading 39 8 24 (0xf9 ∷ 0x77 ∷ 0xff ∷ 0x7f ∷ 0xff ∷ 0x78 ∷ []) 9
+    ∷ reading 39 8 24 (0xf9 ∷ 0x77 ∷ 0xff ∷ 0x3f ∷ 0xff ∷ []) 12
+    ∷ [])
+    ∷ []
+
 pub rows : List Row
-rows = a-to-l ++ start-rows ++ write-rows ++ read-rows ++ range-rows ++ marker-rows ++ slip-rows
+rows = a-to-l ++ start-rows ++ write-rows ++ read-rows ++ range-rows ++ marker-rows ++ slip-rows ++ segment-rows
 
 -- ---- the statement: no row fails
 
 pub all-rows-hold : failing 0 rows ≡ []
-unfolding rows a-to-l start-rows write-rows read-rows range-rows marker-rows slip-rows failing rowHolds
+unfolding rows a-to-l start-rows write-rows read-rows range-rows marker-rows slip-rows segment-rows failing rowHolds
 all-rows-hold = refl

@@ -8,15 +8,16 @@ use native.Mathlib.Omega.{arith}
 use lib.ListN.{replicate}
 use Rattle.t800.specs.declared.Markers.{Markers}
 use Rattle.t800.specs.declared.SegmentRecord.{SegmentRecord}
+use Rattle.t800.specs.Reports.{asRecords}
 use Rattle.t800.specs.State.{writer, reader}
 use Rattle.t800.specs.WriteHeader.{contribution}
 use Rattle.t800.specs.Book.{terminatedAt, terminatedAsStyle}
-use Rattle.t800.specs.Exports.{bandIn, startCall, writeCall, wordsOf, readCall}
+use Rattle.t800.specs.Exports.{bandIn, startCall, writeCall, readCall}
 use Rattle.t800.specs.Interface.{WriteCall}
 use Rattle.t800.specs.RoundTrip.{Owed, GivesEntry, written, packetMade, Follows, owed, allTerminatedAsStyle, bookOf, ReadsAsOwed, RoundTrip}
 use Rattle.t800.proofs.Table.{rowHolds}
-use Rattle.theorems.specs.Exports.{StartMade, WriteMade, ReadMade, readArgs, readLeft}
-use Rattle.theorems.proofs.Exports.{exports, round-trip-of-exports}
+use Rattle.theorems.specs.Exports.{StartMade, WriteMade, ReadMade, readArgs, readLeft, StartsTold, StartsOfExports}
+use Rattle.theorems.proofs.Exports.{exports, round-trip-of-exports, starts-of-exports}
 
 -- one band of one block and 5 planes, style 0
 abbrev bands : List ℕ
@@ -63,7 +64,7 @@ wrote =
 
 -- the input is the packet with its body; one record is lent
 abbrev records : List SegmentRecord
-records = record { block = 6; opens = 6; passes = 6; bytes = 6 } ∷ []
+records = record { block = 6; opens = 6; passes = 6; bytes = 6; start = 6 } ∷ []
 
 abbrev was-read : ReadMade
 was-read =
@@ -89,7 +90,7 @@ packet = record {
   markers = plain;
   entry = record {
     reports = record { inclusion = 1; zeroPlanes = 0; planes = 5; passes = 1 } ∷ [];
-    records = record { block = 0; opens = 1; passes = 1; bytes = 5 } ∷ [];
+    records = record { block = 0; opens = 1; passes = 1; bytes = 5; start = 0 } ∷ [];
   };
 }
 
@@ -98,10 +99,15 @@ unfolding owed bandIn startCall writeCall rowHolds
 one-owed = refl
 
 -- so the round trip applies to its read
-applies : GivesEntry packet (readArgs was-read) (readLeft was-read)
-unfolding RoundTrip Follows owed allTerminatedAsStyle terminatedAsStyle terminatedAt ReadsAsOwed bandIn startCall writeCall wordsOf
-    readCall rowHolds
+applies : GivesEntry asRecords packet (readArgs was-read) (readLeft was-read)
+unfolding RoundTrip Follows owed allTerminatedAsStyle terminatedAsStyle terminatedAt ReadsAsOwed bandIn startCall writeCall readCall
+    rowHolds
 applies =
     round-trip-of-exports (started writer (5 ∷ [])) (started reader []) refl refl refl refl refl (written wrote ∷ []) (refl, tt) tt
     (packetMade was-read ∷ []) refl refl
     (record { same-markers = refl; begins = refl; scratch-length = refl; reports-length = refl; records-enough = omega arith }) .0
+
+-- and the read is one whose starts are sums
+starts-apply : StartsTold (was-read .left)
+unfolding StartsOfExports bandIn startCall writeCall readCall rowHolds
+starts-apply = starts-of-exports was-read refl

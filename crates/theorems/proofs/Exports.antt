@@ -1,6 +1,7 @@
--- Demands 1 and 3 of the exported calls.
-use mathlib.Core.Path.{_≡_, sym, ap, _∙_}
+-- Demands 1 and 3 of the exported calls, and where the segments start that an exported read tells of.
+use mathlib.Core.Path.{_≡_, sym, ap, _∙_, subst}
 use mathlib.Core.Bool.{Bool, true, false, not, _&&_, true≢false}
+use mathlib.Core.List.{List}
 use Prim.Native.Nat.{ℕ, _≤_, _*_}
 use native.Mathlib.Omega.{arith}
 use lib.ListN.{length, getD}
@@ -8,19 +9,22 @@ use lib.Dec.{eqb}
 use Rattle.t800.specs.Refusals.{listRefusal}
 use Rattle.t800.specs.State.{notYetIncluded, reader, layer}
 use Rattle.t800.specs.Ranges.{validState}
-use Rattle.t800.specs.Reports.{recordWidth}
+use Rattle.t800.specs.Reports.{recordWidth, asRecords}
 use Rattle.t800.specs.Packet.{WriteResult, ReadResult, readResult, refusedAnswer}
 use Rattle.t800.specs.Exports.{startCall, MeasureExit, measureCall, WriteExit, writeCall, ReadExit, workRefusal, readCall}
 use Rattle.t800.specs.Interface.{startOf, startUntouched, measureOf, measureUntouched, writeOf, writeUntouched, readOf, readUntouched}
 use Rattle.t800.specs.Interface.{Interface}
 use Rattle.t800.specs.Numbers.{Numbers}
 use Rattle.t800.specs.RoundTrip.{RoundTrip, WriterInRange}
+use Rattle.t800.specs.Starts.{StartsOfReads}
 use Rattle.t800_laws.proofs.Laws.Tests.{if-true, if-false, either, and-left, and-right}
 use Rattle.t800_laws.proofs.Laws.Checks.{on-bool}
 use Rattle.round_trip.proofs.Numbers.{numbers}
 use Rattle.round_trip.proofs.Trip.Interfaces.{round-trip, writer-in-range}
+use Rattle.round_trip.proofs.Starts.{starts-of-reads}
 use Rattle.theorems.specs.Exports.{StartMade, startAsked, startArgs, MeasureMade, measureAsked, measureLeft, WriteMade}
-use Rattle.theorems.specs.Exports.{writeAsked, writeLeft, ReadMade, readAsked, readArgs, readLeft, readOtherwise}
+use Rattle.theorems.specs.Exports.{writeAsked, writeLeft, ReadMade, readAsked, readArgs, readLeft, readOtherwise, StartsTold}
+use Rattle.theorems.specs.Exports.{StartsOfExports}
 
 -- ---- each kind of call
 
@@ -67,10 +71,17 @@ module _ (m : WriteMade) where
       ap (λ (n : ℕ). by-bytes n (m .left)) (if-false (writeAsked m) (getD (m .left .answer) 0 0) 0 a)
       ∙ ap (by-bytes 0) (m .met ∙ if-false (writeAsked m) _ _ a)
 
+work-numbered : (ws scratch : List ℕ) → (1 ≤ workRefusal ws scratch) × (workRefusal ws scratch ≤ 13)
+unfolding workRefusal
+work-numbered ws scratch =
+    let P : ℕ → Type 0 = λ n. (1 ≤ n) × (n ≤ 13) in
+    either P (not (validState reader ws (length scratch))) 5 _ (omega arith)
+    (either P (eqb (layer ws) notYetIncluded) 6 3 (omega arith) (omega arith))
+
 module _ (m : ReadMade) where
-  abbrev by-answer : ReadExit → ReadResult
+  abbrev by-answer : ReadExit → ReadResult asRecords
   by-answer z =
-      readResult (z .state) (z .scratch) (z .reports) (z .records) (record {
+      readResult asRecords (z .state) (z .scratch) (z .reports) (z .records) (record {
         refusal = z .refusal;
         present = getD (z .answer) 0 0;
         taken = getD (z .answer) 1 0;
@@ -79,8 +90,8 @@ module _ (m : ReadMade) where
         eph = getD (z .answer) 4 0;
       })
 
-  abbrev untold : ReadExit → ReadResult
-  untold z = readResult (z .state) (z .scratch) (z .reports) (z .records) (refusedAnswer (z .refusal))
+  abbrev untold : ReadExit → ReadResult asRecords
+  untold z = readResult asRecords (z .state) (z .scratch) (z .reports) (z .records) (refusedAnswer (z .refusal))
 
   abbrev five : Bool
   five = eqb (length (m .answer)) 5
@@ -88,32 +99,41 @@ module _ (m : ReadMade) where
   abbrev fits : Bool
   fits = eqb (length (m .work)) (recordWidth * length (m .records))
 
-  pub read-meets : readAsked m ≡ true → readLeft m ≡ readOf (m .state) (readArgs m)
+  pub read-meets : readAsked m ≡ true → readLeft m ≡ readOf asRecords (m .state) (readArgs m)
   unfolding readCall
   read-meets a =
       let e = and-left five fits a in
       if-true five _ _ e ∙ ap by-answer (m .met ∙ if-true five _ _ e ∙ if-true fits _ _ (and-right five fits a))
 
-  pub read-refuses : readAsked m ≡ false → readLeft m ≡ readUntouched (m .state) (readArgs m) (readOtherwise m)
+  pub read-refuses : readAsked m ≡ false → readLeft m ≡ readUntouched asRecords (m .state) (readArgs m) (readOtherwise m)
   unfolding readCall
   read-refuses a =
       on-bool five
       (λ e. if-true five _ _ e ∙ ap by-answer (m .met ∙ if-true five _ _ e ∙ if-false fits _ _ (second five fits e a))
-      ∙ ap (readUntouched (m .state) (readArgs m)) (sym (if-true five _ _ e)))
+      ∙ ap (readUntouched asRecords (m .state) (readArgs m)) (sym (if-true five _ _ e)))
       (λ e. if-false five _ _ e ∙ ap untold (m .met ∙ if-false five _ _ e)
-      ∙ ap (readUntouched (m .state) (readArgs m)) (sym (if-false five _ _ e)))
+      ∙ ap (readUntouched asRecords (m .state) (readArgs m)) (sym (if-false five _ _ e)))
     where
       second : (a b : Bool) → a ≡ true → (a && b) ≡ false → b ≡ false
       second true b e f = f
       second false b e f = absurd (true≢false (sym e))
 
   pub read-numbered : (1 ≤ readOtherwise m) × (readOtherwise m ≤ 13)
-  unfolding workRefusal
   read-numbered =
-      let P : ℕ → Type 0 = λ n. (1 ≤ n) × (n ≤ 13) in
-      either P five _ _
-      (either P (not (validState reader (m .state) (length (m .scratch)))) 5 _ (omega arith)
-      (either P (eqb (layer (m .state)) notYetIncluded) 6 3 (omega arith) (omega arith))) (omega arith)
+      either (λ (n : ℕ). (1 ≤ n) × (n ≤ 13)) five _ _ (work-numbered (m .state) (m .scratch)) (omega arith)
+
+  -- a call that the lists' lengths refuse has a number, and any other is t800's read
+  told-start : m .left .refusal ≡ 0 → StartsTold (m .left)
+  unfolding readCall StartsOfReads
+  told-start =
+      let P : ReadExit → Type 0 = λ z. z .refusal ≡ 0 → StartsTold z in
+      on-bool five
+      (λ e. on-bool fits
+      (λ g. subst P (sym (m .met ∙ if-true five _ _ e ∙ if-true fits _ _ g))
+      (starts-of-reads (m .state) (m .scratch) (m .markers) (m .input) (m .reports) (m .records)))
+      (λ g. subst P (sym (m .met ∙ if-true five _ _ e ∙ if-false fits _ _ g))
+      (λ z. absurd (omega (arith, z, work-numbered (m .state) (m .scratch))))))
+      (λ e. subst P (sym (m .met ∙ if-false five _ _ e)) (λ z. absurd (omega (arith, z))))
 
 -- ---- the interface
 
@@ -152,6 +172,7 @@ exports = record {
     refuses = write-refuses;
     numbered = λ m. omega arith;
   };
+  form = asRecords;
   reads = record {
     Made = ReadMade;
     found = λ m. m .state;
@@ -173,3 +194,7 @@ round-trip-of-exports = round-trip exports
 
 pub writer-of-exports-in-range : WriterInRange exports
 writer-of-exports-in-range = writer-in-range exports
+
+pub starts-of-exports : StartsOfExports
+unfolding StartsOfExports
+starts-of-exports m = told-start m

@@ -1,9 +1,11 @@
--- The calls of crate t2 as an interface: each contract in its src/lib.rt is t800's equation, and no list is added.
+-- The calls of crate t2 as an interface: each contract in its src/lib.rt is t800's equation, and no list is added. Records are lent as
+-- words.
 use mathlib.Core.Path.{_≡_}
 use mathlib.Core.Bool.{true, true≢false}
 use Prim.Native.Nat.{ℕ}
 use native.Mathlib.Omega.{arith}
 use Rattle.t800.specs.Base.{Words}
+use Rattle.t800.specs.Reports.{asWords}
 use Rattle.t800.specs.Interface.{startOf, startUntouched, measureOf, measureUntouched, writeOf, writeUntouched, readOf, readUntouched}
 use Rattle.t800.specs.Interface.{Calls, Interface}
 
@@ -33,5 +35,6 @@ calls = record {
   starts = λ role. byEquation (startOf role) startUntouched;
   measures = byEquation measureOf measureUntouched;
   writes = byEquation writeOf writeUntouched;
-  reads = byEquation readOf readUntouched;
+  form = asWords;
+  reads = byEquation (readOf asWords) (readUntouched asWords);
 }

@@ -3,18 +3,19 @@
 use mathlib.Core.Path.{_≡_}
 use mathlib.Core.Bool.{Bool, cond, _&&_}
 use mathlib.Core.List.{List}
-use Prim.Native.Nat.{ℕ, _*_}
-use lib.ListN.{length, getD}
+use Prim.Native.Nat.{ℕ, _*_, _^_, _<_}
+use lib.ListN.{length, getD, take}
 use lib.Dec.{eqb}
 use Rattle.t800.specs.declared.Markers.{Markers}
 use Rattle.t800.specs.declared.SegmentRecord.{SegmentRecord}
 use Rattle.t800.specs.Base.{Words, Bytes}
 use Rattle.t800.specs.Refusals.{listRefusal}
 use Rattle.t800.specs.Start.{StartResult}
-use Rattle.t800.specs.Reports.{recordWidth}
+use Rattle.t800.specs.Reports.{bodyBytes, recordWidth, asRecords}
 use Rattle.t800.specs.Packet.{MeasureResult, WriteResult, ReadResult, readResult, refusedAnswer}
-use Rattle.t800.specs.Exports.{bandsIn, startCall, MeasureExit, measureCall, WriteExit, writeCall, wordsOf, ReadExit, workRefusal, readCall}
+use Rattle.t800.specs.Exports.{bandsIn, startCall, MeasureExit, measureCall, WriteExit, writeCall, ReadExit, workRefusal, readCall}
 use Rattle.t800.specs.Interface.{StartCall, WriteCall, ReadCall}
+use Rattle.t800.specs.Starts.{StartsAreSums}
 
 -- ---- starts
 
@@ -79,7 +80,7 @@ writeLeft m =
       output = m .left .output;
     }
 
--- ---- reading into structs, which are taken by their words
+-- ---- reading into structs
 
 pub record ReadMade : Type 0 where
   pub state : Words
@@ -96,14 +97,14 @@ pub record ReadMade : Type 0 where
 abbrev pub readAsked : ReadMade → Bool
 readAsked m = eqb (length (m .answer)) 5 && eqb (length (m .work)) (recordWidth * length (m .records))
 
-abbrev pub readArgs : ReadMade → ReadCall
-readArgs m =
-    record { scratch = m .scratch; markers = m .markers; input = m .input; reports = m .reports; records = wordsOf (m .records) }
+abbrev pub readArgs : ReadMade → ReadCall asRecords
+readArgs m = record { scratch = m .scratch; markers = m .markers; input = m .input; reports = m .reports; records = m .records }
 
-abbrev pub readLeft : ReadMade → ReadResult
+abbrev pub readLeft : ReadMade → ReadResult asRecords
 readLeft m =
     let a = m .left .answer in
-    let told : ReadResult = readResult (m .left .state) (m .left .scratch) (m .left .reports) (m .left .records) (record {
+    let told : ReadResult asRecords =
+    readResult asRecords (m .left .state) (m .left .scratch) (m .left .reports) (m .left .records) (record {
       refusal = m .left .refusal;
       present = getD a 0 0;
       taken = getD a 1 0;
@@ -111,10 +112,24 @@ readLeft m =
       sop = getD a 3 0;
       eph = getD a 4 0;
     }) in
-    let untold : ReadResult =
-    readResult (m .left .state) (m .left .scratch) (m .left .reports) (m .left .records) (refusedAnswer (m .left .refusal)) in
+    let untold : ReadResult asRecords =
+    readResult asRecords (m .left .state) (m .left .scratch) (m .left .reports) (m .left .records) (refusedAnswer (m .left .refusal)) in
     cond (eqb (length (m .answer)) 5) told untold
 
 -- 3 for `answer`; for `work` 5, 6 or 3
 abbrev pub readOtherwise : ReadMade → ℕ
 readOtherwise m = cond (eqb (length (m .answer)) 5) (workRefusal (m .state) (m .scratch)) listRefusal
+
+-- ---- where segments start
+
+-- the records told, as many as the answer's word says
+abbrev pub readTold : ReadExit → List SegmentRecord
+readTold left = take (getD (left .answer) 2 0) (left .records)
+
+-- each starts behind the bytes of those before it, and in all they have fewer than 2^53
+abbrev pub StartsTold : ReadExit → Type 0
+StartsTold left = StartsAreSums (readTold left) × (bodyBytes (readTold left) < 2 ^ 53)
+
+-- in every accepted read, whatever the input
+unfoldable pub StartsOfExports : Type 0
+StartsOfExports = (m : ReadMade) → m .left .refusal ≡ 0 → StartsTold (m .left)

@@ -2,7 +2,7 @@
 ghost use mathlib.Core.Path.{_≡_};
 ghost use Rattle.t800.specs.State.{writer, reader};
 ghost use Rattle.t800.specs.WriteHeader.{contribution};
-ghost use Rattle.t800.specs.Exports.{stateLengthOf, startCall, measureCall, writeCall, wordsOf, readCall, describeCall};
+ghost use Rattle.t800.specs.Exports.{stateLengthOf, startCall, measureCall, writeCall, readCall, describeCall};
 use t800::SegmentRecord;
 
 // ---- starts
@@ -129,7 +129,7 @@ pub extern "C" fn tonkelvi_read(
           scratch = now (scratch .exit);
           reports = now (reports .exit);
           work = now (work .exit);
-          records = wordsOf (now (records .exit));
+          records = now (records .exit);
           answer = now (answer .exit);
         }
         ≡ readCall (now (state .entry)) (now (scratch .entry)) (record { sop = sop; eph = eph }) (now (src .entry))

@@ -1,1 +1,2 @@
+pub mod FromWords
 pub mod Structs

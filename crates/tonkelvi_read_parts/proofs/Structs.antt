@@ -1,70 +1,36 @@
--- The records that are stored from the work list are those that t800's `read` leaves in the records' words.
+-- The records that are stored from the work list are those that t800's `read` leaves in the structs.
 use mathlib.Core.Path.{_≡_, refl, sym, ap, _∙_}
 use mathlib.Core.Logic.{_≢_}
 use mathlib.Core.Bool.{Bool, true, false, cond, not, _||_, true≢false}
-use mathlib.Core.List.{List, _++_, append-nil}
-use Prim.Native.Nat.{ℕ, _+_, _*_, _/_, _≤_}
+use mathlib.Core.List.{List}
+use Prim.Native.Nat.{ℕ, _*_, _/_, _^_, _<_}
 use native.Mathlib.Omega.{arith}
-use lib.ListN.{length, take, drop, replicate, length-append, length-replicate, drop-of-length-le}
-use lib.Seq.{take-append-seam, take-length}
+use lib.ListN.{length}
 use lib.Dec.{eqb}
 use borrow.Author.Tests.{eq-eqb, ne-eqb, eqb-true, eqb-false}
 use Rattle.t800.specs.declared.Markers.{Markers}
 use Rattle.t800.specs.declared.ReadAnswer.{ReadAnswer}
-use Rattle.t800.specs.Base.{overwrite, wiped}
+use Rattle.t800.specs.Base.{wiped}
 use Rattle.t800.specs.Bits.{Decoded, bioAt, getBit}
 use Rattle.t800.specs.State.{reader, notYetIncluded, layer, bands, blocks}
 use Rattle.t800.specs.Ranges.{validState}
 use Rattle.t800.specs.declared.SegmentRecord.{SegmentRecord}
-use Rattle.t800.specs.Reports.{recordWords, reportWidth, recordWidth, asWords}
+use Rattle.t800.specs.Reports.{reportWidth, bodyBytes, RecordForm, asRecords, asWords}
 use Rattle.t800.specs.MarkerSegments.{readSop}
 use Rattle.t800.specs.ReadHeader.{HeaderRead, readHeader}
 use Rattle.t800.specs.Packet.{ReadResult, refusedAnswer, readRefusal, readAbsent, readPresent, read, readResult}
 use Rattle.t800_laws.proofs.Laws.Tests.{if-true, if-false, either}
-use Rattle.t800_laws.proofs.Laws.Lists.{record-words-length}
+use Rattle.t800_laws.proofs.Laws.StateAfter.{read-in-range}
+use Rattle.t800_laws.proofs.Laws.Starts.{header-starts, header-bytes}
+use Rattle.tcd_laws.proofs.Laws.ValidStates.{blocks-of-valid}
 use Rattle.round_trip.proofs.Numbers.{header-number}
-use Rattle.t800.specs.declared.SegmentRecord.{SegmentRecord}
-use Rattle.t800.specs.Exports.{wordsOf, readWords, ReadExit, readExit, workRefusal, readCall}
-use Rattle.t2_records.specs.Segments.{segmentAt, filled}
+use Rattle.t800.specs.Exports.{readWords, ReadExit, readExit, workRefusal, readCall}
+use Rattle.t2_records.specs.Segments.{filled}
 use Rattle.t2_read_numbers.specs.Reading.{readNumbers, toFill}
 use Rattle.tonkelvi_read_parts.specs.Numbers.{NumbersCall, numbersOf, numbersCall}
-use Rattle.t2_records.proofs.Stored.{stored-none, words-length, filled-words}
+use Rattle.t2_records.proofs.Stored.{recordAt, stored-none}
+use Rattle.tonkelvi_read_parts.proofs.FromWords.{found-stored, all-stored}
 use Rattle.t2_read_numbers.proofs.Numbers.{numbers-refused, numbers-read}
-
--- ---- what is stored, case by case
-
-module _ (rs : List SegmentRecord) where
-  none-stored : (ws : List ℕ) → wordsOf (filled ws 0 rs) ≡ wordsOf rs
-  none-stored ws = ap wordsOf (stored-none (segmentAt ws) rs)
-
-  -- as many as were found
-  found-stored : (xs : List ℕ) (fs : List SegmentRecord) → length (overwrite xs (recordWords fs)) ≡ length xs → length xs ≡ 4 * length rs
-      → wordsOf (filled (overwrite xs (recordWords fs)) (length fs) rs) ≡ overwrite (wordsOf rs) (recordWords fs)
-  unfolding overwrite
-  found-stored xs fs l e =
-      let n : ℕ = length fs in
-      let front : List ℕ = recordWords fs in
-      let after : List ℕ = drop (length front) xs in
-      let k : length front ≡ 4 * n = record-words-length fs in
-      let both : length (front ++ after) ≡ length front + length after = length-append front after in
-      filled-words (front ++ after) n rs (omega arith) (omega arith)
-      ∙ ap (λ (j : ℕ). take j (front ++ after) ++ drop j (wordsOf rs)) (sym k)
-      ∙ ap (λ (z : List ℕ). z ++ drop (length front) (wordsOf rs)) (take-append-seam front after)
-
-  -- all, from zeros
-  all-stored : (xs : List ℕ) → length xs ≡ 4 * length rs → wordsOf (filled (wiped xs) (length rs) rs) ≡ wiped (wordsOf rs)
-  all-stored xs e =
-      let zs : List ℕ = wiped xs in
-      let k : length zs ≡ length xs = length-replicate (length xs) 0 in
-      let w : length (wordsOf rs) ≡ 4 * length rs = words-length rs in
-      let at : 4 * length rs ≡ length zs = omega arith in
-      let past : length (wordsOf rs) ≤ length zs = omega arith in
-      let same : length xs ≡ length (wordsOf rs) = omega arith in
-      filled-words zs (length rs) rs (omega arith) (omega arith)
-      ∙ ap (λ (j : ℕ). take j zs ++ drop j (wordsOf rs)) at
-      ∙ (λ i. take-length zs i ++ drop-of-length-le (wordsOf rs) past i)
-      ∙ append-nil zs
-      ∙ ap (λ (j : ℕ). replicate j 0) same
 
 -- ---- how many are stored
 
@@ -96,22 +62,28 @@ module _ (ws scratch : List ℕ) (m : Markers) (src reports : List ℕ) where
   abbrev header : ℕ → HeaderRead
   header n = readHeader src n ws (first .bio)
 
-  abbrev unchanged : List ℕ → ReadResult asWords
-  unchanged records = readResult asWords ws scratch reports records (refusedAnswer why)
+  abbrev unchanged : (form : RecordForm) → form .Lent → ReadResult form
+  unchanged form records = readResult form ws scratch reports records (refusedAnswer why)
 
-  abbrev broken : ℕ → List ℕ → ReadResult asWords
-  broken n records = readResult asWords ws (wiped scratch) (wiped reports) (wiped records) (refusedAnswer (header n .refusal))
+  abbrev absent : (form : RecordForm) → form .Lent → ReadResult form
+  absent form records = readAbsent form ws m src reports records (readSop m src) (first .bio)
+
+  abbrev present : ℕ → (form : RecordForm) → form .Lent → ReadResult form
+  present n form records = readPresent form ws m src records (readSop m src) (header n)
+
+  abbrev broken : ℕ → (form : RecordForm) → form .Lent → ReadResult form
+  broken n form records =
+      readResult form ws (wiped scratch) (wiped reports) (form .cleared records) (refusedAnswer (header n .refusal))
 
   -- a read with room for n records
-  readAt : ℕ → List ℕ → ReadResult asWords
-  readAt n records =
-      cond (not (eqb why 0)) (unchanged records)
-      (cond (eqb (first .value) 0) (readAbsent asWords ws m src reports records (readSop m src) (first .bio))
-      (cond (eqb (header n .refusal) 0) (readPresent asWords ws m src records (readSop m src) (header n)) (broken n records)))
+  readAt : ℕ → (form : RecordForm) → form .Lent → ReadResult form
+  readAt n form records =
+      cond (not (eqb why 0)) (unchanged form records)
+      (cond (eqb (first .value) 0) (absent form records) (cond (eqb (header n .refusal) 0) (present n form records) (broken n form records)))
 
-  read-is-at : (records : List ℕ) → read asWords ws scratch m src reports records ≡ readAt (length records / recordWidth) records
+  read-is-at : (form : RecordForm) (records : form .Lent) → read form ws scratch m src reports records ≡ readAt (form .room records) form records
   unfolding read readAt
-  read-is-at records = refl
+  read-is-at form records = refl
 
   -- a header that is refused gives 9, 12 or 13, and all records are stored
   header-stores-all : (n room : ℕ) → eqb (header n .refusal) 0 ≡ false → toFill (refusedAnswer (header n .refusal)) room ≡ room
@@ -136,60 +108,65 @@ module _ (ws scratch : List ℕ) (m : Markers) (src reports : List ℕ) where
   -- ---- the read
 
   -- the result with the records that are stored from its work list
-  abbrev restored : List SegmentRecord → ReadResult asWords → ReadResult asWords
-  restored rs z = readResult asWords (z .state) (z .scratch) (z .reports)
-      (wordsOf (filled (z .records) (toFill (z .answer) (length rs)) rs)) (z .answer)
+  abbrev restored : List SegmentRecord → ReadResult asWords → ReadResult asRecords
+  restored rs z = readResult asRecords (z .state) (z .scratch) (z .reports)
+      (filled (z .records) (toFill (z .answer) (length rs)) rs) (z .answer)
+
+  none-stored : (xs : List ℕ) (rs : List SegmentRecord) (k : ℕ) → k ≡ 0 → filled xs k rs ≡ rs
+  none-stored xs rs k e = ap (λ (j : ℕ). filled xs j rs) e ∙ stored-none (recordAt xs) rs
 
   module _ (xs : List ℕ) (rs : List SegmentRecord) (as-long : length xs ≡ 4 * length rs) where
     abbrev n : ℕ
-    n = length xs / 4
+    n = length rs
 
-    abbrev absent : List ℕ → ReadResult asWords
-    absent records = readAbsent asWords ws m src reports records (readSop m src) (first .bio)
-
-    abbrev present : List ℕ → ReadResult asWords
-    present records = readPresent asWords ws m src records (readSop m src) (header n)
-
-    abbrev Same : (List ℕ → ReadResult asWords) → Type 0
-    Same z = length (z xs .records) ≡ length xs → restored rs (z xs) ≡ z (wordsOf rs)
+    abbrev Same : ((form : RecordForm) → form .Lent → ReadResult form) → Type 0
+    Same z = length (z asWords xs .records) ≡ length xs → restored rs (z asWords xs) ≡ z asRecords rs
 
     same-unchanged : why ≢ 0 → Same unchanged
     same-unchanged h l =
-        ap (λ (z : List ℕ). readResult asWords ws scratch reports z (refusedAnswer why))
-        (ap (λ (k : ℕ). wordsOf (filled xs k rs)) (early-stores-none ws scratch reports (length rs) h) ∙ none-stored rs xs)
+        ap (λ (z : List SegmentRecord). readResult asRecords ws scratch reports z (refusedAnswer why))
+        (none-stored xs rs _ (early-stores-none ws scratch reports n h))
 
     same-absent : Same absent
     unfolding readAbsent toFill
-    same-absent l = ap (λ (z : List ℕ). absent z) (none-stored rs xs)
+    same-absent l = ap (absent asRecords) (none-stored xs rs 0 refl)
 
-    same-present : Same present
+    header-few : why ≡ 0 → bodyBytes (header n .records) < 2 ^ 64
+    header-few e =
+        let v = read-in-range ws scratch reports e .0 in
+        omega (arith, header-bytes src n ws (first .bio) (blocks-of-valid reader ws (length scratch) v))
+
+    same-present : why ≡ 0 → Same (present n)
     unfolding readPresent toFill
-    same-present l = ap (λ (z : List ℕ). readResult asWords (present xs .state) (present xs .scratch) (present xs .reports) z
-        (present xs .answer)) (found-stored rs xs (header n .records) l as-long)
+    same-present e l =
+        let p : ReadResult asRecords = present n asRecords rs in
+        ap (λ (z : List SegmentRecord). readResult asRecords (p .state) (p .scratch) (p .reports) z (p .answer))
+        (found-stored rs xs (header n .records) (header-starts src n ws (first .bio)) (header-few e) l as-long)
 
     same-broken : eqb (header n .refusal) 0 ≡ false → Same (broken n)
     same-broken c l =
-        ap (λ (z : List ℕ). readResult asWords ws (wiped scratch) (wiped reports) z (refusedAnswer (header n .refusal)))
-        (ap (λ (k : ℕ). wordsOf (filled (wiped xs) k rs)) (header-stores-all n (length rs) c) ∙ all-stored rs xs as-long)
+        ap (λ (z : List SegmentRecord). readResult asRecords ws (wiped scratch) (wiped reports) z (refusedAnswer (header n .refusal)))
+        (ap (λ (k : ℕ). filled (wiped xs) k rs) (header-stores-all n n c) ∙ all-stored rs xs as-long)
 
     same-by : (t u v : Bool) → eqb why 0 ≡ t → eqb (first .value) 0 ≡ u → eqb (header n .refusal) 0 ≡ v
-        → Same (λ (l : List ℕ). cond (not t) (unchanged l) (cond u (absent l) (cond v (present l) (broken n l))))
+        → Same (λ form l. cond (not t) (unchanged form l) (cond u (absent form l) (cond v (present n form l) (broken n form l))))
     same-by false u v p q r = same-unchanged (eqb-false why 0 p)
     same-by true true v p q r = same-absent
-    same-by true false true p q r = same-present
+    same-by true false true p q r = same-present (eqb-true why 0 p)
     same-by true false false p q r = same-broken r
 
-    same-at : length (readAt n xs .records) ≡ length xs → restored rs (readAt n xs) ≡ readAt n (wordsOf rs)
+    same-at : Same (readAt n)
     unfolding readAt
     same-at = same-by (eqb why 0) (eqb (first .value) 0) (eqb (header n .refusal) 0) refl refl refl
 
+    words-at-room : read asWords ws scratch m src reports xs ≡ readAt n asWords xs
+    words-at-room = let e : length xs / 4 ≡ n = omega arith in read-is-at asWords xs ∙ ap (λ (j : ℕ). readAt j asWords xs) e
+
     stored-is-read : length (read asWords ws scratch m src reports xs .records) ≡ length xs
-        → restored rs (read asWords ws scratch m src reports xs) ≡ read asWords ws scratch m src reports (wordsOf rs)
+        → restored rs (read asWords ws scratch m src reports xs) ≡ read asRecords ws scratch m src reports rs
     stored-is-read l =
-        let e = read-is-at xs in
-        let k : length xs ≡ length (wordsOf rs) = as-long ∙ sym (words-length rs) in
-        ap (restored rs) e ∙ same-at (ap (λ (z : ReadResult asWords). length (z .records)) (sym e) ∙ l)
-        ∙ ap (λ (j : ℕ). readAt (j / 4) (wordsOf rs)) k ∙ sym (read-is-at (wordsOf rs))
+        ap (restored rs) words-at-room ∙ same-at (ap (λ (z : ReadResult asWords). length (z .records)) (sym words-at-room) ∙ l)
+        ∙ sym (read-is-at asRecords rs)
 
 -- ---- the read on the work list, with its answer words
 
@@ -217,7 +194,7 @@ module _ (ws scratch : List ℕ) (m : Markers) (src reports work : List ℕ) (re
     scratch = z .result .scratch;
     reports = z .result .reports;
     work = z .result .records;
-    records = wordsOf (filled (z .result .records) (toFill (z .result .answer) (length records)) records);
+    records = filled (z .result .records) (toFill (z .result .answer) (length records)) records;
     answer = z .answer;
   }
 
@@ -229,7 +206,7 @@ module _ (ws scratch : List ℕ) (m : Markers) (src reports work : List ℕ) (re
       let k = e ∙ if-true (eqb (length answer) 5) _ _ t
       ∙ ap numbersOf (numbers-read ws scratch m src reports work (length records) u) in
       ap filledOf k
-      ∙ ap (λ (y : ReadResult asWords). readExit y (read asWords ws scratch m src reports work .records))
+      ∙ ap (λ (y : ReadResult asRecords). readExit y (read asWords ws scratch m src reports work .records))
       (stored-is-read ws scratch m src reports work records (eqb-true (length work) (4 * length records) u)
       (ap (λ (y : NumbersCall). length (y .result .records)) (sym k) ∙ l))
       ∙ sym (if-true (eqb (length work) (4 * length records)) _ _ u)
@@ -237,26 +214,26 @@ module _ (ws scratch : List ℕ) (m : Markers) (src reports work : List ℕ) (re
   by-lists true false t u z e l =
       ap filledOf (e ∙ if-true (eqb (length answer) 5) _ _ t
       ∙ ap numbersOf (numbers-refused ws scratch m src reports work (length records) u))
-      ∙ ap (λ (y : List ℕ). readExit (readResult asWords ws scratch reports y (refusedAnswer (workRefusal ws scratch))) work)
-      (ap (λ (k : ℕ). wordsOf (filled work k records)) (wrong-stores-none ws scratch (length records)) ∙ none-stored records work)
+      ∙ ap (λ (y : List SegmentRecord). readExit (readResult asRecords ws scratch reports y (refusedAnswer (workRefusal ws scratch))) work)
+      (none-stored ws scratch m src reports work records _ (wrong-stores-none ws scratch (length records)))
       ∙ sym (if-false (eqb (length work) (4 * length records)) _ _ u)
       ∙ sym (if-true (eqb (length answer) 5) _ _ t)
   by-lists false u t v z e l =
       ap filledOf (e ∙ if-false (eqb (length answer) 5) _ _ t)
-      ∙ ap (λ (y : List ℕ).
+      ∙ ap (λ (y : List SegmentRecord).
       record { refusal = 3; state = ws; scratch = scratch; reports = reports; work = work; records = y; answer = answer })
-      (none-stored records work)
+      (none-stored ws scratch m src reports work records 0 refl)
       ∙ sym (if-false (eqb (length answer) 5) _ _ t)
 
   pub filled-is-call : (z₀ z₁ z₃ z₄ z₆ : List ℕ) (a : ReadAnswer) (us : List SegmentRecord) (k : ℕ)
       → record { result = readResult asWords z₀ z₁ z₃ z₄ a; answer = z₆ }
       ≡ numbersCall ws scratch m src reports work (length records) answer → length z₄ ≡ length work → k
       ≡ toFill a (length records) → us ≡ filled z₄ k records
-      → record { refusal = a .refusal; state = z₀; scratch = z₁; reports = z₃; work = z₄; records = wordsOf us; answer = z₆ }
+      → record { refusal = a .refusal; state = z₀; scratch = z₁; reports = z₃; work = z₄; records = us; answer = z₆ }
       ≡ readCall ws scratch m src reports work records answer
   filled-is-call z₀ z₁ z₃ z₄ z₆ a us k e l f g =
       ap (λ (y : List SegmentRecord).
-      record { refusal = a .refusal; state = z₀; scratch = z₁; reports = z₃; work = z₄; records = wordsOf y; answer = z₆ })
+      record { refusal = a .refusal; state = z₀; scratch = z₁; reports = z₃; work = z₄; records = y; answer = z₆ })
       (g ∙ ap (λ (j : ℕ). filled z₄ j records) f)
       ∙ by-lists (eqb (length answer) 5) (eqb (length work) (4 * length records)) refl refl
       (record { result = readResult asWords z₀ z₁ z₃ z₄ a; answer = z₆ }) e l

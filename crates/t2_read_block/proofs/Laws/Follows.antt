@@ -16,7 +16,7 @@ use Rattle.t800.specs.PassCount.{readPasses}
 use Rattle.t800.specs.TagTree.{PathRead, value, readPath}
 use Rattle.t800.specs.Segments.{width, readComma}
 use Rattle.t800.specs.declared.SegmentRecord.{SegmentRecord}
-use Rattle.t800.specs.Reports.{BlockReport, absent, reportWords, recordWords, recordWidth}
+use Rattle.t800.specs.Reports.{BlockReport, absent, reportWords, recordWords, recordWidth, bodyBytes}
 use Rattle.t800.specs.State.{Block, notYetPlanes, lengthBits}
 use Rattle.t800.specs.WriteHeader.{isNew, lengthBitsBefore}
 use Rattle.t800.specs.ReadHeader.{HeaderRead, refused, movedTo, withReport, opensSegment, currentLimit, currentPasses, passesTaken}
@@ -157,7 +157,13 @@ module _ (src reports records : List ℕ) (size : ℕ) where
       us = set (set ws (k .at + 2) (currentLimit ws k)) (k .at + 3) (currentPasses ws k + n)
 
       rec : ℕ → SegmentRecord
-      rec f = record { block = i; opens = cond (opensSegment ws k) 1 0; passes = n; bytes = readBits src f b .value }
+      rec f = record {
+        block = i;
+        opens = cond (opensSegment ws k) 1 0;
+        passes = n;
+        bytes = readBits src f b .value;
+        start = bodyBytes recs;
+      }
 
       done : ℕ → Reading
       done f = record {

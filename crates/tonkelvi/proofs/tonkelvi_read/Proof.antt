@@ -49,9 +49,10 @@ use Rattle.t800.specs.declared.Markers.{Markers}
 use Rattle.t800.specs.declared.ReadAnswer.{ReadAnswer}
 use Rattle.t800.proofs.ReadAnswer as Q
 use Rattle.t800.proofs.ReadAnswer.Laws as Q′
+use Rattle.t800.specs.Reports.{asWords}
 use Rattle.t800.specs.Packet.{readResult}
 use Rattle.t800.specs.declared.SegmentRecord.{SegmentRecord}
-use Rattle.t800.specs.Exports.{wordsOf, ReadExit, readCall}
+use Rattle.t800.specs.Exports.{ReadExit, readCall}
 use Rattle.t2_records.specs.Segments.{filled}
 use Rattle.t2_read_numbers.specs.Reading.{toFill}
 use Rattle.t2_records.proofs.Lent.{LentAgain, Shared, lends-again, comes-back, shares-again, unshares}
@@ -252,7 +253,7 @@ module _ {M : Type 1} (𝓤 : URA M) (H : Heap 𝓤) (A : Atoms 𝓤) (W : Given
   lastWords ws = ws .1 .1 .1 .1 .1 .1 .1 .1 .0
 
   abbrev CoreSays : Lasts → ReadAnswer → Type 0
-  CoreSays ws a = record { result = readResult (ws .0) (ws .1 .0) (lastReports ws) (lastWork ws) a; answer = lastWords ws }
+  CoreSays ws a = record { result = readResult asWords (ws .0) (ws .1 .0) (lastReports ws) (lastWork ws) a; answer = lastWords ws }
       ≡ numbersCall (st .now) (sc .now) mk (sr .now) (rp .now) xs room (an .now)
 
   -- `to_fill`
@@ -288,7 +289,7 @@ module _ {M : Type 1} (𝓤 : URA M) (H : Heap 𝓤) (A : Atoms 𝓤) (W : Given
   abbrev Exit : ℕ → List ℕ → List ℕ → List ℕ → List ℕ → List ℕ → List SegmentRecord → Type 0
   Exit n z₀ z₁ z₃ z₄ z₆ rs =
       _≡_ {A = ReadExit}
-      (record { refusal = n; state = z₀; scratch = z₁; reports = z₃; work = z₄; records = wordsOf rs; answer = z₆ })
+      (record { refusal = n; state = z₀; scratch = z₁; reports = z₃; work = z₄; records = rs; answer = z₆ })
       (readCall (st .now) (sc .now) mk (sr .now) (rp .now) xs (rr .now) (an .now))
 
   exits : (n : ℕ) (z₀ z₁ z₃ z₄ z₆ : List ℕ) (rs : List SegmentRecord) → Exit n z₀ z₁ z₃ z₄ z₆ rs → n < 2 ^ 32
