@@ -39,7 +39,7 @@ module _ (l : FirstLayer) (b : Lent) (s : StartResult)
   packetFrom z = write (z .state) (b .scratch) (l .contribution) (l .body) (l .markers) (l .number) (b .output)
 
   abbrev readFrom : StartResult → WriteResult → ReadResult asWords
-  readFrom t p = read (t .state) (p .scratch) (l .markers) (p .output) (b .reports) (b .records)
+  readFrom t p = read asWords (t .state) (p .scratch) (l .markers) (p .output) (b .reports) (b .records)
 
   by-results : (t : StartResult) (p : WriteResult) (q : ReadResult asWords) → t ≡ readerStart → p ≡ packetFrom s → q ≡ readFrom t p
       → layerBy b s t p q ≡ writeAndRead l b
@@ -101,7 +101,7 @@ module _ (l : FirstLayer) (b : Lent) (h : Premises l b) where
   readerStart′ = start reader (l .count) (l .bands) (l .style) [] (b .reader)
 
   abbrev result : ReadResult asWords
-  result = read (readerStart′ .state) (writeOfLayer l b .scratch) (l .markers) (writeOfLayer l b .output) (b .reports) (b .records)
+  result = read asWords (readerStart′ .state) (writeOfLayer l b .scratch) (l .markers) (writeOfLayer l b .output) (b .reports) (b .records)
 
   -- nothing refuses the four calls
   whole : writeAndRead l b

@@ -19,7 +19,8 @@ wrongWork state scratch reports work = readResult asWords state scratch reports 
 unfoldable pub readNumbers : (state : List ℕ) (scratch : List ℕ) (markers : Markers) (input : List ℕ) (reports : List ℕ)
     (work : List ℕ) (room : ℕ) → ReadResult asWords
 readNumbers state scratch markers input reports work room =
-    cond (eqb (length work) (recordWidth * room)) (read asWords state scratch markers input reports work) (wrongWork state scratch reports work)
+    cond (eqb (length work) (recordWidth * room)) (read asWords state scratch markers input reports work)
+    (wrongWork state scratch reports work)
 
 -- how many records are then stored: the segments found, or all where the work list was wiped
 unfoldable pub toFill : (answer : ReadAnswer) (room : ℕ) → ℕ

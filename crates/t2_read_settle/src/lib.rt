@@ -27,7 +27,8 @@ pub fn read_absent(
 ) -> ReadAnswer
     requires { ⌜ (validState reader (now state) (length (now scratch)) ≡ true) × (layer (now state) < notYetIncluded)
         × (b .bp ≤ length (now src) + 1) ⌝ }
-    ensures { λ r. ⌜ WithAnyRecords (λ records. readResult asWords (now (state .exit)) (now (scratch .exit)) (now (reports .exit)) records r)
+    ensures { λ r. ⌜ WithAnyRecords
+        (λ records. readResult asWords (now (state .exit)) (now (scratch .exit)) (now (reports .exit)) records r)
         (λ records. readAbsent asWords (now (state .entry)) m (now (src .entry)) (now (reports .entry)) records (markerRead s) b) ⌝ }
 {
     let next = state[3] + 1;

@@ -1,5 +1,5 @@
 -- Records stored in order: their count, and that they stand over the front of the list.
-use mathlib.Core.Path.{_≡_, refl, _∙_, ap, sym}
+use mathlib.Core.Path.{_≡_, refl, _∙_, ap}
 use mathlib.Core.List.{List, [], _∷_}
 use Prim.Native.Nat.{ℕ, zero, suc, _+_, _≤_, _<_}
 use native.Mathlib.Omega.{arith}
@@ -7,7 +7,7 @@ use lib.ListN.{length, getD, set, length-set}
 use Rattle.t800.specs.declared.SegmentRecord.{SegmentRecord}
 use Rattle.t800.specs.Base.{overwrite}
 use Rattle.t800.specs.Reports.{noRecord}
-use Rattle.t2_records.specs.Segments.{segmentAfter, lastOf, stored, filled}
+use Rattle.t2_records.specs.Segments.{segmentAfter, lastOf, stored}
 
 -- record i of the numbers
 abbrev pub recordAt : List ℕ → ℕ → SegmentRecord

@@ -11,8 +11,8 @@ use Rattle.t800.specs.declared.Markers.{Markers}
 use Rattle.t800.specs.WriteHeader.{contribution}
 use Rattle.t800.specs.Base.{sum}
 use Rattle.t800.specs.Segments.{termAll, bypass}
-use Rattle.t800.proofs.Table.{Step, starts, loads-writer, loads-reader, holds-writer, holds-reader, writes, heads, reads-starts, reads}
-use Rattle.t800.proofs.Table.{Row, rowHolds, failing}
+use Rattle.t800.proofs.Table.{Step, starts, loads-writer, loads-reader, holds-writer, holds-reader, writes, heads}
+use Rattle.t800.proofs.Table.{reads-starts, reads, Row, rowHolds, failing}
 
 -- ---- short forms
 

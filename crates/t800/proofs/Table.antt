@@ -240,18 +240,17 @@ stepsHold style (reads-starts c answer reports records begins ∷ rest) book es 
 -- `unfolding rowHolds` computes a row: it opens every definition of the base
 unfoldable pub rowHolds : Row → Bool
 unfolding same sumsFrom recordsWith fields startHolds measureHolds writeHolds listsHold wordsHold structsHold readWords readStructs
-    readHolds asOwed stepsHold every any sum halvings floorLog2 overwrite bitsOf
-    bitsAfter lastBytes packFrom pack byteIn heldBit getBit readBitsOnto readBits inFF endsInFF bytesTaken levelsFrom levels nodesIn
-    nodes pathFrom pathToRoot setValue lowAfter nodeBits knownAfter codePath readNode readPath passBits readPasses termAll bypass
-    firstLimit nextLimit isLimit segmentsFrom segmentsOf width bitLength increment commaBits lengthFields readOnes readComma writer
-    reader blocksIn bandNodes bandLength blocksFrom blocksAt endOf blocks stateLength bandAt bands badShape badStyle bandTooDeep
-    blockTooDeep nodeInRange blockInRange bandInRange bandsInRange unusedBandsZero validState freshNodes freshBlocks freshBands
-    bandWords freshState setZeroPlanes startRefusal start reportWords recordWords bodyBytes isNew lengthBitsBefore setNewBlocks codeInclusion
-    codeZeroPlanes codePasses codeBlock codeBlocks codeHeader segmentTooLong fieldTooWide opensSegment currentLimit currentPasses
-    passesTaken readSegment readSegments readZeroPlanesFrom readZeroPlanes firstReport againReport readIncluded readNewBlock
-    readOldBlock readBlock readBlocks readHeader sopBytes ephBytes withMarkers readMarker readSop readEph wrongLists measureRefusal
-    front measure packet writeRefusal write readRefusal readAbsent readPresent read opensAt newEntries newBook reportOf recordsFrom
-    recordsOf entryFrom entry addCounts
+    readHolds asOwed stepsHold every any sum halvings floorLog2 overwrite bitsOf bitsAfter lastBytes packFrom pack byteIn heldBit getBit
+    readBitsOnto readBits inFF endsInFF bytesTaken levelsFrom levels nodesIn nodes pathFrom pathToRoot setValue lowAfter nodeBits
+    knownAfter codePath readNode readPath passBits readPasses termAll bypass firstLimit nextLimit isLimit segmentsFrom segmentsOf width
+    bitLength increment commaBits lengthFields readOnes readComma writer reader blocksIn bandNodes bandLength blocksFrom blocksAt endOf
+    blocks stateLength bandAt bands badShape badStyle bandTooDeep blockTooDeep nodeInRange blockInRange bandInRange bandsInRange
+    unusedBandsZero validState freshNodes freshBlocks freshBands bandWords freshState setZeroPlanes startRefusal start reportWords
+    recordWords bodyBytes isNew lengthBitsBefore setNewBlocks codeInclusion codeZeroPlanes codePasses codeBlock codeBlocks codeHeader
+    segmentTooLong fieldTooWide opensSegment currentLimit currentPasses passesTaken readSegment readSegments readZeroPlanesFrom
+    readZeroPlanes firstReport againReport readIncluded readNewBlock readOldBlock readBlock readBlocks readHeader sopBytes ephBytes
+    withMarkers readMarker readSop readEph wrongLists measureRefusal front measure packet writeRefusal write readRefusal readAbsent
+    readPresent read opensAt newEntries newBook reportOf recordsFrom recordsOf entryFrom entry addCounts
 rowHolds row =
     let bs = row .given in
     let lent = scratchOf (stateLength bs) in

@@ -13,7 +13,9 @@ use Rattle.t800.specs.Book.{BlockEntry, entry}
 -- each record's start is the sum of the lengths of the records before it
 unfoldable pub StartsAreSums : List SegmentRecord → Type 0
 StartsAreSums records =
-    (before : List SegmentRecord) (r : SegmentRecord) (after : List SegmentRecord) → records ≡ before ++ r ∷ after → r .start ≡ bodyBytes before
+    (before : List SegmentRecord) (r : SegmentRecord) (after : List SegmentRecord)
+    → records ≡ before ++ r ∷ after
+    → r .start ≡ bodyBytes before
 
 -- the records that a read told
 abbrev pub recordsTold : ReadResult asRecords → List SegmentRecord

@@ -99,7 +99,7 @@ no-starts (suc n) = (refl, no-starts n)
 no-bytes : (n : ℕ) → bodyBytes (replicate n noRecord) ≡ 0
 unfolding bodyBytes
 no-bytes zero = refl
-no-bytes (suc n) = no-bytes n
+no-bytes (suc n) = omega (arith, no-bytes n)
 
 module _ (rs : List SegmentRecord) where
   pub found-stored : (xs : List ℕ) (fs : List SegmentRecord) → StartsFrom 0 fs → bodyBytes fs < 2 ^ 64

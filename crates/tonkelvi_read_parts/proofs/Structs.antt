@@ -79,9 +79,11 @@ module _ (ws scratch : List ℕ) (m : Markers) (src reports : List ℕ) where
   readAt : ℕ → (form : RecordForm) → form .Lent → ReadResult form
   readAt n form records =
       cond (not (eqb why 0)) (unchanged form records)
-      (cond (eqb (first .value) 0) (absent form records) (cond (eqb (header n .refusal) 0) (present n form records) (broken n form records)))
+      (cond (eqb (first .value) 0) (absent form records)
+      (cond (eqb (header n .refusal) 0) (present n form records) (broken n form records)))
 
-  read-is-at : (form : RecordForm) (records : form .Lent) → read form ws scratch m src reports records ≡ readAt (form .room records) form records
+  read-is-at : (form : RecordForm) (records : form .Lent)
+      → read form ws scratch m src reports records ≡ readAt (form .room records) form records
   unfolding read readAt
   read-is-at form records = refl
 

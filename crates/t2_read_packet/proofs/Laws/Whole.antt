@@ -19,7 +19,8 @@ module _ (ws scratch : List ℕ) (m : Markers) (src reports records : List ℕ) 
       → readResult asWords ws scratch reports records answer ≡ read asWords ws scratch m src reports records
   unfolding read
   unchanged-is why answer e n a =
-      ap (readResult asWords ws scratch reports records) (a ∙ ap refusedAnswer e) ∙ rw (ne-eqb (readRefusal ws scratch reports) 0 (λ z. n (e ∙ z)))
+      ap (readResult asWords ws scratch reports records) (a ∙ ap refusedAnswer e)
+      ∙ rw (ne-eqb (readRefusal ws scratch reports) 0 (λ z. n (e ∙ z)))
 
   module _ (none : readRefusal ws scratch reports ≡ 0) (s : MarkerRead) (is : s ≡ readMarker (m .sop) 6 0x91 src 0)
       (first : Decoded) (bit : first ≡ getBit src (bioAt (s .skip))) where

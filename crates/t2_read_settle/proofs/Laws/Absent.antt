@@ -18,4 +18,5 @@ pub absent-is : (ws : List ℕ) (m : Markers) (src reports records : List ℕ) (
     → scratch ≡ set ws 3 (layer ws + 1) → rows ≡ wiped reports → answer ≡ doneAnswer m src s b 0 0
     → readResult asWords (set ws 3 (layer ws + 1)) scratch rows records answer ≡ readAbsent asWords ws m src reports records s b
 unfolding readAbsent doneAnswer
-absent-is ws m src reports records s b scratch rows answer p q r = λ j. readResult asWords (set ws 3 (layer ws + 1)) (p j) (q j) records (r j)
+absent-is ws m src reports records s b scratch rows answer p q r =
+    λ j. readResult asWords (set ws 3 (layer ws + 1)) (p j) (q j) records (r j)

@@ -51,7 +51,7 @@ use denote.Triple.Walked.{says, Stays, stay-slice, stay-none, stay-none-slice, w
 use denote.Triple.Walked.{goes-none-slice, Walks, ends-at, walked, walk-meets}
 use denote.Exit.{yes}
 use Rattle.t800.specs.Reports.{noRecord}
-use Rattle.t2_records.specs.Segments.{segmentAfter, lastOf, filled}
+use Rattle.t2_records.specs.Segments.{lastOf, filled}
 use Rattle.t2_records.proofs.Stored.{recordAt, last-none, last-turn, stored-none, stored-turn, stored-length}
 use Rattle.t800.specs.declared.SegmentRecord.{SegmentRecord}
 use Rattle.t2_records.proofs.Lent.{LentAgain, lends-again, comes-back}
@@ -260,8 +260,8 @@ module _ {M : Type 1} (𝓤 : URA M) (H : Heap 𝓤) (A : Atoms 𝓤) (W : Given
           leaves-loop ! (load ! (from ! (stop !)) (look ! 10 refl)) $ exec ! C Λ E steps.t-4 (atRet E Post) $
           rewrite ! 0 (λ (i : ℕ). ‵ (own-at κ γ (done-at i))) end refl $
           assigns ! (of-opd ! (unit-lit !)) (from ! (stop !)) (init ! 22 refl (tt, tt)) $
-          returns ! (look ! 22 refl) $ forget ! 10 refl $ forget ! 12 refl $ forget ! 14 refl $ forget ! 16 refl $ forget ! 18 refl $ forget ! 20 refl
-          $ forget ! 22 refl $
+          returns ! (look ! 22 refl) $ forget ! 10 refl $ forget ! 12 refl $ forget ! 14 refl $ forget ! 16 refl $ forget ! 18 refl $
+          forget ! 20 refl $ forget ! 22 refl $
           move ! (22 ∷ 23 ∷ []) $ free1 ! $ move ! (20 ∷ 21 ∷ []) $ free1 ! $ move ! (18 ∷ 19 ∷ []) $ free1 ! $ move !
           (16 ∷ 17 ∷ []) $ free1 ! $ move ! (14 ∷ 15 ∷ []) $ free1 ! $ move ! (12 ∷ 13 ∷ []) $ free1 ! $ move ! (10 ∷ 11 ∷ []) $
           free1 ! $ move ! (8 ∷ 9 ∷ []) $ free1 ! $ move ! (6 ∷ 7 ∷ []) $ free1 ! $ move ! (4 ∷ 5 ∷ []) $ free1 ! $ free0 ! $
@@ -289,7 +289,8 @@ module _ {M : Type 1} (𝓤 : URA M) (H : Heap 𝓤) (A : Atoms 𝓤) (W : Given
           use1 W
           (later
           (some (λ (r : SegmentRecord). ((‵ (flft κ′ q′) ⊛ ‵ ftrue) ⊛ ‵ (R .own r (u ∷ []))) ⊛ raw
-          (ensured 𝓤 H A g.ended (g.clauses 𝓤 H A at-mem run) (κ′, tt) (w, (i, (last-at i, tt))) tt r)))) (id⊢ 𝓤 _) $ await ! tt $ pick ! (λ r.
+          (ensured 𝓤 H A g.ended (g.clauses 𝓤 H A at-mem run) (κ′, tt) (w, (i, (last-at i, tt))) tt r)))) (id⊢ 𝓤 _) $ await ! tt $
+          pick ! (λ r.
           split ! $ move ! (1 ∷ []) $ use1 W (raw (fact 𝓤 (r ≡ recordAt (now w) i))) (seg-said i r) $ heard !
           (r ≡ recordAt (now w) i) (λ e. split ! $ move ! (1 ∷ []) $ peeks ! R (Is R) (shows 𝓤 H A R) r (u ∷ []) (λ is.
           -- [what the record owns; the numbers' token; the numbers; the records; their token; _9 (5); …; _8 (7); …; _7 (9); …; _6

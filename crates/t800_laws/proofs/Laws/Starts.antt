@@ -1,6 +1,6 @@
 -- The records of a header that is read: each starts behind the bytes of those before it; how many they are, and how many bytes they have.
-use mathlib.Core.Path.{_≡_, refl, sym, ap, _∙_, subst}
-use mathlib.Core.Bool.{Bool, _&&_}
+use mathlib.Core.Path.{_≡_, sym, _∙_, subst}
+use mathlib.Core.Bool.{_&&_}
 use mathlib.Core.List.{List, [], _∷_, _++_, reverse}
 use Prim.Native.Nat.{ℕ, zero, suc, _+_, _-_, _*_, _^_, _≤_, _<_}
 use native.Mathlib.Nat.{le-of-eq, le-trans, zero-add, add-zero}
@@ -75,7 +75,8 @@ module _ (src : List ℕ) (room : ℕ) where
       ws b tt
 
   -- a length has at most 32 bits
-  header-lengths : (ws : List ℕ) (b : Bio) → bodyBytes (readHeader src room ws b .records) ≤ (2 ^ 32 - 1) * length (readHeader src room ws b .records)
+  header-lengths : (ws : List ℕ) (b : Bio)
+      → bodyBytes (readHeader src room ws b .records) ≤ (2 ^ 32 - 1) * length (readHeader src room ws b .records)
   unfolding bodyBytes
   header-lengths ws b =
       header-keeps src room (λ r. bodyBytes (r .records) ≤ (2 ^ 32 - 1) * length (r .records)) (omega arith) (omega arith) (omega arith)
@@ -132,7 +133,8 @@ module _ (src : List ℕ) (room : ℕ) where
   header-few ws b =
       let r : HeaderRead = record { refusal = 0; words = ws; bio = b; reports = []; records = [] } in
       let s : HeaderRead = readBlocks src room (layer ws) 0 (blocks (bands ws)) r in
-      either (λ (z : HeaderRead). length (z .records) ≤ 164 * length (blocks (bands ws))) (eqb (s .refusal) 0 && endsInFF src (s .bio)) _ _ (omega arith)
+      either (λ (z : HeaderRead). length (z .records) ≤ 164 * length (blocks (bands ws))) (eqb (s .refusal) 0 && endsInFF src (s .bio))
+      _ _ (omega arith)
       (omega (arith, blocks-few (layer ws) 0 (blocks (bands ws)) r))
 
   pub header-bytes : (ws : List ℕ) (b : Bio) → length (blocks (bands ws)) ≤ 12288 → bodyBytes (readHeader src room ws b .records) < 2 ^ 53

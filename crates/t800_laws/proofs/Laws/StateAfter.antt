@@ -4,7 +4,7 @@ use mathlib.Core.Path.{_≡_, refl, sym, ap, _∙_}
 use mathlib.Core.Logic.{_≢_}
 use mathlib.Core.Bool.{Bool, true, false, cond, _&&_, _||_, not}
 use mathlib.Core.List.{List, [], _∷_}
-use Prim.Native.Nat.{ℕ, zero, suc, _+_, _-_, _*_, _/_, _≤_, _<_}
+use Prim.Native.Nat.{ℕ, zero, suc, _+_, _-_, _*_, _≤_, _<_}
 use native.Mathlib.Nat.{le-trans, mul-le-mul-left}
 use native.Mathlib.Omega.{arith}
 use lib.ListN.{length, getD, set, length-set}
@@ -280,7 +280,8 @@ module _ (form : RecordForm) (ws scratch : List ℕ) (m : Markers) (src reports 
   refused-before-reading h = rw (ne-eqb why 0 h)
 
   pub refused-in-header : why ≡ 0 → firstBit (readSop m src .skip) ≢ 0 → header (readSop m src .skip) .refusal ≢ 0
-      → result ≡ readResult form ws (wiped scratch) (wiped reports) (form .cleared records) (refusedAnswer (header (readSop m src .skip) .refusal))
+      → result
+      ≡ readResult form ws (wiped scratch) (wiped reports) (form .cleared records) (refusedAnswer (header (readSop m src .skip) .refusal))
   unfolding read
   refused-in-header e b h = rw (e, ne-eqb (firstBit (readSop m src .skip)) 0 b, ne-eqb (header (readSop m src .skip) .refusal) 0 h)
 
