@@ -11,8 +11,8 @@ extern "C" {
 #endif
 
 /* The version: major * 10000 + minor * 100 + patch, and as text. */
-#define TONKELVI_VERSION 200
-#define TONKELVI_VERSION_TEXT "0.2.0"
+#define TONKELVI_VERSION 300
+#define TONKELVI_VERSION_TEXT "0.3.0"
 
 /*
  * Lists. Each list is passed as a pointer to its first element and its number of elements; the pointer of an empty list is not used
@@ -139,15 +139,17 @@ struct tonkelvi_segment {
     uint32_t opens; /* 1 if its first pass is in this packet, or else 0 */
     uint32_t passes;
     uint32_t bytes;
+    uint64_t start; /* bytes of the packet's body before its own; markers and header are not counted. Below 2^53 */
 };
 
 /* Reads the next packet's markers and header from the front of `src`.
  * reports, 4 words a block: 0 absent, 1 first time, 2 again; zero planes; block planes; passes. Planes are 0 unless the first is 1.
- * records: the packet's segments, in order, at the front of the list; the structs after them are unchanged. Always enough for each block
- * are 3 where the style has neither bit 0x01 nor 0x04, 110 with 0x01 alone, and 164 with 0x04.
+ * records: the packet's segments, in order, at the front of the list; the structs after them are unchanged. The start of each is the sum
+ * of the bytes of those before it. Always enough for each block are 3 where the style has neither bit 0x01 nor 0x04, 110 with 0x01 alone,
+ * and 164 with 0x04.
  * work: a list of exactly 4 words for each struct of `records`, with any content. It must be lent because the engine allocates nothing:
  * it collects the segments there, and fills the structs from it once the header has been read without a refusal. Then the words at its
- * front are those of the segments, field by field, and the others are unchanged.
+ * front are block, opens, passes and bytes of each segment, and the others are unchanged.
  * answer, 5 words: 1 if the packet is present, or else 0; bytes taken with markers; segments; SOP mark; EPH mark. A mark is 0 in order
  * or not used, 1 too few bytes, 2 not found. Refusals: 5, 6, 3, then 9 before 13 at each segment, then 12. */
 uint32_t tonkelvi_read(

@@ -7,7 +7,7 @@
 This gives the files that are there byte for byte; --seed gives others. crate_answers runs the code of crate openjp2 0.6.1
 (rust/compare/src/answers.rs), and compare_definitions.py's generator makes the random runs. Every answer of a list, and the state after
 it, comes from the crate, but for those of the lists `hand` and `refusals` that the scope (docs/SCOPE.md) gives alone: the crate has no such
-refusal, and there the number stands in this file, with the buffers as the scope leaves them.
+refusal, and there the number stands in this file, with the buffers as the scope leaves them. Starts are sums of the crate's lengths.
 
 The lists, which crates/vectors/args names:
 
@@ -32,7 +32,7 @@ number of its answers, and then each call; it ends with the last one:
                 refusal, bytes, front n, body n, rest, front (bytes), check(state), check(scratch)
     4 read      words of scratch, SOP + 2 EPH, n, input (bytes), words of reports, words of records;
                 refusal, present, taken, segments, SOP mark, EPH mark, then of reports and of records: n, rest, row of n words;
-                check(state), check(scratch)
+                each segment's start, check(state), check(scratch)
     5 poke      place and word: the state's word there is set
 
 A list that is lent is filled before: state 7, scratch 5, output 165, reports 9, records 8; a body has (7 i + 3) mod 256 at i.
@@ -95,6 +95,12 @@ def counted(xs):
 
 def three(bands):
     return (list(bands) + [(0, 0, 0)] * 3)[:3]
+
+
+def starts(records):
+    """How many bytes of the body lie before each segment's, by the words of the records."""
+    lengths = records[3::4]
+    return [sum(lengths[:k]) for k in range(len(lengths))]
 
 
 class Calls:
@@ -164,7 +170,7 @@ class Calls:
         assert len(data) <= BYTES_MOST and max(reports, records) <= RECORDS_MOST and [len(x) for x in want] == [reports, records]
         self.add([4] + numbers([scratch, sop + 2 * eph, len(data)]) + list(data) + numbers([reports, records] + list(told))
                  + [b for x, rest in zip(rows, rests) for b in numbers([len(x), rest]) + row(x)]
-                 + numbers([check(after), check(left)]), from_crate)
+                 + numbers(starts(rows[1]) + [check(after), check(left)]), from_crate)
         self.state = after
 
     def bytes(self):
@@ -364,6 +370,13 @@ def hand_list(oracle):
         w.start(2, ONE, 0, [])
         w.read(fronts[0], rows=[[0, 1, first[0], first[1]]])
         w.read(fronts[1], reports=[[2, 0, 0, second[0]]], rows=[[0, 0, second[0], second[1]]])
+    # bodies of 2^32 bytes and more: a block of 3 segments, and two blocks of 2
+    most = (1 << 32) - 1
+    w.start(2, ONE, 4, [])
+    w.read(generator.stuffed([1, 1, 1, 1, 1, 0, 0] + [1] * 29 + [0] + [1] * 96), rows=[[0, 1, 1, most]] * 3)
+    w.start(2, [(2, 1, 8)], 4, [])
+    w.read(generator.stuffed([1, 1, 1, 1, 1, 1, 0] + [1] * 29 + [0] + [1] * 64 + [1, 1, 1, 0] + [1] * 29 + [0] + [1] * 31 + [0] * 33),
+        rows=[[0, 1, 1, most], [0, 1, 1, most], [1, 1, 1, most - 1], [1, 1, 1, 0]])
     # no 00 after a last FF
     w.start(1, ONE, 0, [8])
     front = w.write([16], last(16, 511), [0] * 16, front="feadff00")

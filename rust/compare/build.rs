@@ -13,6 +13,7 @@ const T2: &[&str] = &[
     "fn opj_t2_getnumpasses",
     "fn opj_t2_encode_packet",
     "fn opj_t2_read_packet_header",
+    "fn opj_t2_read_packet_data",
     "fn opj_t2_skip_packet_data",
     "fn opj_t2_init_seg",
 ];

@@ -706,6 +706,19 @@ fn expect_answer(list: &[u8], at: usize, r: ReadAnswer) -> Compared {
     expect(list, e, r.eph as u64)
 }
 
+// The start of each segment, as a struct has it that is stored from the records' numbers.
+fn expect_starts(list: &[u8], so_far: Compared, records: &[u32], segments: usize) -> Compared {
+    let mut c = so_far;
+    let mut last = t2_records::no_segment();
+    let mut i: usize = 0;
+    while i < segments {
+        last = t2_records::segment_after(records, i, last);
+        c = expect(list, c, last.start);
+        i += 1;
+    }
+    c
+}
+
 fn expect_read(
     list: &[u8],
     at: usize,
@@ -718,8 +731,9 @@ fn expect_read(
     let a = expect_answer(list, at, r);
     let b = expect_words(list, a, reports);
     let c = expect_words(list, b, records);
-    let d = expect_checksum(list, c, state);
-    expect_checksum(list, d, scratch)
+    let d = expect_starts(list, c, records, to_size(r.segments));
+    let e = expect_checksum(list, d, state);
+    expect_checksum(list, e, scratch)
 }
 
 fn read_into(

@@ -119,6 +119,36 @@ pub fn state(random: &mut Random, role: u32, shape: &Shape) -> Vec<u32> {
     state
 }
 
+/// A reader's state after layer 0 in which each block has a pass, and length fields of 32 bits from then on; its style has 0x04.
+pub fn widest_state(mut state: Vec<u32>) -> Vec<u32> {
+    state[3] = 1;
+    for p in &model::layout(&model::bands_of(&state)).0 {
+        for block in state[p.block_words..].chunks_exact_mut(4).take(p.blocks) {
+            block.copy_from_slice(&[1, 32, 1, 1]);
+        }
+    }
+    state
+}
+
+/// A header that gives blocks of such a state some passes, most lengths near 2^32; and the number of all passes.
+pub fn long_header(random: &mut Random, blocks: usize) -> (Vec<u8>, usize) {
+    let (mut bits, mut segments) = (vec![1], 0);
+    for _ in 0..blocks {
+        let passes = random.between(0, 5) as u32;
+        bits.push(u8::from(passes > 0));
+        if passes > 0 {
+            model::put_passes(&mut bits, passes);
+            bits.push(0);
+        }
+        for _ in 0..passes {
+            let length = if random.once_in(3) { edge(random) } else { u32::MAX - random.up_to_bits(8) };
+            model::put_number(&mut bits, length.into(), 32);
+        }
+        segments += passes as usize;
+    }
+    (model::pack(&bits), segments)
+}
+
 /// One to three words changed to edges of their ranges or beyond, moved by one, or made the most passes that the layer allows or one
 /// more; or the length changed by one.
 pub fn damaged_state(random: &mut Random, state: &[u32]) -> Vec<u32> {

@@ -231,7 +231,7 @@ fn get_tree(words: &mut [u32], base: usize, path: &[usize], threshold: u32, bits
 
 // ---- bits
 
-fn put_number(bits: &mut Vec<u8>, value: u64, width: u32) {
+pub fn put_number(bits: &mut Vec<u8>, value: u64, width: u32) {
     for place in (0..width).rev() {
         bits.push((value >> place & 1) as u8);
     }
@@ -287,7 +287,7 @@ impl Bits<'_> {
 
 // ---- pass counts and lengths
 
-fn put_passes(bits: &mut Vec<u8>, n: u32) {
+pub fn put_passes(bits: &mut Vec<u8>, n: u32) {
     let n = u64::from(n);
     match n {
         1 => put_number(bits, 0b0, 1),
@@ -509,10 +509,17 @@ fn next_limit(style: u32, last: u32) -> u32 {
     }
 }
 
+/// A segment: block, opens, passes and bytes, and how many bytes of the packet's body lie before it.
+#[derive(Clone, Copy, Default, PartialEq, Eq, Debug)]
+pub struct Record {
+    pub numbers: [u32; 4],
+    pub start: u64,
+}
+
 #[derive(Default)]
 pub struct Told {
     pub reports: Vec<[u32; 4]>,
-    pub records: Vec<[u32; 4]>,
+    pub records: Vec<Record>,
 }
 
 /// The blocks after a first bit 1.
@@ -520,6 +527,7 @@ fn read_blocks(words: &mut [u32], bits: &mut Bits, room: usize) -> Result<Told, 
     let (places, _, _) = layout(&bands_of(words));
     let (style, layer) = (words[2], words[3]);
     let mut told = Told::default();
+    let mut body_so_far: u64 = 0;
     for p in &places {
         for i in 0..p.blocks {
             let at = p.block_words + 4 * i;
@@ -559,7 +567,10 @@ fn read_blocks(words: &mut [u32], bits: &mut Bits, room: usize) -> Result<Told, 
                 if told.records.len() >= room {
                     return Err(13);
                 }
-                told.records.push([(p.first_block + i) as u32, u32::from(opens), passes, bits.number(width)]);
+                let bytes = bits.number(width);
+                let numbers = [(p.first_block + i) as u32, u32::from(opens), passes, bytes];
+                told.records.push(Record { numbers, start: body_so_far });
+                body_so_far += u64::from(bytes);
                 words[at + 3] += passes;
                 left -= passes;
             }
@@ -578,7 +589,7 @@ pub fn read(
     eph: bool,
     reports: &mut [u32],
     work: &mut [u32],
-    records: &mut [[u32; 4]],
+    records: &mut [Record],
     answer: &mut [u64],
 ) -> u32 {
     if answer.len() != 5 {
@@ -619,7 +630,7 @@ pub fn read(
         scratch.fill(0);
         reports.fill(0);
         work.fill(0);
-        records.fill([0; 4]);
+        records.fill(Record::default());
         return refusal;
     }
     let (eph_mark, after) = marker(eph, src, end, 2, 0x92);
@@ -627,7 +638,9 @@ pub fn read(
     state.copy_from_slice(&words);
     scratch.copy_from_slice(&words);
     reports.copy_from_slice(told.reports.as_flattened());
-    work[..4 * told.records.len()].copy_from_slice(told.records.as_flattened());
+    for (words, record) in work.chunks_exact_mut(4).zip(&told.records) {
+        words.copy_from_slice(&record.numbers);
+    }
     records[..told.records.len()].copy_from_slice(&told.records);
     answer.copy_from_slice(&[u64::from(present), (end + after) as u64, told.records.len() as u64, sop_mark, eph_mark]);
     0

@@ -1,6 +1,6 @@
 //! Crate openjp2's own packet functions, built from its sources, and stand-ins for what they name of its other modules. None of the
 //! stand-ins decides a bit of a packet.
-#![allow(warnings)]
+#![allow(warnings, clippy::all)]
 
 pub mod openjpeg {
     use core::alloc::Layout;

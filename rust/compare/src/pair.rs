@@ -1,6 +1,7 @@
 //! Each call made twice, by the engine and by the scope's plain Rust (model.rs), on equal copies of every buffer; and where the call lies
 //! in the crate's domain, by the crate too. Anything unequal ends the run with all arguments.
-use crate::model;
+use crate::model::{self, Record};
+use crate::random::Random;
 use std::fmt::Debug;
 use tonkelvi::words;
 
@@ -10,7 +11,6 @@ type Start = fn(u32, &[u32], u8, &[u32], &mut [u32]) -> u32;
 
 /// What the lists held before a call is written over by it; these are the words that no call is to keep by chance.
 const USED: u32 = 0xdead_beef;
-const USED_RECORD: [u32; 4] = [0xfeed_0001, 0xfeed_0002, 0xfeed_0003, 0xfeed_0004];
 
 #[derive(Clone, Copy, PartialEq, Eq, Debug)]
 pub enum Call {
@@ -38,6 +38,10 @@ pub const CALLS: [(Call, &str); 7] = [
 pub struct Counts {
     pub by_number: [[u64; 14]; 7],
     pub with_crate: [[u64; 14]; 7],
+    /// Reads of a block with several segments behind another block.
+    pub mixed_bodies: u64,
+    /// Reads of a segment that starts 2^32 bytes or more into the body.
+    pub long_bodies: u64,
 }
 
 impl Counts {
@@ -64,6 +68,15 @@ impl Counts {
         }
         let with_crate: u64 = self.with_crate.iter().flatten().sum();
         println!("{} calls, {} of them compared with the crate too", self.total(), with_crate);
+        println!("{} reads of several segments behind another block, {} of starts from 2^32 on", self.mixed_bodies, self.long_bodies);
+    }
+
+    /// Counts what an accepted read's records show of the starts.
+    fn records(&mut self, records: &[Record]) {
+        let block = |record: &Record| record.numbers[0];
+        let mixed = |three: &[Record]| block(&three[0]) != block(&three[1]) && block(&three[1]) == block(&three[2]);
+        self.mixed_bodies += u64::from(records.windows(3).any(mixed));
+        self.long_bodies += u64::from(records.last().is_some_and(|last| last.start > u64::from(u32::MAX)));
     }
 }
 
@@ -93,12 +106,16 @@ pub struct Markers {
     pub eph: bool,
 }
 
-#[derive(Default)]
 pub struct Pair {
     pub counts: Counts,
+    random: Random,
 }
 
 impl Pair {
+    pub fn new(seed: u64) -> Pair {
+        Pair { counts: Counts::default(), random: Random::new(seed) }
+    }
+
     fn count(&mut self, call: Call, number: u32, with_crate: bool) {
         self.counts.by_number[call as usize][number as usize] += 1;
         self.counts.with_crate[call as usize][number as usize] += u64::from(with_crate);
@@ -224,8 +241,8 @@ impl Pair {
         let mut buffers = (vec![USED; scratch], vec![USED; reports], vec![USED; work], vec![u64::MAX; answer]);
         let mut expected = buffers.clone();
         let mut expected_state = state.clone();
-        let mut lent = vec![segment(USED_RECORD); records];
-        let mut expected_records = vec![USED_RECORD; records];
+        let mut lent = self.used_records(records);
+        let mut expected_records: Vec<Record> = lent.iter().map(record).collect();
         let number =
             words::read(state, &mut buffers.0, src, markers.sop, markers.eph, &mut buffers.1, &mut buffers.2, &mut lent, &mut buffers.3);
         let should = model::read(
@@ -245,16 +262,28 @@ impl Pair {
                  reports {reports} work {work} records {records} answer {answer}"
             )
         };
-        let lent: Vec<[u32; 4]> = lent.iter().map(record).collect();
+        let lent: Vec<Record> = lent.iter().map(record).collect();
         same("numbers", &number, &should, &text);
         same("states", state, &expected_state, &text);
         same("buffers", &buffers, &expected, &text);
         same("records", &lent, &expected_records, &text);
-        let told = (number, &state[..], &buffers.1[..], lent.as_flattened(), &buffers.3[..]);
+        let told = (number, &state[..], &buffers.1[..], &lent[..], &buffers.3[..]);
         let with_crate = matches!(number, 0 | 9 | 12) && crate_reads(&before, src, markers, told, &text);
         self.count(Call::Read, number, with_crate);
+        if number == 0 {
+            self.counts.records(&lent[..buffers.3[2] as usize]);
+        }
         self.left(number, state, &text);
         (number, buffers.3)
+    }
+
+    /// So many structs that each hold anything.
+    fn used_records(&mut self, records: usize) -> Vec<words::Segment> {
+        let any = |random: &mut Random| {
+            let (low, high, start) = (random.next(), random.next(), random.next());
+            words::Segment { block: low as u32, opens: (low >> 32) as u32, passes: high as u32, bytes: (high >> 32) as u32, start }
+        };
+        (0..records).map(|_| any(&mut self.random)).collect()
     }
 
     /// The state that an accepted call leaves is in range.
@@ -278,12 +307,9 @@ impl Pair {
     }
 }
 
-fn segment([block, opens, passes, bytes]: [u32; 4]) -> words::Segment {
-    words::Segment { block, opens, passes, bytes }
-}
-
-fn record(segment: &words::Segment) -> [u32; 4] {
-    [segment.block, segment.opens, segment.passes, segment.bytes]
+fn record(segment: &words::Segment) -> Record {
+    let words::Segment { block, opens, passes, bytes, start } = *segment;
+    Record { numbers: [block, opens, passes, bytes], start }
 }
 
 // ---- the crate
@@ -361,7 +387,7 @@ fn crate_reads(
     before: &[u32],
     src: &[u8],
     markers: Markers,
-    engine: (u32, &[u32], &[u32], &[u32], &[u64]),
+    engine: (u32, &[u32], &[u32], &[Record], &[u64]),
     text: &dyn Fn() -> String,
 ) -> bool {
     if !in_domain(before) {
@@ -376,7 +402,9 @@ fn crate_reads(
             same("numbers of the crate", &number, &0, text);
             same("answers of the crate", &answer, &&told.answer[..], text);
             same("reports of the crate", &reports, &&told.reports[..], text);
-            same("records of the crate", &&records[..told.records.len()], &&told.records[..], text);
+            let numbers = told.records.chunks_exact(4).map(|four| [four[0], four[1], four[2], four[3]]);
+            let theirs: Vec<Record> = numbers.zip(told.starts).map(|(numbers, start)| Record { numbers, start }).collect();
+            same("records of the crate", &&records[..theirs.len()], &&theirs[..], text);
             same("states of the crate", &state, &&precinct.words()[..], text);
         }
     }
@@ -395,6 +423,6 @@ fn crate_writes(_: &[u32], _: &Layer, _: &[u8], _: Markers, _: u32, _: (u32, &Ve
 
 #[cfg(not(openjp2))]
 #[allow(clippy::type_complexity)]
-fn crate_reads(_: &[u32], _: &[u8], _: Markers, _: (u32, &[u32], &[u32], &[u32], &[u64]), _: &dyn Fn() -> String) -> bool {
+fn crate_reads(_: &[u32], _: &[u8], _: Markers, _: (u32, &[u32], &[u32], &[Record], &[u64]), _: &dyn Fn() -> String) -> bool {
     false
 }

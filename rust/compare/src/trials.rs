@@ -16,7 +16,7 @@ fn one_block(planes: u32, block: u32, style: u8) -> Shape {
 
 impl Trials {
     pub fn new(seed: u64) -> Trials {
-        Trials { pair: Pair::default(), random: Random::new(seed) }
+        Trials { pair: Pair::new(seed), random: Random::new(seed) }
     }
 
     fn until(&mut self, calls: u64, trial: impl Fn(&mut Trials)) {
@@ -336,6 +336,19 @@ impl Trials {
                 }
             }
         }
+    }
+
+    /// Bodies longer than 2^32 bytes: several blocks of several segments, their headers whole, damaged and with too few records.
+    pub fn long_bodies(&mut self, calls: u64) {
+        self.until(calls, |t| {
+            let shape = Shape { style: 0x04, ..inputs::shape(&mut t.random, 3) };
+            let state = inputs::widest_state(t.start(false, &shape));
+            let (header, segments) = inputs::long_header(&mut t.random, shape.planes.len());
+            let other = t.random.once_in(4);
+            let records = t.near(segments, other);
+            t.read(&mut state.clone(), &header, Markers::default(), records);
+            t.read_copies(&state, &header, Markers::default());
+        });
     }
 
     // ---- large

@@ -1,15 +1,16 @@
 //! The short form of the comparison.
-use compare::pair::Call;
+use compare::pair::{Call, Counts};
 use compare::trials::Trials;
 
 /// Runs a trial, and requires that it gave these numbers.
-fn trial(numbers: &[usize], run: impl Fn(&mut Trials)) {
+fn trial(numbers: &[usize], run: impl Fn(&mut Trials)) -> Counts {
     let mut trials = Trials::new(20261115);
     run(&mut trials);
     trials.pair.counts.print();
     for number in numbers {
         assert!(trials.pair.counts.number(*number) > 0, "no call gave {number}");
     }
+    trials.pair.counts
 }
 
 /// Each trial asks the crate too wherever it can answer.
@@ -30,7 +31,8 @@ fn starts() {
 
 #[test]
 fn packets() {
-    trial(&[0, 9, 11, 12, 13], |t| t.sessions(200_000, 4));
+    let counts = trial(&[0, 9, 11, 12, 13], |t| t.sessions(200_000, 4));
+    assert!(counts.mixed_bodies > 0, "several segments behind another block");
 }
 
 #[test]
@@ -71,6 +73,13 @@ fn counts_and_lengths() {
 #[test]
 fn wide_fields() {
     trial(&[0, 9, 13], |t| t.wide_fields());
+}
+
+#[test]
+fn long_bodies() {
+    let counts = trial(&[0, 9, 12, 13], |t| t.long_bodies(20_000));
+    assert!(counts.mixed_bodies > 0, "several segments behind another block");
+    assert!(counts.long_bodies > 0, "starts from 2^32 on");
 }
 
 #[test]

@@ -262,14 +262,14 @@ mod tests {
 
     #[test]
     fn passes_of_segments() {
-        let segment = |block, passes, bytes| Segment { block, opens: true, passes, bytes };
+        let segment = |block, passes, bytes, start| Segment { block, opens: true, passes, bytes, start };
         let packet = Packet {
             present: true,
             taken: 1,
             sop: Mark::InOrder,
             eph: Mark::InOrder,
             blocks: vec![Block::Again { passes: 3 }, Block::Absent, Block::Again { passes: 2 }],
-            segments: vec![segment(0, 2, 7), segment(0, 1, 5), segment(2, 2, 9)],
+            segments: vec![segment(0, 2, 7, 0), segment(0, 1, 5, 7), segment(2, 2, 9, 12)],
         };
         assert_eq!(contribution(&packet), (vec![3, 0, 2], vec![0, 7, 5, 0, 9], vec![0, 1, 0, 0, 0]));
     }

@@ -5,10 +5,10 @@ use crate::message::Message;
 use crate::order::Precinct;
 use crate::walk::{self, Note, Seen, Visitor};
 use std::fmt::Write;
-use tonkelvi::{Block, Packet};
+use tonkelvi::{Block, Packet, Segment};
 
 pub const HEAD: &str =
-    "file,tile,layer,resolution,component,precinct,offset,header bytes,body bytes,blocks,passes,lengths,message,sentence\n";
+    "file,tile,layer,resolution,component,precinct,offset,header bytes,body bytes,blocks,passes,lengths,starts,message,sentence\n";
 
 #[derive(Clone, Copy, PartialEq, Eq, Debug)]
 pub enum Form {
@@ -93,22 +93,25 @@ pub fn visit(file: &[u8], visitor: &mut dyn Visitor) {
     }
 }
 
-/// Numbers of the blocks that contribute, the passes of each, and the lengths of each one's segments with + between.
-fn lists(packet: &Packet) -> [Vec<String>; 3] {
-    let [mut blocks, mut passes, mut lengths] = [vec![], vec![], vec![]];
+/// Numbers of the blocks that contribute, the passes of each, and the lengths and starts of each one's segments with + between.
+fn lists(packet: &Packet) -> [Vec<String>; 4] {
+    let [mut blocks, mut passes, mut lengths, mut starts] = [vec![], vec![], vec![], vec![]];
     let mut segments = packet.segments.iter().peekable();
     for (number, block) in packet.blocks.iter().enumerate() {
         if let Block::First { passes: count, .. } | Block::Again { passes: count } = block {
-            let mut own = Vec::new();
-            while let Some(segment) = segments.next_if(|s| s.block == number) {
-                own.push(segment.bytes.to_string());
-            }
+            let own: Vec<&Segment> = std::iter::from_fn(|| segments.next_if(|s| s.block == number)).collect();
             blocks.push(number.to_string());
             passes.push(count.to_string());
-            lengths.push(own.join("+"));
+            lengths.push(joined(&own, |s| s.bytes.into()));
+            starts.push(joined(&own, |s| s.start));
         }
     }
-    [blocks, passes, lengths]
+    [blocks, passes, lengths, starts]
+}
+
+/// A number of each segment, with + between.
+fn joined(segments: &[&Segment], number: fn(&Segment) -> u64) -> String {
+    segments.iter().map(|s| number(s).to_string()).collect::<Vec<_>>().join("+")
 }
 
 /// A CSV field, in quotes where it must be.
@@ -139,17 +142,23 @@ pub fn json_string(text: &str) -> String {
 
 const NAMES: [&str; 8] = ["tile", "layer", "resolution", "component", "precinct", "offset", "header_bytes", "body_bytes"];
 
-fn json_row(out: &mut String, name: &str, fields: &[String; 8], lists: &[Vec<String>; 3], message: &str, sentence: &str) {
+fn json_row(out: &mut String, name: &str, fields: &[String; 8], lists: &[Vec<String>; 4], message: &str, sentence: &str) {
     let _ = write!(out, "{{\"file\":{}", json_string(name));
     for (key, value) in NAMES.iter().zip(fields).filter(|(_, value)| !value.is_empty()) {
         let _ = write!(out, ",\"{key}\":{value}");
     }
     if !fields[6].is_empty() {
-        let lengths: Vec<String> = lists[2].iter().map(|own| format!("[{}]", own.replace('+', ","))).collect();
-        let _ = write!(out, ",\"blocks\":[{}],\"passes\":[{}],\"lengths\":[{}]", lists[0].join(","), lists[1].join(","), lengths.join(","));
+        let [blocks, passes, lengths, starts] = lists;
+        let _ = write!(out, ",\"blocks\":[{}],\"passes\":[{}]", blocks.join(","), passes.join(","));
+        let _ = write!(out, ",\"lengths\":[{}],\"starts\":[{}]", nested(lengths), nested(starts));
     }
     if !message.is_empty() {
         let _ = write!(out, ",\"message\":{message},\"sentence\":{}", json_string(sentence));
     }
     out.push_str("}\n");
+}
+
+/// A JSON list for each block of its segments' numbers.
+fn nested(joined: &[String]) -> String {
+    joined.iter().map(|own| format!("[{}]", own.replace('+', ","))).collect::<Vec<_>>().join(",")
 }

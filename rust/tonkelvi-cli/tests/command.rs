@@ -29,10 +29,10 @@ fn a_whole_file() {
     let output = tonkelvi(&["sheet", "openjpeg_poc.j2k"], "");
     let rows = text(&output);
     assert_eq!(output.status.code(), Some(0));
-    let columns = "file,tile,layer,resolution,component,precinct,offset,header bytes,body bytes,blocks,passes,lengths,message,";
+    let columns = "file,tile,layer,resolution,component,precinct,offset,header bytes,body bytes,blocks,passes,lengths,starts,message,";
     assert!(rows.starts_with(columns));
     assert_eq!(rows.lines().count(), 37);
-    assert!(rows.lines().all(|row| row.split(',').count() == 14));
+    assert!(rows.lines().all(|row| row.split(',').count() == 15));
     assert!(output.stderr.is_empty());
 }
 
@@ -41,7 +41,7 @@ fn a_file_that_is_not_there_and_the_next_one() {
     let output = tonkelvi(&["sheet", "--lang", "de", "none.jp2", "openjpeg_poc.j2k"], "");
     let rows = text(&output);
     assert_eq!(output.status.code(), Some(1));
-    assert_eq!(rows.lines().nth(1), Some("none.jp2,,,,,,0,,,,,,110,Die Datei kann nicht gelesen werden."));
+    assert_eq!(rows.lines().nth(1), Some("none.jp2,,,,,,0,,,,,,,110,Die Datei kann nicht gelesen werden."));
     assert_eq!(rows.lines().count(), 38);
 }
 
@@ -62,6 +62,15 @@ fn json_lines() {
     assert_eq!(rows.lines().count(), 37);
     assert!(rows.lines().all(|row| row.starts_with("{\"file\":\"") && row.ends_with('}')));
     assert!(rows.lines().next().unwrap().contains("\"message\":2,\"sentence\":\"The style has"));
+}
+
+#[test]
+fn starts_of_segments() {
+    let rows = text(&tonkelvi(&["sheet", "openjpeg_style25.j2k"], ""));
+    assert_eq!(rows.lines().nth(2), Some("openjpeg_style25.j2k,0,0,0,1,0,147,4,5,0,15,3+1+0+1,0+3+4+4,,"));
+    assert!(rows.contains("\nopenjpeg_style25.j2k,0,1,2,0,0,1136,8,20,0 1 2,11 8 10,5+2 5+2 4+2,0+5 7+12 14+18,,\n"));
+    let rows = text(&tonkelvi(&["sheet", "--json", "openjpeg_style25.j2k"], ""));
+    assert!(rows.lines().nth(1).unwrap().ends_with("\"passes\":[15],\"lengths\":[[3,1,0,1]],\"starts\":[[0,3,4,4]]}"));
 }
 
 #[test]

@@ -1,5 +1,6 @@
 //! Whole, cut and damaged drawings of three encoders; tools/make_drawings.sh makes them.
 use std::path::{Path, PathBuf};
+use tonkelvi::Segment;
 use tonkelvi_cli::boxes;
 use tonkelvi_cli::catalogue::Catalogue;
 use tonkelvi_cli::check::Check;
@@ -24,6 +25,7 @@ fn whole() -> Vec<(PathBuf, Vec<u8>)> {
 struct Found {
     packets: Vec<std::ops::Range<usize>>,
     headers: Vec<usize>,
+    segments: Vec<Vec<Segment>>,
     notes: Vec<Note>,
     messages: Vec<Message>,
 }
@@ -32,6 +34,7 @@ impl Visitor for Found {
     fn packet(&mut self, seen: &Seen) {
         self.packets.push(seen.bytes.clone());
         self.headers.push(seen.packet.taken);
+        self.segments.push(seen.packet.segments.clone());
         self.messages.extend(seen.message);
     }
 
@@ -88,6 +91,21 @@ fn every_byte_is_accounted_for() {
             assert_eq!(at, part.end, "{path:?}");
         }
         assert_eq!(packets.next(), None, "{path:?}");
+    }
+}
+
+#[test]
+fn segments_fill_each_body_one_after_another() {
+    for (path, file) in whole() {
+        let found = found(&file);
+        for ((packet, header), segments) in found.packets.iter().zip(&found.headers).zip(&found.segments) {
+            let mut at = 0;
+            for segment in segments {
+                assert_eq!(segment.start, at, "{path:?}");
+                at += u64::from(segment.bytes);
+            }
+            assert_eq!(at, (packet.len() - header) as u64, "{path:?}");
+        }
     }
 }
 

@@ -4,16 +4,18 @@
 //! ```
 //! use tonkelvi::{Band, Contribution, Markers, Reader, Writer};
 //!
-//! let bands = [Band { across: 1, down: 1, planes: 5 }];
-//! let mut writer = Writer::new(&bands, 0, &[5])?;
-//! let layer = Contribution { counts: &[1], lengths: &[5], marks: &[0] };
-//! let packet = writer.write(layer, b"hello", Markers::NONE, 0)?;
-//! assert_eq!(packet, b"\xe5hello");
+//! let bands = [Band { across: 2, down: 1, planes: 5 }];
+//! let mut writer = Writer::new(&bands, 0, &[5, 4])?;
+//! let layer = Contribution { counts: &[1, 1], lengths: &[5, 6], marks: &[0, 0] };
+//! let packet = writer.write(layer, b"hello world", Markers::NONE, 0)?;
+//! assert_eq!(packet, b"\xf9\x69\x80hello world");
 //!
 //! let mut reader = Reader::new(&bands, 0)?;
 //! let read = reader.read(&packet, Markers::NONE)?;
-//! assert_eq!(read.taken, 1);
-//! assert_eq!(read.segments[0].bytes, 5);
+//! assert_eq!(read.taken, 3);
+//! let second = read.segments[1];
+//! assert_eq!((second.block, second.start, second.bytes), (1, 5, 6));
+//! assert_eq!(packet[read.taken..][second.start as usize..], *b" world");
 //! # Ok::<(), tonkelvi::Refusal>(())
 //! ```
 //!

@@ -29,6 +29,8 @@ pub struct Segment {
     pub opens: bool,
     pub passes: u32,
     pub bytes: u32,
+    /// Bytes of the packet's body before its own: the sum of `bytes` of the segments before. Markers and header are not counted.
+    pub start: u64,
 }
 
 /// What a packet's header says.
@@ -191,5 +193,6 @@ fn block(row: &[u32]) -> Block {
 }
 
 fn segment(record: &words::Segment) -> Segment {
-    Segment { block: record.block as usize, opens: record.opens != 0, passes: record.passes, bytes: record.bytes }
+    let words::Segment { block, opens, passes, bytes, start } = *record;
+    Segment { block: block as usize, opens: opens != 0, passes, bytes, start }
 }

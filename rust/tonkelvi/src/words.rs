@@ -10,6 +10,8 @@ pub struct Segment {
     pub opens: u32,
     pub passes: u32,
     pub bytes: u32,
+    /// Bytes of the packet's body before its own.
+    pub start: u64,
 }
 
 mod exported {

@@ -1,10 +1,17 @@
-/* Packet A with both markers, by the calls of include/tonkelvi.h alone, as C and as C++; ends with 0 where every answer is right. With an
- * argument it writes the version and the sentences of all refusals, a line each, instead. */
+/* Packets A, with both markers, and K by the calls of include/tonkelvi.h alone, as C and as C++; ends with 0 where every answer is right.
+ * With an argument it writes the version and the sentences of all refusals, a line each, instead. */
 #include "tonkelvi.h"
 
+#include <assert.h>
+#include <stdalign.h>
 #include <stdio.h>
 #include <stdlib.h>
 #include <string.h>
+
+static_assert(sizeof(struct tonkelvi_segment) == 24 && alignof(struct tonkelvi_segment) == 8, "a segment's size and alignment");
+static_assert(offsetof(struct tonkelvi_segment, block) == 0 && offsetof(struct tonkelvi_segment, opens) == 4
+              && offsetof(struct tonkelvi_segment, passes) == 8 && offsetof(struct tonkelvi_segment, bytes) == 12
+              && offsetof(struct tonkelvi_segment, start) == 16, "where a segment's fields stand");
 
 static int expect(int right, int line) {
     return right ? 0 : line;
@@ -18,14 +25,36 @@ static int texts(void) {
     return 0;
 }
 
+/* Packet K, two blocks of 5 bytes each; then an absent packet; then K again with one struct too few. */
+static int starts(void) {
+    const uint32_t bands[9] = {2, 1, 5, 0, 0, 0, 0, 0, 0};
+    const uint8_t header[3] = {0xf9, 0x69, 0x40};
+    const struct tonkelvi_segment wanted[3] = {{0, 1, 1, 5, 0}, {1, 1, 1, 5, 5}, {7, 7, 7, 7, 7}}, wiped = {0, 0, 0, 0, 0};
+    struct tonkelvi_segment records[3] = {{7, 7, 7, 7, 7}, {7, 7, 7, 7, 7}, {7, 7, 7, 7, 7}};
+    uint32_t state[39], scratch[39], reports[8], work[12];
+    uint64_t answer[5];
+
+    EXPECT(tonkelvi_start_reader(1, bands, 9, 0, NULL, 0, state, 39) == 0);
+    EXPECT(tonkelvi_read(state, 39, scratch, 39, header, 3, false, false, reports, 8, work, 12, records, 3, answer, 5) == 0);
+    EXPECT(answer[2] == 2 && memcmp(records, wanted, sizeof wanted) == 0);
+    EXPECT(tonkelvi_read(state, 39, scratch, 39, NULL, 0, false, false, reports, 8, work, 12, records, 3, answer, 5) == 0);
+    EXPECT(answer[2] == 0 && memcmp(records, wanted, sizeof wanted) == 0);
+    EXPECT(tonkelvi_start_reader(1, bands, 9, 0, NULL, 0, state, 39) == 0);
+    EXPECT(tonkelvi_read(state, 39, scratch, 39, header, 3, false, false, reports, 8, work, 4, records + 1, 1, answer, 5)
+           == TONKELVI_RECORDS);
+    EXPECT(memcmp(&records[0], &wanted[0], sizeof wiped) == 0 && memcmp(&records[1], &wiped, sizeof wiped) == 0);
+    EXPECT(memcmp(&records[2], &wanted[2], sizeof wiped) == 0);
+    return 0;
+}
+
 int main(int argc, char **argv) {
     const uint32_t bands[10] = {1, 1, 5, 0, 0, 0, 0, 0, 0, 0};
     const uint32_t planes[1] = {5}, counts[1] = {1}, lengths[1] = {5};
     const uint8_t marks[1] = {0}, body[5] = {1, 2, 3, 4, 5};
     const uint8_t packet[14] = {0xff, 0x91, 0, 4, 0, 1, 0xe5, 0xff, 0x92, 1, 2, 3, 4, 5};
     const uint32_t report[4] = {1, 0, 5, 1};
-    const struct tonkelvi_segment record = {0, 1, 1, 5}, unused = {7, 7, 7, 7};
-    struct tonkelvi_segment records[2] = {{7, 7, 7, 7}, {7, 7, 7, 7}};
+    const struct tonkelvi_segment record = {0, 1, 1, 5, 0}, unused = {7, 7, 7, 7, 7};
+    struct tonkelvi_segment records[2] = {{7, 7, 7, 7, 7}, {7, 7, 7, 7, 7}};
     uint32_t reports[4], work[9];
     uint8_t output[14];
     uint64_t answer[5];
@@ -33,8 +62,6 @@ int main(int argc, char **argv) {
     (void)argv;
     if (argc > 1) return texts();
     EXPECT(tonkelvi_text(0)[0] == 0 && tonkelvi_text(14)[0] == 0);
-    EXPECT(sizeof record == 16 && offsetof(struct tonkelvi_segment, block) == 0 && offsetof(struct tonkelvi_segment, opens) == 4);
-    EXPECT(offsetof(struct tonkelvi_segment, passes) == 8 && offsetof(struct tonkelvi_segment, bytes) == 12);
 
     size_t n = tonkelvi_state_length(1, bands, 9);
     EXPECT(n == 13 + 6 + 4);
@@ -70,5 +97,5 @@ int main(int argc, char **argv) {
     EXPECT(tonkelvi_describe(state, n, answer, 3) == 0 && answer[0] == 2 && answer[1] == 2 && answer[2] == 1);
     free(state);
     free(scratch);
-    return 0;
+    return starts();
 }

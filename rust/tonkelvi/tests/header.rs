@@ -75,7 +75,7 @@ fn names() {
 fn layout() {
     use std::mem::{align_of, offset_of, size_of};
     use tonkelvi::words::Segment;
-    assert_eq!((size_of::<Segment>(), align_of::<Segment>()), (16, 4));
-    let offsets = [offset_of!(Segment, block), offset_of!(Segment, opens), offset_of!(Segment, passes), offset_of!(Segment, bytes)];
-    assert_eq!(offsets, [0, 4, 8, 12]);
+    assert_eq!((size_of::<Segment>(), align_of::<Segment>()), (24, 8));
+    let words = [offset_of!(Segment, block), offset_of!(Segment, opens), offset_of!(Segment, passes), offset_of!(Segment, bytes)];
+    assert_eq!((words, offset_of!(Segment, start)), ([0, 4, 8, 12], 16));
 }

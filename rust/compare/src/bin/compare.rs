@@ -23,6 +23,7 @@ fn main() {
     part("largest", &|t| t.largest(share(1) as u32 / 20_000 + 2));
     part("counts and lengths", &|t| t.counts_and_lengths(1));
     part("wide fields", &|t| t.wide_fields());
+    part("long bodies", &|t| t.long_bodies(share(2)));
     part("short inputs", &|t| t.short_inputs(if calls < 4_000_000 { 1 } else { 3 }, 2));
     part("starts", &|t| t.starts(share(8)));
     part("lists", &|t| t.lists(share(8)));

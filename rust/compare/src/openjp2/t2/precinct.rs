@@ -39,6 +39,8 @@ pub struct Told {
     pub answer: [u64; 5],
     pub reports: Vec<u32>,
     pub records: Vec<u32>,
+    /// Where each segment's bytes begin in the body.
+    pub starts: Vec<u64>,
 }
 
 /// Why the crate could not read a packet.
@@ -47,6 +49,9 @@ pub enum Failed {
     Width,
     HeaderEnd,
 }
+
+/// Where a body is taken to stand. The crate works out places in it, and looks at none of its bytes.
+static BODY: [u8; 1 << 28] = [0; 1 << 28];
 
 fn zeroed<T>() -> Box<T> {
     // SAFETY: the crate's structs of numbers and pointers may be all zeros.
@@ -173,12 +178,22 @@ fn segments(block: &opj_tcd_cblk_dec_t) -> &[opj_tcd_seg_t] {
     }
 }
 
+/// The parts of bodies that the crate has found for a block.
+fn chunks(block: &opj_tcd_cblk_dec_t) -> &[opj_tcd_seg_data_chunk_t] {
+    match block.numchunks {
+        0 => &[],
+        // SAFETY: the crate keeps numchunks of them there.
+        n => unsafe { std::slice::from_raw_parts(block.chunks, n as usize) },
+    }
+}
+
 impl Drop for Band {
     fn drop(&mut self) {
         opj_tgt_destroy(self.inclusion);
         opj_tgt_destroy(self.zero_planes);
-        for block in self.dec.iter().filter(|b| !b.segs.is_null()) {
+        for block in &self.dec {
             opj_free(block.segs as *mut core::ffi::c_void);
+            opj_free(block.chunks as *mut core::ffi::c_void);
         }
     }
 }
@@ -372,8 +387,30 @@ impl Precinct {
         self.layer += 1;
     }
 
+    /// Adds the new passes to the segments, as the crate does when it reads a body, and goes on to the next layer. Answers where the crate
+    /// finds each segment's bytes.
+    fn place(&mut self) -> Vec<u64> {
+        self.bands.iter_mut().flat_map(|band| &mut band.dec).for_each(|block| block.numchunks = 0);
+        let (body, mut taken) = (BODY.as_ptr() as *mut u8, 0);
+        let mut iterator = self.iterator();
+        let done = opj_t2_read_packet_data(
+            &mut *self.t2,
+            &mut *self.tile,
+            &mut iterator,
+            body,
+            &mut taken,
+            BODY.len() as u32,
+            core::ptr::null_mut(),
+            &mut self.manager,
+        );
+        assert_ne!(done, 0, "a body that has room");
+        self.layer += 1;
+        let chunks = self.bands.iter().flat_map(|band| &band.dec).flat_map(chunks);
+        chunks.map(|chunk| chunk.data as u64 - body as u64).collect()
+    }
+
     /// Reads a header and tells what it says. The passes are settled by the crate, or here where the lengths add up to 2^32 or more,
-    /// which the crate's sum does not hold.
+    /// which the crate's sum does not hold. The places of a body that is longer than `BODY` are the sums of the crate's lengths.
     pub fn read(&mut self, sop: bool, eph: bool, src: &[u8]) -> Result<Told, Failed> {
         let first: Vec<bool> = self.bands.iter().flat_map(|band| &band.dec).map(|block| block.numsegs == 0).collect();
         let (present, taken) = self.read_header(sop, eph, src)?;
@@ -381,6 +418,7 @@ impl Precinct {
             answer: [u64::from(present), taken as u64, 0, self.manager.sop, self.manager.eph],
             reports: Vec::new(),
             records: Vec::new(),
+            starts: Vec::new(),
         };
         for (number, block) in self.bands.iter().flat_map(|band| &band.dec).enumerate() {
             if !present || block.numnewpasses == 0 {
@@ -396,8 +434,15 @@ impl Precinct {
                 told.answer[2] += 1;
             });
         }
-        let bytes: u64 = told.records.chunks_exact(4).map(|record| u64::from(record[3])).sum();
-        if bytes <= u64::from(u32::MAX) {
+        let mut bytes: u64 = 0;
+        for record in told.records.chunks_exact(4) {
+            told.starts.push(bytes);
+            bytes += u64::from(record[3]);
+        }
+        if present && bytes <= BODY.len() as u64 {
+            told.starts = self.place();
+            assert_eq!(told.starts.len() as u64, told.answer[2], "a place for each segment");
+        } else if bytes <= u64::from(u32::MAX) {
             self.settle(present);
         } else {
             self.bands.iter_mut().flat_map(|band| &mut band.dec).for_each(settle_block);
