@@ -1,6 +1,7 @@
 //! One precinct in the crate's structs, made from the words of a state, coded and read by the crate's own functions, and turned back
 //! into words.
 use super::*;
+use std::sync::OnceLock;
 
 struct Band {
     across: u32,
@@ -50,8 +51,13 @@ pub enum Failed {
     HeaderEnd,
 }
 
+const BODY_MOST: usize = 1 << 28;
+
 /// Where a body is taken to stand. The crate works out places in it, and looks at none of its bytes.
-static BODY: [u8; 1 << 28] = [0; 1 << 28];
+fn body() -> &'static [u8] {
+    static BODY: OnceLock<Vec<u8>> = OnceLock::new();
+    BODY.get_or_init(|| vec![0; BODY_MOST])
+}
 
 fn zeroed<T>() -> Box<T> {
     // SAFETY: the crate's structs of numbers and pointers may be all zeros.
@@ -391,7 +397,7 @@ impl Precinct {
     /// finds each segment's bytes.
     fn place(&mut self) -> Vec<u64> {
         self.bands.iter_mut().flat_map(|band| &mut band.dec).for_each(|block| block.numchunks = 0);
-        let (body, mut taken) = (BODY.as_ptr() as *mut u8, 0);
+        let (body, mut taken) = (body().as_ptr() as *mut u8, 0);
         let mut iterator = self.iterator();
         let done = opj_t2_read_packet_data(
             &mut *self.t2,
@@ -399,7 +405,7 @@ impl Precinct {
             &mut iterator,
             body,
             &mut taken,
-            BODY.len() as u32,
+            BODY_MOST as u32,
             core::ptr::null_mut(),
             &mut self.manager,
         );
@@ -410,7 +416,7 @@ impl Precinct {
     }
 
     /// Reads a header and tells what it says. The passes are settled by the crate, or here where the lengths add up to 2^32 or more,
-    /// which the crate's sum does not hold. The places of a body that is longer than `BODY` are the sums of the crate's lengths.
+    /// which the crate's sum does not hold. The places of a body longer than `BODY_MOST` are the sums of the crate's lengths.
     pub fn read(&mut self, sop: bool, eph: bool, src: &[u8]) -> Result<Told, Failed> {
         let first: Vec<bool> = self.bands.iter().flat_map(|band| &band.dec).map(|block| block.numsegs == 0).collect();
         let (present, taken) = self.read_header(sop, eph, src)?;
@@ -439,7 +445,7 @@ impl Precinct {
             told.starts.push(bytes);
             bytes += u64::from(record[3]);
         }
-        if present && bytes <= BODY.len() as u64 {
+        if present && bytes <= BODY_MOST as u64 {
             told.starts = self.place();
             assert_eq!(told.starts.len() as u64, told.answer[2], "a place for each segment");
         } else if bytes <= u64::from(u32::MAX) {
