@@ -28,8 +28,8 @@ pub fn no_segment() -> SegmentRecord
     }
 }
 
-// Record i of the numbers, and zeros past the end; its bytes begin where those of the last one end. The sum wraps in a list that no read
-// leaves.
+// Record i of the numbers, and zeros past the end; its bytes begin where those of the last one end. The sum is modulo 2^64, which the
+// lengths of a header never reach.
 pub fn segment_after(words: &[u32], i: usize, last: SegmentRecord) -> SegmentRecord
     ensures { λ r. ⌜ r ≡ segmentAfter (now (words .entry)) i last ⌝ }
 {
