@@ -7,11 +7,7 @@ use lib.ListN.{length, getD, set, length-set}
 use Rattle.t800.specs.declared.SegmentRecord.{SegmentRecord}
 use Rattle.t800.specs.Base.{overwrite}
 use Rattle.t800.specs.Reports.{noRecord}
-use Rattle.t2_records.specs.Segments.{segmentAfter, lastOf, stored}
-
--- record i of the numbers
-abbrev pub recordAt : List ℕ → ℕ → SegmentRecord
-recordAt ws i = segmentAfter ws i (lastOf ws i)
+use Rattle.t2_records.specs.Segments.{lastOf, recordAt, stored}
 
 pub last-none : (ws : List ℕ) → lastOf ws 0 ≡ noRecord
 unfolding lastOf

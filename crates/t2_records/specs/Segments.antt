@@ -7,7 +7,7 @@ use lib.Dec.{ltb}
 use Rattle.t800.specs.declared.SegmentRecord.{SegmentRecord}
 use Rattle.t800.specs.Reports.{recordWidth, noRecord}
 
--- record i of the numbers, after this one; past the end the numbers are 0
+-- record i of the numbers, after this last one; past the end the numbers are 0
 unfoldable pub segmentAfter : List ℕ → ℕ → SegmentRecord → SegmentRecord
 segmentAfter ws i last =
     let at = i * recordWidth in
@@ -26,10 +26,14 @@ unfoldable pub lastOf : List ℕ → ℕ → SegmentRecord
 lastOf ws zero = noRecord
 lastOf ws (suc i) = segmentAfter ws i (lastOf ws i)
 
+-- record i of the numbers, after the ones before it
+abbrev pub recordAt : List ℕ → ℕ → SegmentRecord
+recordAt ws i = segmentAfter ws i (lastOf ws i)
+
 -- records f 0, f 1, .. stored at the first n places, in order
 unfoldable pub stored : (ℕ → SegmentRecord) → ℕ → List SegmentRecord → List SegmentRecord
 stored f zero rs = rs
 stored f (suc n) rs = set (stored f n rs) n (f n)
 
 abbrev pub filled : List ℕ → ℕ → List SegmentRecord → List SegmentRecord
-filled ws = stored (λ i. segmentAfter ws i (lastOf ws i))
+filled ws = stored (recordAt ws)

@@ -190,21 +190,6 @@ structsHold c o records =
     let kept = cond (eqb why 0) (fields (overwrite rec records)) (fields rec) in
     same (fields (o .records)) (cond (leb 9 why) (wiped (fields rec)) kept)
 
-unfoldable pub readWords : Reading → List ℕ → ReadResult asWords
-readWords c r =
-    read asWords r (scratchOf (c .scratch)) (c .markers) (c .input) (reportsOf (c .reports)) (recordsLent (c .records))
-
-unfoldable pub readStructs : Reading → List ℕ → ReadResult asRecords
-readStructs c r =
-    read asRecords r (scratchOf (c .scratch)) (c .markers) (c .input) (reportsOf (c .reports)) (structsLent (c .records))
-
-unfoldable pub readHolds : Reading → List ℕ → List ℕ → List ℕ → List ℕ → List ℕ → Bool
-readHolds c r answer reports records begins =
-    let o = readWords c r in
-    let p = readStructs c r in
-    listsHold c r o answer reports && wordsHold c o records && listsHold c r p answer reports && structsHold c p
-    (recordsWith begins records)
-
 -- the book's next entry, where the row wrote a packet for it
 unfoldable pub asOwed : List Entry → List ℕ → List SegmentRecord → Bool
 asOwed [] reports records = true
@@ -232,25 +217,29 @@ stepsHold style (heads c why bytes ∷ rest) book es w r =
     let otherwise = stepsHold style rest book es w r in
     measureHolds c m why bytes (m .scratch) && cond (eqb why 0) next otherwise
 stepsHold style (reads-starts c answer reports records begins ∷ rest) book es w r =
-    let o = readWords c r in
-    let next = asOwed es reports (recordsWith begins records) && stepsHold style rest book (drop 1 es) w (o .state) in
+    let o = read asWords r (scratchOf (c .scratch)) (c .markers) (c .input) (reportsOf (c .reports)) (recordsLent (c .records)) in
+    let p = read asRecords r (scratchOf (c .scratch)) (c .markers) (c .input) (reportsOf (c .reports)) (structsLent (c .records)) in
+    let told = recordsWith begins records in
+    let inWords = listsHold c r o answer reports && wordsHold c o records in
+    let inStructs = listsHold c r p answer reports && structsHold c p told in
+    let next = asOwed es reports told && stepsHold style rest book (drop 1 es) w (o .state) in
     let otherwise = stepsHold style rest book es w (o .state) in
-    readHolds c r answer reports records begins && cond (eqb (o .answer .refusal) 0) next otherwise
+    inWords && inStructs && cond (eqb (o .answer .refusal) 0) next otherwise
 
 -- `unfolding rowHolds` computes a row: it opens every definition of the base
 unfoldable pub rowHolds : Row → Bool
-unfolding same sumsFrom recordsWith fields startHolds measureHolds writeHolds listsHold wordsHold structsHold readWords readStructs
-    readHolds asOwed stepsHold every any sum halvings floorLog2 overwrite bitsOf bitsAfter lastBytes packFrom pack byteIn heldBit getBit
-    readBitsOnto readBits inFF endsInFF bytesTaken levelsFrom levels nodesIn nodes pathFrom pathToRoot setValue lowAfter nodeBits
-    knownAfter codePath readNode readPath passBits readPasses termAll bypass firstLimit nextLimit isLimit segmentsFrom segmentsOf width
-    bitLength increment commaBits lengthFields readOnes readComma writer reader blocksIn bandNodes bandLength blocksFrom blocksAt endOf
-    blocks stateLength bandAt bands badShape badStyle bandTooDeep blockTooDeep nodeInRange blockInRange bandInRange bandsInRange
-    unusedBandsZero validState freshNodes freshBlocks freshBands bandWords freshState setZeroPlanes startRefusal start reportWords
-    recordWords bodyBytes isNew lengthBitsBefore setNewBlocks codeInclusion codeZeroPlanes codePasses codeBlock codeBlocks codeHeader
-    segmentTooLong fieldTooWide opensSegment currentLimit currentPasses passesTaken readSegment readSegments readZeroPlanesFrom
-    readZeroPlanes firstReport againReport readIncluded readNewBlock readOldBlock readBlock readBlocks readHeader sopBytes ephBytes
-    withMarkers readMarker readSop readEph wrongLists measureRefusal front measure packet writeRefusal write readRefusal readAbsent
-    readPresent read opensAt newEntries newBook reportOf recordsFrom recordsOf entryFrom entry addCounts
+unfolding same sumsFrom recordsWith fields startHolds measureHolds writeHolds listsHold wordsHold structsHold asOwed stepsHold every any
+    sum halvings floorLog2 overwrite bitsOf bitsAfter lastBytes packFrom pack byteIn heldBit getBit readBitsOnto readBits inFF endsInFF
+    bytesTaken levelsFrom levels nodesIn nodes pathFrom pathToRoot setValue lowAfter nodeBits knownAfter codePath readNode readPath
+    passBits readPasses termAll bypass firstLimit nextLimit isLimit segmentsFrom segmentsOf width bitLength increment commaBits
+    lengthFields readOnes readComma writer reader blocksIn bandNodes bandLength blocksFrom blocksAt endOf blocks stateLength bandAt
+    bands badShape badStyle bandTooDeep blockTooDeep nodeInRange blockInRange bandInRange bandsInRange unusedBandsZero validState
+    freshNodes freshBlocks freshBands bandWords freshState setZeroPlanes startRefusal start reportWords recordWords bodyBytes isNew
+    lengthBitsBefore setNewBlocks codeInclusion codeZeroPlanes codePasses codeBlock codeBlocks codeHeader segmentTooLong fieldTooWide
+    opensSegment currentLimit currentPasses passesTaken readSegment readSegments readZeroPlanesFrom readZeroPlanes firstReport
+    againReport readIncluded readNewBlock readOldBlock readBlock readBlocks readHeader sopBytes ephBytes withMarkers readMarker readSop
+    readEph wrongLists measureRefusal front measure packet writeRefusal write readRefusal readAbsent readPresent read opensAt newEntries
+    newBook reportOf recordsFrom recordsOf entryFrom entry addCounts
 rowHolds row =
     let bs = row .given in
     let lent = scratchOf (stateLength bs) in

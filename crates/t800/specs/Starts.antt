@@ -17,6 +17,10 @@ StartsAreSums records =
     → records ≡ before ++ r ∷ after
     → r .start ≡ bodyBytes before
 
+-- and all lengths together are fewer than 2^53 bytes
+abbrev pub StartsFit : List SegmentRecord → Type 0
+StartsFit records = StartsAreSums records × (bodyBytes records < 2 ^ 53)
+
 -- the records that a read told
 abbrev pub recordsTold : ReadResult asRecords → List SegmentRecord
 recordsTold r = take (r .answer .segments) (r .records)
@@ -27,7 +31,7 @@ StartsOfReads =
     (state scratch : Words) (m : Markers) (src : Bytes) (reports : Words) (records : List SegmentRecord)
     → let r = read asRecords state scratch m src reports records in
     r .answer .refusal ≡ 0
-    → StartsAreSums (recordsTold r) × (bodyBytes (recordsTold r) < 2 ^ 53)
+    → StartsFit (recordsTold r)
 
 unfoldable pub StartsOfBook : Type 0
 StartsOfBook = (style : ℕ) (book : List BlockEntry) (counts lengths : Words) → StartsAreSums (entry style book counts lengths .records)

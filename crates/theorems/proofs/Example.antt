@@ -13,10 +13,11 @@ use Rattle.t800.specs.State.{writer, reader}
 use Rattle.t800.specs.WriteHeader.{contribution}
 use Rattle.t800.specs.Book.{terminatedAt, terminatedAsStyle}
 use Rattle.t800.specs.Exports.{bandIn, startCall, writeCall, readCall}
+use Rattle.t800.specs.Starts.{StartsFit}
 use Rattle.t800.specs.Interface.{WriteCall}
 use Rattle.t800.specs.RoundTrip.{Owed, GivesEntry, written, packetMade, Follows, owed, allTerminatedAsStyle, bookOf, ReadsAsOwed, RoundTrip}
 use Rattle.t800.proofs.Table.{rowHolds}
-use Rattle.theorems.specs.Exports.{StartMade, WriteMade, ReadMade, readArgs, readLeft, StartsTold, StartsOfExports}
+use Rattle.theorems.specs.Exports.{StartMade, WriteMade, ReadMade, readArgs, readLeft, readTold, StartsOfExports}
 use Rattle.theorems.proofs.Exports.{exports, round-trip-of-exports, starts-of-exports}
 
 -- one band of one block and 5 planes, style 0
@@ -108,6 +109,6 @@ applies =
     (record { same-markers = refl; begins = refl; scratch-length = refl; reports-length = refl; records-enough = omega arith }) .0
 
 -- and the read is one whose starts are sums
-starts-apply : StartsTold (was-read .left)
+starts-apply : StartsFit (readTold (was-read .left))
 unfolding StartsOfExports bandIn startCall writeCall readCall rowHolds
 starts-apply = starts-of-exports was-read refl

@@ -16,14 +16,14 @@ use Rattle.t800.specs.Interface.{startOf, startUntouched, measureOf, measureUnt
 use Rattle.t800.specs.Interface.{Interface}
 use Rattle.t800.specs.Numbers.{Numbers}
 use Rattle.t800.specs.RoundTrip.{RoundTrip, WriterInRange}
-use Rattle.t800.specs.Starts.{StartsOfReads}
+use Rattle.t800.specs.Starts.{StartsFit, StartsOfReads}
 use Rattle.t800_laws.proofs.Laws.Tests.{if-true, if-false, either, and-left, and-right}
 use Rattle.t800_laws.proofs.Laws.Checks.{on-bool}
 use Rattle.round_trip.proofs.Numbers.{numbers}
 use Rattle.round_trip.proofs.Trip.Interfaces.{round-trip, writer-in-range}
 use Rattle.round_trip.proofs.Starts.{starts-of-reads}
 use Rattle.theorems.specs.Exports.{StartMade, startAsked, startArgs, MeasureMade, measureAsked, measureLeft, WriteMade}
-use Rattle.theorems.specs.Exports.{writeAsked, writeLeft, ReadMade, readAsked, readArgs, readLeft, readOtherwise, StartsTold}
+use Rattle.theorems.specs.Exports.{writeAsked, writeLeft, ReadMade, readAsked, readArgs, readLeft, readOtherwise, readTold}
 use Rattle.theorems.specs.Exports.{StartsOfExports}
 
 -- ---- each kind of call
@@ -123,10 +123,10 @@ module _ (m : ReadMade) where
       either (λ (n : ℕ). (1 ≤ n) × (n ≤ 13)) five _ _ (work-numbered (m .state) (m .scratch)) (omega arith)
 
   -- a call that the lists' lengths refuse has a number, and any other is t800's read
-  told-start : m .left .refusal ≡ 0 → StartsTold (m .left)
+  told-start : m .left .refusal ≡ 0 → StartsFit (readTold (m .left))
   unfolding readCall StartsOfReads
   told-start =
-      let P : ReadExit → Type 0 = λ z. z .refusal ≡ 0 → StartsTold z in
+      let P : ReadExit → Type 0 = λ z. z .refusal ≡ 0 → StartsFit (readTold z) in
       on-bool five
       (λ e. on-bool fits
       (λ g. subst P (sym (m .met ∙ if-true five _ _ e ∙ if-true fits _ _ g))

@@ -3,7 +3,7 @@
 use mathlib.Core.Path.{_≡_}
 use mathlib.Core.Bool.{Bool, cond, _&&_}
 use mathlib.Core.List.{List}
-use Prim.Native.Nat.{ℕ, _*_, _^_, _<_}
+use Prim.Native.Nat.{ℕ, _*_}
 use lib.ListN.{length, getD, take}
 use lib.Dec.{eqb}
 use Rattle.t800.specs.declared.Markers.{Markers}
@@ -11,11 +11,11 @@ use Rattle.t800.specs.declared.SegmentRecord.{SegmentRecord}
 use Rattle.t800.specs.Base.{Words, Bytes}
 use Rattle.t800.specs.Refusals.{listRefusal}
 use Rattle.t800.specs.Start.{StartResult}
-use Rattle.t800.specs.Reports.{bodyBytes, recordWidth, asRecords}
+use Rattle.t800.specs.Reports.{recordWidth, asRecords}
 use Rattle.t800.specs.Packet.{MeasureResult, WriteResult, ReadResult, readResult, refusedAnswer}
 use Rattle.t800.specs.Exports.{bandsIn, startCall, MeasureExit, measureCall, WriteExit, writeCall, ReadExit, workRefusal, readCall}
 use Rattle.t800.specs.Interface.{StartCall, WriteCall, ReadCall}
-use Rattle.t800.specs.Starts.{StartsAreSums}
+use Rattle.t800.specs.Starts.{StartsFit}
 
 -- ---- starts
 
@@ -126,10 +126,6 @@ readOtherwise m = cond (eqb (length (m .answer)) 5) (workRefusal (m .state) (m .
 abbrev pub readTold : ReadExit → List SegmentRecord
 readTold left = take (getD (left .answer) 2 0) (left .records)
 
--- each starts behind the bytes of those before it, and in all they have fewer than 2^53
-abbrev pub StartsTold : ReadExit → Type 0
-StartsTold left = StartsAreSums (readTold left) × (bodyBytes (readTold left) < 2 ^ 53)
-
 -- in every accepted read, whatever the input
 unfoldable pub StartsOfExports : Type 0
-StartsOfExports = (m : ReadMade) → m .left .refusal ≡ 0 → StartsTold (m .left)
+StartsOfExports = (m : ReadMade) → m .left .refusal ≡ 0 → StartsFit (readTold (m .left))

@@ -12,16 +12,13 @@ use Rattle.t800.specs.Reports.{recordWords, bodyBytes, noRecord}
 use Rattle.t800_laws.proofs.Laws.Tests.{if-lt}
 use Rattle.t800_laws.proofs.Laws.Lists.{record-words-length}
 use Rattle.t800_laws.proofs.Laws.Starts.{StartsFrom}
-use Rattle.t2_records.specs.Segments.{segmentAfter, lastOf, filled}
-use Rattle.t2_records.proofs.Stored.{recordAt, stored-is-overwritten}
+use Rattle.t2_records.specs.Segments.{segmentAfter, lastOf, recordAt, filled}
+use Rattle.t2_records.proofs.Stored.{stored-is-overwritten}
 
 -- ---- the words of record i
 
-abbrev fields : SegmentRecord → List ℕ
-fields r = r .block ∷ r .opens ∷ r .passes ∷ r .bytes ∷ []
-
 words-at : (fs : List SegmentRecord) (tail : List ℕ) (i k : ℕ) → i < length fs → k < 4
-    → getD (recordWords fs ++ tail) (i * 4 + k) 0 ≡ getD (fields (getD fs i noRecord)) k 0
+    → getD (recordWords fs ++ tail) (i * 4 + k) 0 ≡ getD (recordWords (getD fs i noRecord ∷ [])) k 0
 unfolding recordWords
 words-at [] tail i k l h = absurd (omega arith)
 words-at (f ∷ fs) tail zero zero l h = refl
@@ -63,7 +60,7 @@ module _ (fs : List SegmentRecord) (tail : List ℕ) (starts : StartsFrom 0 fs) 
 
   after-last : (i : ℕ) (last : SegmentRecord) → i < length fs → (last .start + last .bytes) % 2 ^ 64 ≡ getD fs i noRecord .start
       → segmentAfter ws i last ≡ getD fs i noRecord
-  unfolding segmentAfter
+  unfolding segmentAfter recordWords
   after-last i last l e =
       let first : getD ws (i * 4) 0 ≡ getD fs i noRecord .block =
       ap (λ (j : ℕ). getD ws j 0) (sym (add-zero (i * 4))) ∙ words-at fs tail i 0 l (omega arith) in
@@ -85,7 +82,7 @@ module _ (fs : List SegmentRecord) (tail : List ℕ) (starts : StartsFrom 0 fs) 
       ap (segmentAfter ws (suc i)) (record-is i (omega arith))
       ∙ after-last (suc i) r l (omega (arith, start-up-to 0 fs (suc i) starts l))
 
-  pub stored-from-words : (rs : List SegmentRecord) → length fs ≤ length rs → filled ws (length fs) rs ≡ overwrite rs fs
+  stored-from-words : (rs : List SegmentRecord) → length fs ≤ length rs → filled ws (length fs) rs ≡ overwrite rs fs
   stored-from-words rs l = stored-is-overwritten (recordAt ws) fs rs l record-is
 
 -- ---- from zeros

@@ -25,10 +25,10 @@ use Rattle.t800_laws.proofs.Laws.Starts.{header-starts, header-bytes}
 use Rattle.tcd_laws.proofs.Laws.ValidStates.{blocks-of-valid}
 use Rattle.round_trip.proofs.Numbers.{header-number}
 use Rattle.t800.specs.Exports.{readWords, ReadExit, readExit, workRefusal, readCall}
-use Rattle.t2_records.specs.Segments.{filled}
+use Rattle.t2_records.specs.Segments.{recordAt, filled}
 use Rattle.t2_read_numbers.specs.Reading.{readNumbers, toFill}
 use Rattle.tonkelvi_read_parts.specs.Numbers.{NumbersCall, numbersOf, numbersCall}
-use Rattle.t2_records.proofs.Stored.{recordAt, stored-none}
+use Rattle.t2_records.proofs.Stored.{stored-none}
 use Rattle.tonkelvi_read_parts.proofs.FromWords.{found-stored, all-stored}
 use Rattle.t2_read_numbers.proofs.Numbers.{numbers-refused, numbers-read}
 

@@ -51,8 +51,8 @@ use denote.Triple.Walked.{says, Stays, stay-slice, stay-none, stay-none-slice, w
 use denote.Triple.Walked.{goes-none-slice, Walks, ends-at, walked, walk-meets}
 use denote.Exit.{yes}
 use Rattle.t800.specs.Reports.{noRecord}
-use Rattle.t2_records.specs.Segments.{lastOf, filled}
-use Rattle.t2_records.proofs.Stored.{recordAt, last-none, last-turn, stored-none, stored-turn, stored-length}
+use Rattle.t2_records.specs.Segments.{lastOf, recordAt, filled}
+use Rattle.t2_records.proofs.Stored.{last-none, last-turn, stored-none, stored-turn, stored-length}
 use Rattle.t800.specs.declared.SegmentRecord.{SegmentRecord}
 use Rattle.t2_records.proofs.Lent.{LentAgain, lends-again, comes-back}
 use Rattle.t800.proofs.SegmentRecord as T

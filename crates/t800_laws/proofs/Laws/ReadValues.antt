@@ -10,7 +10,7 @@ use Rattle.t800.specs.Bits.{Decoded, heldBit, getBit, readBitsOnto, readBits}
 use Rattle.t800.specs.PassCount.{readPasses}
 use Rattle.t800_laws.proofs.Laws.Tests.{either}
 
-pub getBit-bit : (src : List ℕ) (b : Bio) → getBit src b .value ≤ 1
+getBit-bit : (src : List ℕ) (b : Bio) → getBit src b .value ≤ 1
 unfolding getBit heldBit
 getBit-bit src b = omega arith
 

@@ -39,12 +39,6 @@ unfoldable pub StartsFrom : (n : ℕ) → List SegmentRecord → Type 0
 StartsFrom n [] = Unit {0}
 StartsFrom n (r ∷ rs) = (r .start ≡ n) × StartsFrom (n + r .bytes) rs
 
-pub one-more : (n : ℕ) (rs : List SegmentRecord) (a : SegmentRecord) → StartsFrom n rs → a .start ≡ n + bodyBytes rs
-    → StartsFrom n (rs ++ a ∷ [])
-unfolding StartsFrom bodyBytes
-one-more n [] a h e = (e ∙ add-zero n, tt)
-one-more n (r ∷ rs) a h e = (h .0, one-more (n + r .bytes) rs a (h .1) (omega (arith, e)))
-
 pub starts-append : (n : ℕ) (rs ss : List SegmentRecord) → StartsFrom n rs → StartsFrom (n + bodyBytes rs) ss → StartsFrom n (rs ++ ss)
 unfolding StartsFrom bodyBytes
 starts-append n [] ss h g = subst (λ (m : ℕ). StartsFrom m ss) (add-zero n) g
@@ -71,7 +65,7 @@ module _ (src : List ℕ) (room : ℕ) where
       header-keeps src room (λ r. StartsFrom 0 (r .records)) tt tt tt
       (λ vs c r l h. h)
       (λ a r h. h)
-      (λ a r e g h. one-more 0 (r .records) a h (e ∙ sym (zero-add (bodyBytes (r .records)))))
+      (λ a r e g h. starts-append 0 (r .records) (a ∷ []) h (e ∙ sym (zero-add (bodyBytes (r .records))), tt))
       ws b tt
 
   -- a length has at most 32 bits
