@@ -24,6 +24,7 @@ rows() {
     row "the statements of demands 1 and 3" "t800/specs/Interface.antt, Numbers.antt, RoundTrip.antt" \
         $specs/Interface.antt $specs/Numbers.antt $specs/RoundTrip.antt
     row "the statement of the starts" "t800/specs/Starts.antt" $specs/Starts.antt
+    row "the statement of fewer layers" "t800/specs/FewerLayers.antt" $specs/FewerLayers.antt
     row "what the calls and the exported calls are as interfaces" "theorems/specs/; the record \`exports\` at the end of theorems/proofs/Exports.antt puts it together" \
         crates/theorems/specs/Calls.antt crates/theorems/specs/Exports.antt
     row "one layer" "t2_layer/specs/" crates/t2_layer/specs/Layer.antt
