@@ -314,11 +314,11 @@ fn record(segment: &words::Segment) -> Record {
 
 // ---- the crate
 
-/// The crate resets the trees at layer 0: only a state that a start filled counts there.
+/// The crate has 999 layers, and resets the trees at layer 0: only a state that a start filled counts there.
 #[cfg(openjp2)]
 fn in_domain(state: &[u32]) -> bool {
     if state[3] != 0 {
-        return true;
+        return state[3] < precinct::NOT_YET && precinct::come_back(state);
     }
     let mut bands = Bands::default();
     let used = model::bands_of(state);
@@ -338,7 +338,7 @@ fn in_domain(state: &[u32]) -> bool {
 }
 
 #[cfg(openjp2)]
-use crate::openjp2::t2::precinct::{Failed, Precinct};
+use crate::openjp2::t2::precinct::{self, Failed, Precinct};
 
 /// The crate's header is as long, and leaves the same state. No body is made.
 #[cfg(openjp2)]
