@@ -216,7 +216,8 @@ impl Trials {
         let shape = Shape { count: 2, bands: [[2, 1, 5], [1, 1, 998], [0; 3]], style: 0, planes: vec![5, 0, 990] };
         for (writer, layer) in [true, false].into_iter().flat_map(|writer| RANGE_EDGES.map(|layer| (writer, layer))) {
             let mut state = self.start(writer, &shape);
-            inputs::pass_over(&mut state, layer);
+            inputs::pass_over(&mut state, layer.min(LAYERS));
+            state[3] = layer;
             let (places, _, _) = model::layout(&shape.bands[..2]);
             for at in places.iter().flat_map(|p| p.inclusion..p.block_words) {
                 for edge in RANGE_EDGES {
