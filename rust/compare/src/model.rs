@@ -7,7 +7,7 @@ const READER: u32 = 2;
 pub const LAYERS: u32 = 65_535;
 /// The value of a fresh node, in inclusion trees and in zero-plane trees.
 pub const NOT_YET_INCLUDED: u32 = 65_535;
-const NOT_YET_PLANES: u32 = 999;
+pub const NOT_YET_PLANES: u32 = 999;
 const MOST_PLANES: u32 = 998;
 const MOST_PASSES: u32 = 164;
 const FIRST_WORDS: usize = 13;

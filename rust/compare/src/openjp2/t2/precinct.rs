@@ -4,8 +4,8 @@ use super::*;
 use crate::model::{self, NOT_YET_INCLUDED};
 use std::sync::OnceLock;
 
-/// The value of a fresh node in the crate's trees, which gives the crate as many layers.
-pub const NOT_YET: u32 = 999;
+/// The value of a fresh node in the crate's trees.
+const NOT_YET: u32 = 999;
 
 struct Band {
     across: u32,
