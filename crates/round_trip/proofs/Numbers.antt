@@ -10,12 +10,13 @@ use borrow.Author.Tests.{ne-eqb, eqb-true}
 use Rattle.t800.specs.declared.Bio.{Bio}
 use Rattle.t800.specs.Refusals.{Check, firstOf}
 use Rattle.t800.specs.Start.{StartResult, startRefusal}
-use Rattle.t800.specs.Start.{start}
+use Rattle.t800.specs.Start.{startWith}
 use Rattle.t800.specs.Reports.{RecordForm}
 use Rattle.t800.specs.ReadHeader.{HeaderRead}
 use Rattle.t800.specs.ReadHeader.{readHeader}
-use Rattle.t800.specs.Packet.{MeasureResult, measureRefusal, measure, WriteResult, writeRefusal, write, ReadResult, readListChecks}
-use Rattle.t800.specs.Packet.{readRefusal, headerChecks, firstBit, headerOf, readAbsent, readPresent, read}
+use Rattle.t800.specs.Packet.{MeasureResult, measureRefusal, measureRefusalWith, measureWith, WriteResult, writeRefusal, writeRefusalWith}
+use Rattle.t800.specs.Packet.{writeWith, ReadResult, readListChecks}
+use Rattle.t800.specs.Packet.{readRefusal, readRefusalWith, headerChecks, firstBit, headerOf, readAbsent, readPresent, readWith}
 use Rattle.t800.specs.Interface.{StartCall, startOf, WriteCall, measureOf, writeOf, ReadCall, readOf, Calls, Interface}
 use Rattle.t800.specs.Numbers.{NoneHolds, NumberIs, startChecksOf, measureChecksOf, writeChecksOf, readChecksOf, Numbers}
 use Rattle.t800_laws.proofs.Laws.Tests.{if-true, if-false, if-eq, if-ne, either, on-eq}
@@ -82,15 +83,15 @@ number-is cs n d e =
 -- ---- the numbers of the definitions
 
 start-number : (role : ℕ) (lent : List ℕ) (c : StartCall) → startOf role lent c .answer ≡ firstOf (startChecksOf role lent c)
-unfolding start startRefusal
+unfolding startWith startRefusal
 start-number role lent c = refl
 
 start-stays : (role : ℕ) (lent : List ℕ) (c : StartCall) → startOf role lent c .answer ≢ 0 → startOf role lent c .state ≡ lent
-unfolding start
+unfolding startWith
 start-stays role lent c h = if-ne (startRefusal role (c .count) (c .bands) (c .style) (c .planes) lent) 0 _ lent h
 
 measure-number : (ws : List ℕ) (c : WriteCall) → measureOf ws c .answer .refusal ≡ firstOf (measureChecksOf ws c)
-unfolding measure measureRefusal
+unfolding measureWith measureRefusalWith
 measure-number ws c = number (measureRefusal ws (c .scratch) (c .contribution)) _ _ refl refl
   where
     number : (why : ℕ) (done other : MeasureResult) → done .answer .refusal ≡ 0 → other .answer .refusal ≡ why
@@ -104,7 +105,7 @@ module _ (ws : List ℕ) (c : WriteCall) where
   writeWhy = writeRefusal ws (c .scratch) (c .contribution) (c .body) (c .markers) (c .number) (c .output)
 
   write-why : writeOf ws c .answer .refusal ≡ writeWhy
-  unfolding write
+  unfolding writeWith
   write-why = number writeWhy _ _ _ refl refl refl
     where
       number : (why : ℕ) (done noSpace unchanged : WriteResult) → done .answer .refusal ≡ 0 → noSpace .answer .refusal ≡ why
@@ -116,7 +117,7 @@ module _ (ws : List ℕ) (c : WriteCall) where
           ∙ either (λ (z : WriteResult). z .answer .refusal ≡ why) (eqb why 11) noSpace unchanged n u)
 
   write-number : writeOf ws c .answer .refusal ≡ firstOf (writeChecksOf ws c)
-  unfolding writeRefusal
+  unfolding writeRefusalWith
   write-number = write-why
 
   write-stays : writeOf ws c .answer .refusal ≢ 0 → writeOf ws c .state ≡ ws
@@ -171,7 +172,7 @@ module _ (form : RecordForm) (ws : List ℕ) (c : ReadCall form) where
   header = headerOf ws (c .markers) (c .input) (form .room (c .records))
 
   read-why : readOf form ws c .answer .refusal ≡ cond (not (eqb early 0)) early (cond (not (eqb first 0)) (header .refusal) 0)
-  unfolding read readAbsent readPresent
+  unfolding readWith readAbsent readPresent
   read-why = number (not (eqb early 0)) (eqb first 0) (eqb (header .refusal) 0) refl _ _ _ _ refl refl refl refl
     where
       number : (refused absent done : Bool) → eqb (header .refusal) 0 ≡ done → (a b c d : ReadResult form) → a .answer .refusal ≡ early
@@ -183,7 +184,7 @@ module _ (form : RecordForm) (ws : List ℕ) (c : ReadCall form) where
       number false false false e a b c d p q s t = t
 
   read-number : readOf form ws c .answer .refusal ≡ firstOf (readChecksOf form ws c)
-  unfolding readRefusal
+  unfolding readRefusalWith
   read-number =
       let present : Bool = not (eqb first 0) in
       read-why

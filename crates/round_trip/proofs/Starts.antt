@@ -13,7 +13,7 @@ use Rattle.t800.specs.Base.{overwrite}
 use Rattle.t800.specs.Reports.{bodyBytes, asRecords}
 use Rattle.t800.specs.State.{reader}
 use Rattle.t800.specs.ReadHeader.{HeaderRead}
-use Rattle.t800.specs.Packet.{readRefusal, firstBit, headerOf, ReadResult, readAbsent, readPresent, read}
+use Rattle.t800.specs.Packet.{readRefusal, firstBit, headerOf, ReadResult, readAbsent, readPresent, read, readWith}
 use Rattle.t800.specs.Starts.{StartsFit, recordsTold, StartsOfReads, StartsOfBook}
 use Rattle.t800_laws.proofs.Laws.Tests.{either, either-by}
 use Rattle.t800_laws.proofs.Laws.StateAfter.{read-in-range}
@@ -33,7 +33,7 @@ unfolding overwrite
 front-told lent rs = take-append-seam rs (drop (length rs) lent)
 
 pub starts-of-reads : StartsOfReads
-unfolding StartsOfReads read readAbsent readPresent
+unfolding StartsOfReads readWith readAbsent readPresent
 starts-of-reads ws scratch m src reports records =
     let P : ReadResult asRecords → Type 0 = λ r. r .answer .refusal ≡ 0 → StartsFit (recordsTold r) in
     let why : ℕ = readRefusal ws scratch reports in

@@ -30,7 +30,7 @@ fn put_sop(out: &mut [u8], used: bool, number: u32) -> usize
 }
 
 fn put_eph(out: &mut [u8], used: bool, at: usize) -> usize
-    requires { ⌜ at ≤ 2 ^ 32 ⌝ }
+    requires { ⌜ at ≤ 2 ^ 53 ⌝ }
     ensures { λ r. ⌜ bytesPut (now (out .exit)) r ≡ putBytes (bytesPut (now (out .entry)) at) (cond used ephBytes []) ⌝ }
 {
     if !used {

@@ -11,6 +11,7 @@ use Rattle.t800.specs.declared.Markers.{Markers}
 use Rattle.t800.specs.WriteHeader.{contribution}
 use Rattle.t800.specs.Base.{sum}
 use Rattle.t800.specs.Segments.{termAll, bypass}
+use Rattle.t800.specs.State.{notYetIncluded, notYetPlanes}
 use Rattle.t800.proofs.Table.{Step, starts, loads-writer, loads-reader, holds-writer, holds-reader, writes, heads}
 use Rattle.t800.proofs.Table.{reads-starts, reads, Row, rowHolds, failing}
 
@@ -81,9 +82,16 @@ node v l k = v ∷ l ∷ k ∷ []
 abbrev block : ℕ → ℕ → ℕ → ℕ → List ℕ
 block passes bits limit used = passes ∷ bits ∷ limit ∷ used ∷ []
 
+-- of each tree a node of which nothing is known
+abbrev fresh-included : List ℕ
+fresh-included = node notYetIncluded 0 0
+
+abbrev fresh-planes : List ℕ
+fresh-planes = node notYetPlanes 0 0
+
 -- a reader that has read nothing but absent packets
 abbrev unread : ℕ → List ℕ
-unread layer = words 2 0 layer (node 999 0 0) (node 999 0 0) (block 0 0 0 0)
+unread layer = words 2 0 layer fresh-included fresh-planes (block 0 0 0 0)
 
 -- a writer and a reader that have one pass of the block so far, with so many length bits
 abbrev wrote : ℕ → ℕ → List ℕ
@@ -106,8 +114,8 @@ a-to-l =
     ∷ one (get 23 1 (0xfe ∷ 0xad ∷ 0xff ∷ []) (no 12) [] [] ∷ [])
     -- F, G, H
     ∷ one
-    (puts 23 (0 ∷ []) [] [] (0x80 ∷ []) ∷ holds-writer (words 1 0 1 (node 999 1 0) (node 0 0 0) (block 0 0 0 0))
-    ∷ get 23 1 (0x80 ∷ []) (told 1 1 0) (copies 4 0) [] ∷ holds-reader (words 2 0 1 (node 999 1 0) (node 999 0 0) (block 0 0 0 0))
+    (puts 23 (0 ∷ []) [] [] (0x80 ∷ []) ∷ holds-writer (words 1 0 1 (node notYetIncluded 1 0) (node 0 0 0) (block 0 0 0 0))
+    ∷ get 23 1 (0x80 ∷ []) (told 1 1 0) (copies 4 0) [] ∷ holds-reader (words 2 0 1 (node notYetIncluded 1 0) fresh-planes (block 0 0 0 0))
     ∷ [])
     ∷ one (get 23 1 [] (told 0 0 0) (copies 4 0) [] ∷ holds-reader (unread 1) ∷ [])
     ∷ one (get 23 1 (0x00 ∷ []) (told 0 1 0) (copies 4 0) [] ∷ holds-reader (unread 1) ∷ [])
@@ -217,14 +225,14 @@ all-wrong n why = writing n 0 (165 ∷ []) (2 ^ 31 ∷ []) [] 0 why []
 pub write-rows : List Row
 write-rows =
     one
-    ( -- 5: a reader's state, a node out of range at layer 999, a scratch too short or too long
-    loads-writer (words 2 0 0 (node 999 0 0) (node 999 0 0) (block 0 0 0 0)) ∷ all-wrong 23 5
-    ∷ loads-writer (words 1 0 999 (node 0 1 2) (node 0 1 1) (block 1 32 0 0)) ∷ all-wrong 23 5
-    ∷ loads-writer (wrote 999 32) ∷ all-wrong 22 5 ∷ all-wrong 24 5
+    ( -- 5: a reader's state, a node out of range at the layer after the last, a scratch too short or too long
+    loads-writer (words 2 0 0 fresh-included fresh-planes (block 0 0 0 0)) ∷ all-wrong 23 5
+    ∷ loads-writer (words 1 0 65535 (node 0 1 2) (node 0 1 1) (block 1 32 0 0)) ∷ all-wrong 23 5
+    ∷ loads-writer (wrote 65535 32) ∷ all-wrong 22 5 ∷ all-wrong 24 5
     -- 6
     ∷ all-wrong 23 6
     -- 3: lengths, marks, counts
-    ∷ loads-writer (wrote 998 32) ∷ all-wrong 23 3
+    ∷ loads-writer (wrote 65534 32) ∷ all-wrong 23 3
     ∷ writing 23 0 (165 ∷ []) (2 ^ 31 ∷ copies 164 0) (copies 164 0) 0 3 []
     ∷ writing 23 0 (165 ∷ []) (2 ^ 31 ∷ copies 165 0) (copies 165 0) 0 3 []
     ∷ writing 23 0 (165 ∷ []) (2 ^ 31 ∷ copies 163 0) (copies 165 0) 0 3 []
@@ -245,7 +253,7 @@ write-rows =
     -- 11, and the packet
     ∷ writing 23 1 (1 ∷ []) (1 ∷ []) (0 ∷ []) 5 11 []
     ∷ writing 23 1 (1 ∷ []) (1 ∷ []) (0 ∷ []) 6 0 (0xc0 ∷ 0x00 ∷ 0x00 ∷ 0x00 ∷ 0x10 ∷ [])
-    -- at layer 998 it was the last
+    -- that was the last layer
     ∷ all-wrong 23 6
     ∷ [])
     -- 8 in any block comes before 9 in any: 32 length bits and two passes in the first, 2^31 bytes in the second
@@ -296,14 +304,14 @@ ends-in-ff = 0xf0 ∷ 0x00 ∷ 0xff ∷ 0x00 ∷ 0xff ∷ []
 pub read-rows : List Row
 read-rows =
     one
-    ( -- 5: a writer's state, a block out of range at layer 999, a scratch too short or too long
-    loads-reader (words 1 0 0 (node 999 0 0) (node 999 0 0) (block 0 0 0 0)) ∷ reading 23 3 0 too-wide 5
-    ∷ loads-reader (read-one 1 999 33) ∷ reading 23 3 0 too-wide 5
-    ∷ loads-reader (read-one 1 999 32) ∷ reading 22 3 0 too-wide 5 ∷ reading 24 3 0 too-wide 5
+    ( -- 5: a writer's state, a block out of range at the layer after the last, a scratch too short or too long
+    loads-reader (words 1 0 0 fresh-included fresh-planes (block 0 0 0 0)) ∷ reading 23 3 0 too-wide 5
+    ∷ loads-reader (read-one 1 65535 33) ∷ reading 23 3 0 too-wide 5
+    ∷ loads-reader (read-one 1 65535 32) ∷ reading 22 3 0 too-wide 5 ∷ reading 24 3 0 too-wide 5
     -- 6
     ∷ reading 23 3 0 too-wide 6
     -- 3
-    ∷ loads-reader (words 2 0 0 (node 999 0 0) (node 999 0 0) (block 0 0 0 0)) ∷ reading 23 3 0 too-wide 3 ∷ reading 23 5 0 too-wide 3
+    ∷ loads-reader (words 2 0 0 fresh-included fresh-planes (block 0 0 0 0)) ∷ reading 23 3 0 too-wide 3 ∷ reading 23 5 0 too-wide 3
     -- 9 before 13 at a segment
     ∷ reading 23 4 0 too-wide 9
     ∷ reading 23 4 0 (0xe5 ∷ []) 13
@@ -361,17 +369,28 @@ largest = 64 ∷ 0 ∷ 998 ∷ 0 ∷ 64 ∷ 998 ∷ 0 ∷ 0 ∷ 998 ∷ []
 
 -- one, two and three bands at the last layer, with the largest style
 abbrev one-used : ℕ → List ℕ
-one-used role = bare role 1 63 998 (64 ∷ 0 ∷ 998 ∷ copies 6 0)
+one-used role = bare role 1 63 65534 (64 ∷ 0 ∷ 998 ∷ copies 6 0)
 
 abbrev two-used : ℕ → List ℕ
-two-used role = bare role 2 63 998 (64 ∷ 0 ∷ 998 ∷ 0 ∷ 64 ∷ 998 ∷ copies 3 0)
+two-used role = bare role 2 63 65534 (64 ∷ 0 ∷ 998 ∷ 0 ∷ 64 ∷ 998 ∷ copies 3 0)
 
 abbrev three-used : ℕ → List ℕ
-three-used role = bare role 3 63 998 largest
+three-used role = bare role 3 63 65534 largest
 
--- three bands at layer 1, of which one has two blocks in a row and the others none; its nodes are n and its blocks k
-abbrev two-in : ℕ → List ℕ → List ℕ → List ℕ → List ℕ
-two-in role bands n k = role ∷ 3 ∷ 0 ∷ 1 ∷ bands ++ n ++ n ++ n ++ n ++ n ++ n ++ k ++ k
+-- the largest words of a node in each tree, and of a block with passes, by limit and passes of its segment
+abbrev full-included : List ℕ
+full-included = node 65535 65535 1
+
+abbrev full-planes : List ℕ
+full-planes = node 999 999 1
+
+abbrev full-block : ℕ → ℕ → List ℕ
+full-block limit used = block 164 32 limit used
+
+-- three bands at layer 1, of which one has two blocks in a row and the others none; its nodes are full and its blocks k
+abbrev two-in : ℕ → List ℕ → List ℕ → List ℕ
+two-in role bands k =
+    role ∷ 3 ∷ 0 ∷ 1 ∷ bands ++ full-included ++ full-included ++ full-included ++ full-planes ++ full-planes ++ full-planes ++ k ++ k
 
 abbrev first-band : List ℕ
 first-band = 2 ∷ 1 ∷ 5 ∷ copies 6 0
@@ -383,27 +402,21 @@ abbrev third-band : List ℕ
 third-band = copies 6 0 ++ 2 ∷ 1 ∷ 5 ∷ []
 
 -- v in place of the words at these places of that band, whose words begin at 13; one state for each place and each band
-abbrev in-each-band : ℕ → List ℕ → List ℕ → ℕ → List ℕ → List Step
-in-each-band role n k v places =
-    steps-of (looks role 2) (spoilt (two-in role first-band n k) v 13 places)
-    ++ steps-of (looks role 2) (spoilt (two-in role second-band n k) v 13 places)
-    ++ steps-of (looks role 2) (spoilt (two-in role third-band n k) v 13 places)
+abbrev in-each-band : ℕ → List ℕ → ℕ → List ℕ → List Step
+in-each-band role k v places =
+    steps-of (looks role 2) (spoilt (two-in role first-band k) v 13 places)
+    ++ steps-of (looks role 2) (spoilt (two-in role second-band k) v 13 places)
+    ++ steps-of (looks role 2) (spoilt (two-in role third-band k) v 13 places)
 
 -- those states as they are
-abbrev each-accepted : ℕ → List ℕ → List ℕ → List Step
-each-accepted role n k =
-    steps-of (accepts role 2) (two-in role first-band n k ∷ two-in role second-band n k ∷ two-in role third-band n k ∷ [])
+abbrev each-accepted : ℕ → List ℕ → List Step
+each-accepted role k = steps-of (accepts role 2) (two-in role first-band k ∷ two-in role second-band k ∷ two-in role third-band k ∷ [])
 
 -- three bands of one block, whose words begin at 13, 23 and 33
-abbrev one-in-each : ℕ → List ℕ → List ℕ → List ℕ
-one-in-each role n k = role ∷ 3 ∷ 0 ∷ 1 ∷ 1 ∷ 1 ∷ 5 ∷ 1 ∷ 1 ∷ 5 ∷ 1 ∷ 1 ∷ 5 ∷ n ++ n ++ k ++ n ++ n ++ k ++ n ++ n ++ k
-
--- the largest words of a node, and of a block with passes, by limit and passes of its segment
-abbrev full-node : List ℕ
-full-node = node 999 999 1
-
-abbrev full-block : ℕ → ℕ → List ℕ
-full-block limit used = block 164 32 limit used
+abbrev one-in-each : ℕ → List ℕ → List ℕ
+one-in-each role k =
+    let band-words = full-included ++ full-planes ++ k in
+    role ∷ 3 ∷ 0 ∷ 1 ∷ 1 ∷ 1 ∷ 5 ∷ 1 ∷ 1 ∷ 5 ∷ 1 ∷ 1 ∷ 5 ∷ band-words ++ band-words ++ band-words
 
 -- the states of one role that give 5: first words
 abbrev first-words-out : ℕ → List Step
@@ -413,7 +426,7 @@ first-words-out role =
     bare 0 1 0 0 (copies 9 0) ∷ bare 3 1 0 0 (copies 9 0) ∷ bare (3 - role) 1 0 0 (copies 9 0)
     ∷ bare role 0 0 0 (copies 9 0) ∷ bare role 4 0 0 (copies 9 0)
     ∷ bare role 1 64 0 (copies 9 0) ∷ bare role 1 256 0 (copies 9 0)
-    ∷ bare role 1 0 1000 (copies 9 0)
+    ∷ bare role 1 0 65536 (copies 9 0)
     -- across and down of each band; its planes
     ∷ set (three-used role) 4 65 ∷ set (set (three-used role) 7 65) 8 0 ∷ set (three-used role) 10 65
     ∷ set (set (three-used role) 4 0) 5 65 ∷ set (three-used role) 8 65 ∷ set (three-used role) 11 65
@@ -426,26 +439,28 @@ first-words-out role =
 -- of both trees the value of the first node, and value, low and known of the last
 abbrev nodes-out : ℕ → List Step
 nodes-out role =
-    in-each-band role full-node (block 0 0 0 0) 1000 (0 ∷ 9 ∷ 6 ∷ 7 ∷ 15 ∷ 16 ∷ [])
-    ++ in-each-band role full-node (block 0 0 0 0) 2 (8 ∷ 17 ∷ [])
+    in-each-band role (block 0 0 0 0) 65536 (0 ∷ 6 ∷ 7 ∷ [])
+    ++ in-each-band role (block 0 0 0 0) 1000 (9 ∷ 15 ∷ 16 ∷ [])
+    ++ in-each-band role (block 0 0 0 0) 2 (8 ∷ 17 ∷ [])
 
 -- Of a block without passes length bits, limit and passes of a segment. Of blocks with passes, whose segment is as the role asks, more
 -- than 164 passes and 33 length bits in the first and in the last; 0 and 2 length bits.
 abbrev blocks-out : ℕ → ℕ → List Step
 blocks-out role limit =
-    in-each-band role full-node (block 0 0 0 0) 3 (23 ∷ [])
-    ++ in-each-band role full-node (block 0 0 0 0) 109 (24 ∷ []) ++ in-each-band role full-node (block 0 0 0 0) 1 (25 ∷ [])
-    ++ in-each-band role full-node (full-block limit limit) 165 (18 ∷ 22 ∷ [])
-    ++ in-each-band role full-node (full-block limit limit) 33 (19 ∷ 23 ∷ [])
-    ++ in-each-band role full-node (full-block limit limit) 0 (23 ∷ [])
-    ++ in-each-band role full-node (full-block limit limit) 2 (23 ∷ [])
+    in-each-band role (block 0 0 0 0) 3 (23 ∷ [])
+    ++ in-each-band role (block 0 0 0 0) 109 (24 ∷ []) ++ in-each-band role (block 0 0 0 0) 1 (25 ∷ [])
+    ++ in-each-band role (full-block limit limit) 165 (18 ∷ 22 ∷ [])
+    ++ in-each-band role (full-block limit limit) 33 (19 ∷ 23 ∷ [])
+    ++ in-each-band role (full-block limit limit) 0 (23 ∷ [])
+    ++ in-each-band role (full-block limit limit) 2 (23 ∷ [])
 
 -- in bands one after another: a node of each tree, a block
 abbrev places-out : ℕ → ℕ → List Step
 places-out role limit =
     steps-of (looks role 3)
-    (spoilt (one-in-each role full-node (full-block limit limit)) 1000 0 (13 ∷ 16 ∷ 23 ∷ 26 ∷ 33 ∷ 36 ∷ [])
-    ++ spoilt (one-in-each role full-node (full-block limit limit)) 165 0 (19 ∷ 29 ∷ 39 ∷ []))
+    (spoilt (one-in-each role (full-block limit limit)) 65536 0 (13 ∷ 23 ∷ 33 ∷ [])
+    ++ spoilt (one-in-each role (full-block limit limit)) 1000 0 (16 ∷ 26 ∷ 36 ∷ [])
+    ++ spoilt (one-in-each role (full-block limit limit)) 165 0 (19 ∷ 29 ∷ 39 ∷ []))
 
 pub range-rows : List Row
 range-rows =
@@ -459,11 +474,11 @@ range-rows =
     ∷ one (places-out 1 0)
     -- limit and passes of the segment of a block with passes: no limit, a wrong limit, no passes, too many; in a writer, any
     ∷ one
-    (in-each-band 2 full-node (full-block 109 109) 0 (24 ∷ 25 ∷ [])
-    ++ in-each-band 2 full-node (full-block 109 1) 10 (24 ∷ [])
-    ++ in-each-band 2 full-node (full-block 109 109) 110 (25 ∷ [])
-    ++ in-each-band 1 full-node (full-block 0 0) 109 (24 ∷ [])
-    ++ in-each-band 1 full-node (full-block 0 0) 1 (25 ∷ []))
+    (in-each-band 2 (full-block 109 109) 0 (24 ∷ 25 ∷ [])
+    ++ in-each-band 2 (full-block 109 1) 10 (24 ∷ [])
+    ++ in-each-band 2 (full-block 109 109) 110 (25 ∷ [])
+    ++ in-each-band 1 (full-block 0 0) 109 (24 ∷ [])
+    ++ in-each-band 1 (full-block 0 0) 1 (25 ∷ []))
     -- one block: limits that a style doesn't give; passes at layer 0; a word too few, a word too many, another geometry
     ∷ one
     (steps-of (looks 2 1)
@@ -472,22 +487,22 @@ range-rows =
     ∷ words 2 4 1 (node 0 1 0) (node 0 1 0) (block 1 3 109 1) ∷ words 2 5 1 (node 0 1 0) (node 0 1 0) (block 1 3 10 1)
     ∷ words 2 5 1 (node 0 1 0) (node 0 1 0) (block 1 3 2 1) ∷ words 2 4 1 (node 0 1 0) (node 0 1 0) (block 1 3 1 2)
     ∷ words 2 0 0 (node 0 1 0) (node 0 1 0) (block 1 3 109 1)
-    ∷ words 2 0 0 (node 999 0 0) (node 999 0 0) (copies 3 0) ∷ words 2 0 0 (node 999 0 0) (node 999 0 0) (copies 5 0)
+    ∷ words 2 0 0 fresh-included fresh-planes (copies 3 0) ∷ words 2 0 0 fresh-included fresh-planes (copies 5 0)
     ∷ set (unread 0) 4 2
     ∷ [])
     ++ steps-of (looks 1 1)
     (words 1 0 0 (node 0 1 1) (node 0 1 1) (block 1 3 0 0)
-    ∷ words 1 0 0 (node 999 0 0) (node 999 0 0) (copies 3 0) ∷ words 1 0 0 (node 999 0 0) (node 999 0 0) (copies 5 0)
-    ∷ set (words 1 0 0 (node 999 0 0) (node 999 0 0) (block 0 0 0 0)) 4 2
+    ∷ words 1 0 0 fresh-included fresh-planes (copies 3 0) ∷ words 1 0 0 fresh-included fresh-planes (copies 5 0)
+    ∷ set (words 1 0 0 fresh-included fresh-planes (block 0 0 0 0)) 4 2
     ∷ []))
     -- in range: what the states above have besides, each limit that a style gives, and the largest words
     ∷ one
     (steps-of (accepts 2 0) (bare 2 1 0 0 (copies 9 0) ∷ one-used 2 ∷ two-used 2 ∷ three-used 2 ∷ [])
-    ++ each-accepted 2 full-node (block 0 0 0 0) ++ each-accepted 2 full-node (full-block 109 109) ++ each-accepted 2 full-node
+    ++ each-accepted 2 (block 0 0 0 0) ++ each-accepted 2 (full-block 109 109) ++ each-accepted 2
     (full-block 109 1)
-    ++ accepts 2 3 (one-in-each 2 full-node (full-block 109 109))
+    ++ accepts 2 3 (one-in-each 2 (full-block 109 109))
     ++ steps-of (accepts 2 1)
-    (words 2 63 998 (node 999 999 1) (node 999 999 1) (block 0 0 0 0)
+    (words 2 63 65534 full-included full-planes (block 0 0 0 0)
     ∷ words 2 0 2 (node 0 1 1) (node 0 1 1) (block 328 3 109 1)
     ∷ words 2 1 2 (node 0 1 1) (node 0 1 1) (block 328 32 10 10)
     ∷ words 2 1 2 (node 0 1 1) (node 0 1 1) (block 328 32 2 2)
@@ -497,10 +512,10 @@ range-rows =
     ∷ []))
     ∷ one
     (steps-of (accepts 1 0) (bare 1 1 0 0 (copies 9 0) ∷ one-used 1 ∷ two-used 1 ∷ three-used 1 ∷ [])
-    ++ each-accepted 1 full-node (block 0 0 0 0) ++ each-accepted 1 full-node (full-block 0 0)
-    ++ accepts 1 3 (one-in-each 1 full-node (full-block 0 0))
+    ++ each-accepted 1 (block 0 0 0 0) ++ each-accepted 1 (full-block 0 0)
+    ++ accepts 1 3 (one-in-each 1 (full-block 0 0))
     ++ steps-of (accepts 1 1)
-    (words 1 63 998 (node 999 999 1) (node 999 999 1) (block 0 0 0 0)
+    (words 1 63 65534 full-included full-planes (block 0 0 0 0)
     ∷ words 1 0 2 (node 0 1 1) (node 0 1 1) (block 328 3 0 0)
     ∷ []))
     ∷ []
@@ -573,10 +588,10 @@ marker-rows =
     }
     -- an absent packet moves the next layer, and no other word
     ∷ one
-    (loads-reader (read-one 0 998 32)
+    (loads-reader (read-one 0 65534 32)
     ∷ reads (record { markers = marked; input = 0x00 ∷ 0x07 ∷ 0x07 ∷ []; scratch = 23; reports = 4; records = 4 })
     (0 ∷ 0 ∷ 1 ∷ 0 ∷ 1 ∷ 2 ∷ []) (copies 4 0) []
-    ∷ holds-reader (read-one 0 999 32)
+    ∷ holds-reader (read-one 0 65535 32)
     ∷ [])
     ∷ []
 
@@ -585,8 +600,8 @@ marker-rows =
 -- a reader of two blocks in a row: zero planes 0 in the first leaf, below a root of value v
 abbrev odd-planes : ℕ → List ℕ
 odd-planes v =
-    2 ∷ 1 ∷ 0 ∷ 0 ∷ 2 ∷ 1 ∷ 5 ∷ copies 6 0 ++ node 999 0 0 ++ node 999 0 0 ++ node 999 0 0 ++ node 0 0 0 ++ node 999 0 0 ++ node v 0 0 ++
-    copies 8 0
+    2 ∷ 1 ∷ 0 ∷ 0 ∷ 2 ∷ 1 ∷ 5 ∷ copies 6 0 ++ fresh-included ++ fresh-included ++ fresh-included ++ node 0 0 0 ++ fresh-planes ++
+    node v 0 0 ++ copies 8 0
 
 pub slip-rows : List Row
 slip-rows =
@@ -709,7 +724,7 @@ slip-rows =
     -- zero planes read with one threshold for all, or with the root's value: of a root whose value isn't known, or is 3 and not yet read,
     -- over a leaf whose value is 0, one bit is read and not four or three
     ∷ precinct 2 0 (5 ∷ 5 ∷ [])
-    (loads-reader (odd-planes 999)
+    (loads-reader (odd-planes notYetPlanes)
     ∷ get 39 2 (0xe2 ∷ 0x80 ∷ []) (told 1 2 1) (1 ∷ 0 ∷ 5 ∷ 1 ∷ 0 ∷ 0 ∷ 0 ∷ 0 ∷ []) (0 ∷ 1 ∷ 1 ∷ 5 ∷ [])
     ∷ loads-reader (odd-planes 3)
     ∷ get 39 2 (0xe2 ∷ 0x80 ∷ []) (told 1 2 1) (1 ∷ 0 ∷ 5 ∷ 1 ∷ 0 ∷ 0 ∷ 0 ∷ 0 ∷ []) (0 ∷ 1 ∷ 1 ∷ 5 ∷ [])
@@ -719,9 +734,9 @@ slip-rows =
     (loads-writer (words 1 0 0 (node 0 0 1) (node 999 998 0) (block 0 0 0 0)) ∷ puts 23 (1 ∷ []) (5 ∷ []) (0 ∷ []) (0x8a ∷ [])
     ∷ holds-writer (words 1 0 1 (node 0 0 1) (node 999 999 0) (block 1 3 0 0))
     ∷ [])
-    -- setting a leaf ends at the first value that isn't above: a leaf of value 0 leaves the root's 999, and at layer 0 that is one 0
+    -- setting a leaf ends at the first value that isn't above: a leaf of value 0 leaves the root's "not yet", and at layer 0 that is one 0
     ∷ precinct 2 0 (5 ∷ 5 ∷ [])
-    (loads-writer (1 ∷ 1 ∷ 0 ∷ 0 ∷ 2 ∷ 1 ∷ 5 ∷ copies 6 0 ++ node 0 0 0 ++ node 999 0 0 ++ node 999 0 0 ++ copies 9 0 ++ copies 8 0)
+    (loads-writer (1 ∷ 1 ∷ 0 ∷ 0 ∷ 2 ∷ 1 ∷ 5 ∷ copies 6 0 ++ node 0 0 0 ++ fresh-included ++ fresh-included ++ copies 9 0 ++ copies 8 0)
     ∷ puts 39 (1 ∷ 0 ∷ []) (5 ∷ []) (0 ∷ []) (0xb2 ∷ 0x80 ∷ [])
     ∷ [])
     -- a precinct without blocks
@@ -804,11 +819,82 @@ segment-rows =
     ∷ [])
     ∷ []
 
+-- ---- layers (T.800, A.6.1): 998, 999, 1000 and the last, 65534
+
+-- a writer and a reader of the block that is not yet included, its inclusion node known up to this low, in the layer t
+abbrev to-write : ℕ → ℕ → List ℕ
+to-write t from = words 1 0 t (node 65535 from 0) (node 0 0 0) (block 0 0 0 0)
+
+abbrev to-read : ℕ → ℕ → List ℕ
+to-read t from = words 2 0 t (node 65535 from 0) (node 999 0 0) (block 0 0 0 0)
+
+-- a packet of the layer t in which the block is not included: one 0
+abbrev absent-at : ℕ → List Step
+absent-at t =
+    loads-writer (to-write t t) ∷ puts 23 (0 ∷ []) [] [] (0x80 ∷ []) ∷ holds-writer (to-write (t + 1) (t + 1))
+    ∷ loads-reader (to-read t t) ∷ get 23 1 (0x80 ∷ []) (told 1 1 0) (copies 4 0) [] ∷ holds-reader (to-read (t + 1) (t + 1))
+    ∷ []
+
+-- and one in which it is for the first time, with three zeros before the 1
+abbrev included-at : ℕ → List Step
+included-at t =
+    loads-writer (to-write t (t - 3)) ∷ puts 23 (1 ∷ []) (5 ∷ []) (0 ∷ []) (0x8c ∷ 0xa0 ∷ [])
+    ∷ holds-writer (words 1 0 (t + 1) (node t t 1) (node 0 0 1) (block 1 3 0 0))
+    ∷ loads-reader (to-read t (t - 3)) ∷ get 23 1 (0x8c ∷ 0xa0 ∷ []) (told 1 2 1) (1 ∷ 0 ∷ 5 ∷ 1 ∷ []) (0 ∷ 1 ∷ 1 ∷ 5 ∷ [])
+    ∷ holds-reader (words 2 0 (t + 1) (node t t 0) (node 0 0 0) (block 1 3 109 1))
+    ∷ []
+
+-- a node's value is the layer v, in the layer t: written for a block without passes, and what holds then
+abbrev value-at : ℕ → ℕ → ℕ → List ℕ → List ℕ → List Step
+value-at v t from bytes after =
+    loads-writer (words 1 0 t (node v from 0) (node 0 0 0) (block 0 0 0 0)) ∷ puts 23 (0 ∷ []) [] [] bytes
+    ∷ holds-writer (words 1 0 (t + 1) after (node 0 0 0) (block 0 0 0 0))
+    ∷ []
+
+-- a write and a read of the one block that have nothing else wrong
+abbrev puts-no : ℕ → Step
+puts-no why = writing 23 0 (0 ∷ []) [] [] 20 why []
+
+abbrev gets-no : ℕ → Step
+gets-no why = reading 23 4 0 (0x80 ∷ []) why
+
+-- a 1, a thousand 0, and A's other bits
+abbrev a-thousand : List ℕ
+a-thousand = 0x80 ∷ copies 124 0 ++ 0x65 ∷ []
+
+pub layer-rows : List Row
+layer-rows =
+    one (absent-at 998 ++ absent-at 999 ++ absent-at 1000 ++ absent-at 65533)
+    ∷ one (included-at 998)
+    ∷ one (included-at 999)
+    ∷ one (included-at 1000)
+    ∷ one (included-at 65534)
+    -- the last layer absent; after it 6, and one more is out of range
+    ∷ one
+    (absent-at 65534
+    ++ puts-no 6 ∷ gets-no 6 ∷ loads-writer (to-write 65536 65535) ∷ puts-no 5 ∷ loads-reader (to-read 65536 65535) ∷ gets-no 5 ∷ [])
+    -- values between 998 and 65535 are layers: up to theirs a 0, and in theirs a 1
+    ∷ one (value-at 998 998 998 (0xc0 ∷ []) (node 998 998 1) ++ value-at 999 998 998 (0x80 ∷ []) (node 999 999 0))
+    ∷ one (value-at 999 999 999 (0xc0 ∷ []) (node 999 999 1) ++ value-at 1000 999 999 (0x80 ∷ []) (node 1000 1000 0))
+    ∷ one (value-at 1000 1000 999 (0xa0 ∷ []) (node 1000 1000 1) ++ value-at 65534 65533 65533 (0x80 ∷ []) (node 65534 65534 0))
+    ∷ one (value-at 65534 65534 65534 (0xc0 ∷ []) (node 65534 65534 1) ++ value-at 65535 65534 65535 (0x80 ∷ []) (node 65535 65535 0))
+    -- a reader's node of value 999 in that layer: the block is included and no bit of the inclusion tree is read
+    ∷ one
+    (loads-reader (words 2 0 999 (node 999 999 0) (node 0 0 0) (block 0 0 0 0))
+    ∷ get 23 1 (0x94 ∷ []) (told 1 1 1) (1 ∷ 0 ∷ 5 ∷ 1 ∷ []) (0 ∷ 1 ∷ 1 ∷ 5 ∷ [])
+    ∷ [])
+    -- a low far below the layer: a thousand zeros
+    ∷ one
+    (loads-writer (to-write 65534 64534) ∷ puts 23 (1 ∷ []) (5 ∷ []) (0 ∷ []) a-thousand
+    ∷ loads-reader (to-read 65534 64534) ∷ get 23 1 a-thousand (told 1 126 1) (1 ∷ 0 ∷ 5 ∷ 1 ∷ []) (0 ∷ 1 ∷ 1 ∷ 5 ∷ [])
+    ∷ [])
+    ∷ []
+
 pub rows : List Row
-rows = a-to-l ++ start-rows ++ write-rows ++ read-rows ++ range-rows ++ marker-rows ++ slip-rows ++ segment-rows
+rows = a-to-l ++ start-rows ++ write-rows ++ read-rows ++ range-rows ++ marker-rows ++ slip-rows ++ segment-rows ++ layer-rows
 
 -- ---- the statement: no row fails
 
 pub all-rows-hold : failing 0 rows ≡ []
-unfolding rows a-to-l start-rows write-rows read-rows range-rows marker-rows slip-rows segment-rows failing rowHolds
+unfolding rows a-to-l start-rows write-rows read-rows range-rows marker-rows slip-rows segment-rows layer-rows failing rowHolds
 all-rows-hold = refl

@@ -20,9 +20,10 @@ use Rattle.t800.specs.Segments.{termAll, bypass, firstLimit, nextLimit, 
 use Rattle.t800.specs.Segments.{increment, commaBits, lengthFields, readOnes, readComma}
 use Rattle.t800.specs.State.{writer, reader, blocksIn, bandNodes, bandLength, blocksFrom, blocksAt, endOf, blocks}
 use Rattle.t800.specs.State.{stateLength, bandAt, bands}
-use Rattle.t800.specs.Ranges.{badShape, badStyle, bandTooDeep, blockTooDeep, nodeInRange, blockInRange, bandInRange}
-use Rattle.t800.specs.Ranges.{bandsInRange, unusedBandsZero, validState}
-use Rattle.t800.specs.Start.{freshNodes, freshBlocks, freshBands, bandWords, freshState, setZeroPlanes, startRefusal, start}
+use Rattle.t800.specs.Ranges.{badShape, badStyle, bandTooDeep, blockTooDeep, nodeInRange, blockInRange, bandInRangeWith}
+use Rattle.t800.specs.Ranges.{bandsInRangeWith, unusedBandsZero, validStateWith}
+use Rattle.t800.specs.Start.{freshNodes, freshBlocks, freshBandsWith, bandWords, freshStateWith, setZeroPlanes, startRefusal, start}
+use Rattle.t800.specs.Start.{startWith}
 use Rattle.t800.specs.Reports.{recordWidth, reportWords, recordWords, bodyBytes, RecordForm, asRecords, asWords}
 use Rattle.t800.specs.WriteHeader.{Contribution, isNew, lengthBitsBefore, setNewBlocks, codeInclusion, codeZeroPlanes}
 use Rattle.t800.specs.WriteHeader.{codePasses, codeBlock, codeBlocks, codeHeader, segmentTooLong, fieldTooWide}
@@ -30,8 +31,9 @@ use Rattle.t800.specs.ReadHeader.{opensSegment, currentLimit, currentPas
 use Rattle.t800.specs.ReadHeader.{readZeroPlanesFrom, readZeroPlanes, firstReport, againReport, readIncluded, readNewBlock}
 use Rattle.t800.specs.ReadHeader.{readOldBlock, readBlock, readBlocks, readHeader}
 use Rattle.t800.specs.MarkerSegments.{sopBytes, ephBytes, withMarkers, readMarker, readSop, readEph}
-use Rattle.t800.specs.Packet.{wrongLists, measureRefusal, front, MeasureResult, measure, packet, writeRefusal, WriteResult}
-use Rattle.t800.specs.Packet.{write, readRefusal, readAbsent, readPresent, ReadResult, read}
+use Rattle.t800.specs.Packet.{wrongLists, measureRefusalWith, front, MeasureResult, measure, measureWith, packet, writeRefusalWith}
+use Rattle.t800.specs.Packet.{WriteResult}
+use Rattle.t800.specs.Packet.{write, writeWith, readRefusalWith, readAbsent, readPresent, ReadResult, read, readWith}
 use Rattle.t800.specs.Book.{BlockEntry, Entry, opensAt, newEntries, newBook, reportOf, recordsFrom, recordsOf, entryFrom}
 use Rattle.t800.specs.Book.{entry, addCounts}
 
@@ -232,14 +234,14 @@ unfolding same sumsFrom recordsWith fields startHolds measureHolds writeHolds li
     sum halvings floorLog2 overwrite bitsOf bitsAfter lastBytes packFrom pack byteIn heldBit getBit readBitsOnto readBits inFF endsInFF
     bytesTaken levelsFrom levels nodesIn nodes pathFrom pathToRoot setValue lowAfter nodeBits knownAfter codePath readNode readPath
     passBits readPasses termAll bypass firstLimit nextLimit isLimit segmentsFrom segmentsOf width bitLength increment commaBits
-    lengthFields readOnes readComma writer reader blocksIn bandNodes bandLength blocksFrom blocksAt endOf blocks stateLength bandAt
-    bands badShape badStyle bandTooDeep blockTooDeep nodeInRange blockInRange bandInRange bandsInRange unusedBandsZero validState
-    freshNodes freshBlocks freshBands bandWords freshState setZeroPlanes startRefusal start reportWords recordWords bodyBytes isNew
-    lengthBitsBefore setNewBlocks codeInclusion codeZeroPlanes codePasses codeBlock codeBlocks codeHeader segmentTooLong fieldTooWide
-    opensSegment currentLimit currentPasses passesTaken readSegment readSegments readZeroPlanesFrom readZeroPlanes firstReport
-    againReport readIncluded readNewBlock readOldBlock readBlock readBlocks readHeader sopBytes ephBytes withMarkers readMarker readSop
-    readEph wrongLists measureRefusal front measure packet writeRefusal write readRefusal readAbsent readPresent read opensAt newEntries
-    newBook reportOf recordsFrom recordsOf entryFrom entry addCounts
+    lengthFields readOnes readComma writer reader blocksIn bandNodes bandLength blocksFrom blocksAt endOf blocks stateLength bandAt bands
+    badShape badStyle bandTooDeep blockTooDeep nodeInRange blockInRange bandInRangeWith bandsInRangeWith unusedBandsZero validStateWith
+    freshNodes freshBlocks freshBandsWith bandWords freshStateWith setZeroPlanes startRefusal startWith reportWords recordWords bodyBytes
+    isNew lengthBitsBefore setNewBlocks codeInclusion codeZeroPlanes codePasses codeBlock codeBlocks codeHeader segmentTooLong
+    fieldTooWide opensSegment currentLimit currentPasses passesTaken readSegment readSegments readZeroPlanesFrom readZeroPlanes
+    firstReport againReport readIncluded readNewBlock readOldBlock readBlock readBlocks readHeader sopBytes ephBytes withMarkers
+    readMarker readSop readEph wrongLists measureRefusalWith front measureWith packet writeRefusalWith writeWith readRefusalWith
+    readAbsent readPresent readWith opensAt newEntries newBook reportOf recordsFrom recordsOf entryFrom entry addCounts
 rowHolds row =
     let bs = row .given in
     let lent = scratchOf (stateLength bs) in

@@ -17,4 +17,5 @@ pub mod Interface
 pub mod Book
 pub mod Numbers
 pub mod RoundTrip
+pub mod FewerLayers
 pub mod Exports

@@ -15,17 +15,17 @@ use Rattle.t800.specs.Refusals.{Check, check, firstOf, listRefusal, stat
 use Rattle.t800.specs.Refusals.{widthRefusal, bodyRefusal, spaceRefusal, headerEndRefusal, recordsRefusal}
 use Rattle.t800.specs.Bits.{Decoded, bioAt, getBit, pack, bytesTaken}
 use Rattle.t800.specs.State.{Block, notYetIncluded, writer, reader, blocks, bands, layer}
-use Rattle.t800.specs.Ranges.{validState}
+use Rattle.t800.specs.Ranges.{validStateWith}
 use Rattle.t800.specs.Reports.{reportWidth, reportWords, RecordForm}
 use Rattle.t800.specs.WriteHeader.{Contribution, codeHeader, segmentTooLong, fieldTooWide}
 use Rattle.t800.specs.ReadHeader.{HeaderRead, readHeader}
 use Rattle.t800.specs.MarkerSegments.{withMarkers, MarkerRead, readSop, readEph}
 
--- ---- what is looked for first in measuring, writing and reading: 5, 6
+-- ---- what is looked for first in measuring, writing and reading, with so many layers: 5, 6
 
-abbrev pub stateChecks : (role : ℕ) (state : Words) (scratchLength : ℕ) → List Check
-stateChecks role state scratchLength =
-    check stateRefusal (not (validState role state scratchLength)) ∷ check layersRefusal (eqb (layer state) notYetIncluded) ∷ []
+abbrev pub stateChecksWith : (layers role : ℕ) (state : Words) (scratchLength : ℕ) → List Check
+stateChecksWith layers role state scratchLength =
+    check stateRefusal (not (validStateWith layers role state scratchLength)) ∷ check layersRefusal (eqb (layer state) layers) ∷ []
 
 -- ---- measuring
 
@@ -49,11 +49,11 @@ contributionChecks state p =
     let ks = blocks (bands state) in
     check listRefusal (wrongLists p (length ks)) ∷ check passesRefusal (any (λ c. ltb 164 c) (p .counts)) ∷ segmentChecks state ks p
 
-abbrev pub measureChecks : (state scratch : Words) → Contribution → List Check
-measureChecks state scratch p = stateChecks writer state (length scratch) ++ contributionChecks state p
+abbrev pub measureChecksWith : (layers : ℕ) (state scratch : Words) → Contribution → List Check
+measureChecksWith layers state scratch p = stateChecksWith layers writer state (length scratch) ++ contributionChecks state p
 
-unfoldable pub measureRefusal : (state scratch : Words) → Contribution → ℕ
-measureRefusal state scratch p = firstOf (measureChecks state scratch p)
+unfoldable pub measureRefusalWith : (layers : ℕ) (state scratch : Words) → Contribution → ℕ
+measureRefusalWith layers state scratch p = firstOf (measureChecksWith layers state scratch p)
 
 -- the packet less its body
 unfoldable pub front : (state : Words) → Contribution → Markers → (number : ℕ) → Bytes
@@ -64,9 +64,9 @@ pub record MeasureResult : Type 0 where
   pub scratch : Words
 
 -- the packet number has no part in the length
-unfoldable pub measure : (state scratch : Words) → Contribution → Markers → MeasureResult
-measure state scratch p m =
-    let why = measureRefusal state scratch p in
+unfoldable pub measureWith : (layers : ℕ) (state scratch : Words) → Contribution → Markers → MeasureResult
+measureWith layers state scratch p m =
+    let why = measureRefusalWith layers state scratch p in
     let done : MeasureResult = record {
       answer = record { refusal = 0; header = length (front state p m 0); body = sum (p .lengths) };
       scratch = codeHeader p state .words;
@@ -85,11 +85,14 @@ packetChecks state p body m number output =
     ∷ check spaceRefusal (ltb (length output) (length (packet state p body m number)))
     ∷ []
 
-abbrev pub writeChecks : (state scratch : Words) → Contribution → (body : Bytes) → Markers → (number : ℕ) (output : Bytes) → List Check
-writeChecks state scratch p body m number output = measureChecks state scratch p ++ packetChecks state p body m number output
+abbrev pub writeChecksWith : (layers : ℕ) (state scratch : Words) → Contribution → (body : Bytes) → Markers → (number : ℕ) (output : Bytes)
+    → List Check
+writeChecksWith layers state scratch p body m number output =
+    measureChecksWith layers state scratch p ++ packetChecks state p body m number output
 
-unfoldable pub writeRefusal : (state scratch : Words) → Contribution → (body : Bytes) → Markers → (number : ℕ) (output : Bytes) → ℕ
-writeRefusal state scratch p body m number output = firstOf (writeChecks state scratch p body m number output)
+unfoldable pub writeRefusalWith : (layers : ℕ) (state scratch : Words) → Contribution → (body : Bytes) → Markers → (number : ℕ)
+    (output : Bytes) → ℕ
+writeRefusalWith layers state scratch p body m number output = firstOf (writeChecksWith layers state scratch p body m number output)
 
 pub record WriteResult : Type 0 where
   pub answer : WriteAnswer
@@ -97,9 +100,10 @@ pub record WriteResult : Type 0 where
   pub scratch : Words
   pub output : Bytes
 
-unfoldable pub write : (state scratch : Words) → Contribution → (body : Bytes) → Markers → (number : ℕ) (output : Bytes) → WriteResult
-write state scratch p body m number output =
-    let why = writeRefusal state scratch p body m number output in
+unfoldable pub writeWith : (layers : ℕ) (state scratch : Words) → Contribution → (body : Bytes) → Markers → (number : ℕ) (output : Bytes)
+    → WriteResult
+writeWith layers state scratch p body m number output =
+    let why = writeRefusalWith layers state scratch p body m number output in
     let made = packet state p body m number in
     let after = codeHeader p state .words in
     let no : WriteAnswer = record { refusal = why; bytes = 0 } in
@@ -113,13 +117,13 @@ write state scratch p body m number output =
 -- ---- reading
 
 -- before the input is looked at: 5, 6, 3
-abbrev pub readListChecks : (state scratch reports : Words) → List Check
-readListChecks state scratch reports =
-    stateChecks reader state (length scratch)
+abbrev pub readListChecksWith : (layers : ℕ) (state scratch reports : Words) → List Check
+readListChecksWith layers state scratch reports =
+    stateChecksWith layers reader state (length scratch)
     ++ check listRefusal (not (eqb (length reports) (reportWidth * length (blocks (bands state))))) ∷ []
 
-unfoldable pub readRefusal : (state scratch reports : Words) → ℕ
-readRefusal state scratch reports = firstOf (readListChecks state scratch reports)
+unfoldable pub readRefusalWith : (layers : ℕ) (state scratch reports : Words) → ℕ
+readRefusalWith layers state scratch reports = firstOf (readListChecksWith layers state scratch reports)
 
 -- the bit after SOP says whether the packet is present
 abbrev pub firstBit : Markers → (src : Bytes) → Decoded
@@ -138,9 +142,9 @@ headerChecks present why =
     ∷ check headerEndRefusal (present && eqb why headerEndRefusal)
     ∷ []
 
-abbrev pub readChecks : (state scratch : Words) → Markers → (src : Bytes) (reports : Words) (room : ℕ) → List Check
-readChecks state scratch m src reports room =
-    readListChecks state scratch reports
+abbrev pub readChecksWith : (layers : ℕ) (state scratch : Words) → Markers → (src : Bytes) (reports : Words) (room : ℕ) → List Check
+readChecksWith layers state scratch m src reports room =
+    readListChecksWith layers state scratch reports
     ++ headerChecks (not (eqb (firstBit m src .value) 0)) (headerOf state m src room .refusal)
 
 -- the records are lent in either form
@@ -190,10 +194,10 @@ readPresent form state m src records sop r =
       records = form .stored records (r .records);
     }
 
-unfoldable pub read : (form : RecordForm) (state scratch : Words) → Markers → (src : Bytes) (reports : Words) (records : form .Lent)
-    → ReadResult form
-read form state scratch m src reports records =
-    let why = readRefusal state scratch reports in
+unfoldable pub readWith : (layers : ℕ) (form : RecordForm) (state scratch : Words) → Markers → (src : Bytes) (reports : Words)
+    (records : form .Lent) → ReadResult form
+readWith layers form state scratch m src reports records =
+    let why = readRefusalWith layers state scratch reports in
     let sop = readSop m src in
     let first = firstBit m src in
     let r = headerOf state m src (form .room records) in
@@ -210,3 +214,39 @@ read form state scratch m src reports records =
     let unchanged : ReadResult form =
     record { answer = refusedAnswer why; state = state; scratch = scratch; reports = reports; records = records } in
     cond (not (eqb why 0)) unchanged (cond (eqb (first .value) 0) absent (cond (eqb (r .refusal) 0) present broken))
+
+-- ---- the calls, with all layers
+
+abbrev pub stateChecks : (role : ℕ) (state : Words) (scratchLength : ℕ) → List Check
+stateChecks = stateChecksWith notYetIncluded
+
+abbrev pub measureChecks : (state scratch : Words) → Contribution → List Check
+measureChecks = measureChecksWith notYetIncluded
+
+abbrev pub measureRefusal : (state scratch : Words) → Contribution → ℕ
+measureRefusal = measureRefusalWith notYetIncluded
+
+abbrev pub measure : (state scratch : Words) → Contribution → Markers → MeasureResult
+measure = measureWith notYetIncluded
+
+abbrev pub writeChecks : (state scratch : Words) → Contribution → (body : Bytes) → Markers → (number : ℕ) (output : Bytes) → List Check
+writeChecks = writeChecksWith notYetIncluded
+
+abbrev pub writeRefusal : (state scratch : Words) → Contribution → (body : Bytes) → Markers → (number : ℕ) (output : Bytes) → ℕ
+writeRefusal = writeRefusalWith notYetIncluded
+
+abbrev pub write : (state scratch : Words) → Contribution → (body : Bytes) → Markers → (number : ℕ) (output : Bytes) → WriteResult
+write = writeWith notYetIncluded
+
+abbrev pub readListChecks : (state scratch reports : Words) → List Check
+readListChecks = readListChecksWith notYetIncluded
+
+abbrev pub readRefusal : (state scratch reports : Words) → ℕ
+readRefusal = readRefusalWith notYetIncluded
+
+abbrev pub readChecks : (state scratch : Words) → Markers → (src : Bytes) (reports : Words) (room : ℕ) → List Check
+readChecks = readChecksWith notYetIncluded
+
+abbrev pub read : (form : RecordForm) (state scratch : Words) → Markers → (src : Bytes) (reports : Words) (records : form .Lent)
+    → ReadResult form
+read = readWith notYetIncluded

@@ -49,29 +49,40 @@ blockInRange state at =
     && cond none (eqb (lengthBits state at) 0) (leb 3 (lengthBits state at) && leb (lengthBits state at) 32)
     && cond (none || eqb (role state) writer) (eqb limit 0 && eqb used 0) (isLimit (style state) limit && leb 1 used && leb used limit)
 
-unfoldable pub bandInRange : (state : Words) (bandStart : ℕ) → Band → Bool
-bandInRange state bandStart b =
-    every (bandNodes b) (λ i. nodeInRange state notYetIncluded (bandStart + 3 * i))
+-- `layers` is the number of layers, and with that "not yet" in the inclusion tree
+unfoldable pub bandInRangeWith : (layers : ℕ) (state : Words) (bandStart : ℕ) → Band → Bool
+bandInRangeWith layers state bandStart b =
+    every (bandNodes b) (λ i. nodeInRange state layers (bandStart + 3 * i))
     && every (bandNodes b) (λ i. nodeInRange state notYetPlanes (bandStart + 3 * bandNodes b + 3 * i))
     && every (blocksIn b) (λ i. blockInRange state (bandStart + 6 * bandNodes b + 4 * i))
 
-unfoldable pub bandsInRange : (state : Words) (bandStart : ℕ) → List Band → Bool
-bandsInRange state bandStart [] = true
-bandsInRange state bandStart (b ∷ bs) = bandInRange state bandStart b && bandsInRange state (bandStart + bandLength b) bs
+unfoldable pub bandsInRangeWith : (layers : ℕ) (state : Words) (bandStart : ℕ) → List Band → Bool
+bandsInRangeWith layers state bandStart [] = true
+bandsInRangeWith layers state bandStart (b ∷ bs) =
+    bandInRangeWith layers state bandStart b && bandsInRangeWith layers state (bandStart + bandLength b) bs
 
 -- the words of bands that are not used are 0
 unfoldable pub unusedBandsZero : (state : Words) → Bool
 unusedBandsZero state = every 9 (λ i. ltb i (3 * bandCount state) || eqb (getD state (4 + i) 0) 0)
 
 -- refusal 5 is given where this fails
-unfoldable pub validState : (callRole : ℕ) (state : Words) (scratchLength : ℕ) → Bool
-validState callRole state scratchLength =
+unfoldable pub validStateWith : (layers callRole : ℕ) (state : Words) (scratchLength : ℕ) → Bool
+validStateWith layers callRole state scratchLength =
     eqb (role state) callRole
     && not (badShape (bandCount state) (bands state))
     && not (badStyle (style state))
-    && leb (layer state) notYetIncluded
+    && leb (layer state) layers
     && not (bandTooDeep (bands state))
     && unusedBandsZero state
     && eqb (length state) (stateLength (bands state))
     && eqb scratchLength (length state)
-    && bandsInRange state 13 (bands state)
+    && bandsInRangeWith layers state 13 (bands state)
+
+abbrev pub bandInRange : (state : Words) (bandStart : ℕ) → Band → Bool
+bandInRange = bandInRangeWith notYetIncluded
+
+abbrev pub bandsInRange : (state : Words) (bandStart : ℕ) → List Band → Bool
+bandsInRange = bandsInRangeWith notYetIncluded
+
+abbrev pub validState : (callRole : ℕ) (state : Words) (scratchLength : ℕ) → Bool
+validState = validStateWith notYetIncluded

@@ -23,10 +23,11 @@ unfoldable pub freshBlocks : (count : ℕ) → Words
 freshBlocks zero = []
 freshBlocks (suc count) = 0 ∷ 0 ∷ 0 ∷ 0 ∷ freshBlocks count
 
-unfoldable pub freshBands : List Band → Words
-freshBands [] = []
-freshBands (b ∷ bs) =
-    freshNodes notYetIncluded (bandNodes b) ++ freshNodes notYetPlanes (bandNodes b) ++ freshBlocks (blocksIn b) ++ freshBands bs
+-- with so many layers, which is "not yet" in the inclusion tree
+unfoldable pub freshBandsWith : (layers : ℕ) → List Band → Words
+freshBandsWith layers [] = []
+freshBandsWith layers (b ∷ bs) =
+    freshNodes layers (bandNodes b) ++ freshNodes notYetPlanes (bandNodes b) ++ freshBlocks (blocksIn b) ++ freshBandsWith layers bs
 
 -- three words for each of so many bands, 0 where there is none
 unfoldable pub bandWords : List Band → (count : ℕ) → Words
@@ -34,8 +35,8 @@ bandWords bs zero = []
 bandWords [] (suc count) = 0 ∷ 0 ∷ 0 ∷ bandWords [] count
 bandWords (b ∷ bs) (suc count) = b .across ∷ b .down ∷ b .planes ∷ bandWords bs count
 
-unfoldable pub freshState : (role style : ℕ) → List Band → Words
-freshState role style bs = role ∷ length bs ∷ style ∷ 0 ∷ bandWords bs 3 ++ freshBands bs
+unfoldable pub freshStateWith : (layers role style : ℕ) → List Band → Words
+freshStateWith layers role style bs = role ∷ length bs ∷ style ∷ 0 ∷ bandWords bs 3 ++ freshBandsWith layers bs
 
 -- each block's zero planes, its band's planes minus its own, are set in the zero-plane tree
 unfoldable pub setZeroPlanes : List Block → (planes state : Words) → Words
@@ -66,9 +67,20 @@ unfoldable pub startRefusal : (role count : ℕ) (given : List Band) (style : �
 unfolding writer
 startRefusal role count given style planes lent = firstOf (startChecks role count given style planes lent)
 
-unfoldable pub start : (role count : ℕ) (given : List Band) (style : ℕ) (planes lent : Words) → StartResult
-start role count given style planes lent =
+unfoldable pub startWith : (layers role count : ℕ) (given : List Band) (style : ℕ) (planes lent : Words) → StartResult
+startWith layers role count given style planes lent =
     let why = startRefusal role count given style planes lent in
     let bs = take count given in
-    let filled = setZeroPlanes (blocks bs) planes (freshState role style bs) in
+    let filled = setZeroPlanes (blocks bs) planes (freshStateWith layers role style bs) in
     record { answer = why; state = cond (eqb why 0) filled lent }
+
+-- ---- with all layers
+
+abbrev pub freshBands : List Band → Words
+freshBands = freshBandsWith notYetIncluded
+
+abbrev pub freshState : (role style : ℕ) → List Band → Words
+freshState = freshStateWith notYetIncluded
+
+abbrev pub start : (role count : ℕ) (given : List Band) (style : ℕ) (planes lent : Words) → StartResult
+start = startWith notYetIncluded

@@ -8,9 +8,9 @@ use Rattle.t800.specs.declared.Band.{Band}
 use Rattle.t800.specs.Base.{Words}
 use Rattle.t800.specs.TagTree.{nodes, pathToRoot}
 
--- "not yet" in the inclusion tree, which gives as many layers, and in the zero-plane tree
+-- "not yet" in the inclusion tree, which gives as many layers (T.800, A.6.1), and in the zero-plane tree
 abbrev pub notYetIncluded : ℕ
-notYetIncluded = 999
+notYetIncluded = 65535
 
 abbrev pub notYetPlanes : ℕ
 notYetPlanes = 999

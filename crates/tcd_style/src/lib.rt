@@ -102,7 +102,7 @@ pub const WRITER: u32 = 1;
 pub const READER: u32 = 2;
 
 // "Not yet" in the inclusion tree, and so the number of layers; and in the zero-plane tree.
-pub const NOT_YET_INCLUDED: u32 = 999;
+pub const NOT_YET_INCLUDED: u32 = 65535;
 
 pub const NOT_YET_PLANES: u32 = 999;
 

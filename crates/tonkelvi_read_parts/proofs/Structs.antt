@@ -18,7 +18,7 @@ use Rattle.t800.specs.declared.SegmentRecord.{SegmentRecord}
 use Rattle.t800.specs.Reports.{reportWidth, bodyBytes, RecordForm, asRecords, asWords}
 use Rattle.t800.specs.MarkerSegments.{readSop}
 use Rattle.t800.specs.ReadHeader.{HeaderRead, readHeader}
-use Rattle.t800.specs.Packet.{ReadResult, refusedAnswer, readRefusal, readAbsent, readPresent, read, readResult}
+use Rattle.t800.specs.Packet.{ReadResult, refusedAnswer, readRefusal, readRefusalWith, readAbsent, readPresent, read, readWith, readResult}
 use Rattle.t800_laws.proofs.Laws.Tests.{if-true, if-false, either}
 use Rattle.t800_laws.proofs.Laws.StateAfter.{read-in-range}
 use Rattle.t800_laws.proofs.Laws.Starts.{header-starts, header-bytes}
@@ -37,7 +37,7 @@ use Rattle.t2_read_numbers.proofs.Numbers.{numbers-refused, numbers-read}
 -- 5, 6 and 3 store nothing
 early-stores-none : (ws scratch reports : List ℕ) (room : ℕ) → readRefusal ws scratch reports ≢ 0
     → toFill (refusedAnswer (readRefusal ws scratch reports)) room ≡ 0
-unfolding readRefusal toFill
+unfolding readRefusalWith toFill
 early-stores-none ws scratch reports room =
     either None (not (validState reader ws (length scratch))) 5 _ (λ n. refl)
     (either None (eqb (layer ws) notYetIncluded) 6 _ (λ n. refl)
@@ -84,7 +84,7 @@ module _ (ws scratch : List ℕ) (m : Markers) (src reports : List ℕ) where
 
   read-is-at : (form : RecordForm) (records : form .Lent)
       → read form ws scratch m src reports records ≡ readAt (form .room records) form records
-  unfolding read readAt
+  unfolding readWith readAt
   read-is-at form records = refl
 
   -- a header that is refused gives 9, 12 or 13, and all records are stored

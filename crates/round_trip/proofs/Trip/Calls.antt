@@ -18,8 +18,9 @@ use Rattle.t800.specs.Ranges.{validState}
 use Rattle.t800.specs.WriteHeader.{Contribution, codeHeader, segmentTooLong, fieldTooWide}
 use Rattle.t800.specs.ReadHeader.{readHeader}
 use Rattle.t800.specs.MarkerSegments.{readSop}
-use Rattle.t800.specs.Packet.{wrongLists, measureChecks, measureRefusal, front, packet, packetChecks, writeRefusal, WriteResult, write}
-use Rattle.t800.specs.Packet.{readRefusal, readAbsent, readPresent, ReadResult, read}
+use Rattle.t800.specs.Packet.{wrongLists, measureChecks, measureRefusal, measureRefusalWith, front, packet, packetChecks, writeRefusal}
+use Rattle.t800.specs.Packet.{writeRefusalWith, WriteResult, write, writeWith}
+use Rattle.t800.specs.Packet.{readRefusal, readAbsent, readPresent, ReadResult, readWith}
 use Rattle.t800.specs.Book.{BlockEntry, addCounts, terminatedAsStyle}
 use Rattle.t800.specs.Interface.{WriteCall, writeOf, ReadCall, readOf}
 use Rattle.round_trip.proofs.Trip.Lists.{WriterCall, measuring, writing, accepted, owedFor, owed, allTerminatedAsStyle}
@@ -33,7 +34,7 @@ use Rattle.round_trip.proofs.Trip.WriterState.{Acceptable}
 
 measured : (ws scratch : List ℕ) (p : Contribution) → measureRefusal ws scratch p ≡ 0 → (layer ws ≢ notYetIncluded)
     × Acceptable ws (blocks (bands ws)) p
-unfolding measureRefusal
+unfolding measureRefusalWith
 measured ws scratch p e =
     let ks : List Block = blocks (bands ws) in
     let c₁ = not-refused (not (validState writer ws (length scratch))) 5 _ (omega arith) e in
@@ -82,18 +83,18 @@ module _ (ws scratch : List ℕ) (p : Contribution) (body : List ℕ) (m : Marke
         scratch = codeHeader p ws .words;
         output = overwrite output (packet ws p body m number);
       }
-  unfolding write
+  unfolding writeWith
   write-done e = if-true (eqb why 0) _ _ e
 
   write-refused : eqb why 0 ≡ false → (write ws scratch p body m number output .state ≡ ws)
       × (write ws scratch p body m number output .answer .refusal ≡ why)
-  unfolding write
+  unfolding writeWith
   write-refused e =
       let P : WriteResult → Type 0 = λ w. (w .state ≡ ws) × (w .answer .refusal ≡ why) in
       of-false P (eqb why 0) _ _ e (either P (eqb why 11) _ _ (refl, refl) (refl, refl))
 
   write-zero : why ≡ 0 → (measureRefusal ws scratch p ≡ 0) × (length body ≡ sum (p .lengths))
-  unfolding measureRefusal writeRefusal
+  unfolding measureRefusalWith writeRefusalWith
   write-zero e =
       let c₁ = both-zero (eqb (measureRefusal ws scratch p) 0) (measureRefusal ws scratch p) _ refl
       (sym (first-append (packetChecks ws p body m number output) (measureChecks ws scratch p) (omega arith)) ∙ e) in
@@ -224,7 +225,7 @@ first-owed s ws es (writing c ∷ cs) h = go (accepted ws c) refl (λ g. first-o
 
 pub refused-read-keeps : (form : RecordForm) (rs : List ℕ) (c : ReadCall form) → 0 < readOf form rs c .answer .refusal
     → readOf form rs c .state ≡ rs
-unfolding read readAbsent readPresent
+unfolding readWith readAbsent readPresent
 refused-read-keeps form rs c =
     let P : ReadResult form → Type 0 = λ r. 0 < r .answer .refusal → r .state ≡ rs in
     let first = getBit (c .input) (bioAt (readSop (c .markers) (c .input) .skip)) in

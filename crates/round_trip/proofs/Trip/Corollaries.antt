@@ -17,7 +17,7 @@ use Rattle.t800.specs.Base.{sum, overwrite}
 use Rattle.t800.specs.declared.SegmentRecord.{SegmentRecord}
 use Rattle.t800.specs.Reports.{BlockReport, reportWords, reportWidth, RecordForm, noRecord, asRecords}
 use Rattle.t800.specs.State.{blocks, writer, reader}
-use Rattle.t800.specs.Start.{startRefusal, start}
+use Rattle.t800.specs.Start.{startRefusal, start, startWith}
 use Rattle.t800.specs.Book.{BlockEntry, Entry, reportOf, entryFrom, entry, newBook, addCounts, terminatedAsStyle}
 use Rattle.t800.specs.Interface.{WriteCall, writeOf, ReadCall, readOf}
 use Rattle.t800.specs.RoundTrip.{Owed, ReadsPacket, GivesEntry}
@@ -159,7 +159,7 @@ module _ (bs : List Band) (s : ℕ) where
 -- a reader can be started wherever a writer can
 reader-starts : (n : ℕ) (given : List Band) (s : ℕ) (planes lent : List ℕ) → start writer n given s planes lent .answer ≡ 0
     → start reader n given s [] lent .answer ≡ 0
-unfolding start startRefusal writer reader
+unfolding startWith startRefusal writer reader
 reader-starts n given s planes lent e =
     let w = start-accepted writer n given s planes lent e in
     rw (

@@ -1,9 +1,9 @@
--- How long a header can be: a block that nothing refuses takes at most 20,000 bits, and bits take at most as many bytes and two.
+-- How long a header can be: a block that nothing refuses takes at most `blockBits` bits, and bits take at most as many bytes and two.
 use mathlib.Core.Path.{_≡_, refl, sym, ap, _∙_}
 use mathlib.Core.Bool.{false, cond, _&&_, _||_, not}
 use mathlib.Core.List.{List, [], _∷_, _++_, reverse}
 use Prim.Native.Nat.{ℕ, zero, suc, _+_, _-_, _*_, _/_, _^_, _≤_, _<_, _%_, max}
-use native.Mathlib.Nat.{mul-le-mul, le-trans}
+use native.Mathlib.Nat.{mul-le-mul, le-trans, le-refl}
 use native.Mathlib.Omega.{arith}
 use lib.ListN.{length, getD, set, replicate, take, drop, length-append, length-replicate, length-reverse}
 use lib.Dec.{ltb, leb, eqb}
@@ -62,10 +62,14 @@ path-up-to base t (n ∷ ns) l ws =
     let vs : List ℕ = set (set ws (base + 3 * n + 1) to) (base + 3 * n + 2) (knownAfter v from k t) in
     omega (arith, length-append (nodeBits v from k t) (codePath base t ns to vs .bits), node-up-to v from k t, path-up-to base t ns to vs)
 
-from-root : (base t : ℕ) (ns ws : List ℕ) → length ns ≤ 7 → t ≤ 999 → length (codePath base t (reverse ns) 0 ws .bits) ≤ 7000
-from-root base t ns ws h m =
+-- from the root, with a threshold up to m
+abbrev pathBits : ℕ → ℕ
+pathBits m = 7 * (m + 1)
+
+from-root : (base t m : ℕ) (ns ws : List ℕ) → length ns ≤ 7 → t ≤ m → length (codePath base t (reverse ns) 0 ws .bits) ≤ pathBits m
+from-root base t m ns ws h l =
     let a : length (reverse ns) ≤ 7 = omega (arith, length-reverse ns) in
-    let b : t + 1 ≤ 1000 = omega arith in
+    let b : t + 1 ≤ m + 1 = omega arith in
     le-trans (path-up-to base t (reverse ns) 0 ws) (mul-le-mul a b)
 
 -- ---- passes and lengths
@@ -113,19 +117,26 @@ segments-up-to n bytes (l ∷ ls) (m ∷ ms) =
 
 -- ---- a block
 
+-- the codeword of its passes, the increment and 164 lengths
+abbrev countedBits : ℕ
+countedBits = 16 + 33 + 32 * 164
+
+abbrev pub blockBits : ℕ
+blockBits = pathBits notYetIncluded + pathBits notYetPlanes + countedBits
+
 module _ (L : Layout) (k : Block) (P : Placed L k) (short : length (k .path) ≤ 7) (t c : ℕ) (layer : t < notYetIncluded)
     (ls ms ws : List ℕ) where
-  inclusion-up-to : length (codeInclusion t k c ws .bits) ≤ 7000
+  inclusion-up-to : length (codeInclusion t k c ws .bits) ≤ pathBits notYetIncluded
   unfolding codeInclusion
-  inclusion-up-to = either (λ (z : Coded). length (z .bits) ≤ 7000) (isNew ws k) _ _
-      (from-root (k .inclTree) (t + 1) (k .path) ws short (omega arith)) (omega arith)
+  inclusion-up-to = either (λ (z : Coded). length (z .bits) ≤ pathBits notYetIncluded) (isNew ws k) _ _
+      (from-root (k .inclTree) (t + 1) notYetIncluded (k .path) ws short (omega arith)) (omega arith)
 
-  planes-up-to : (vs : List ℕ) → length (codeZeroPlanes k vs .bits) ≤ 7000
+  planes-up-to : (vs : List ℕ) → length (codeZeroPlanes k vs .bits) ≤ pathBits notYetPlanes
   unfolding codeZeroPlanes
-  planes-up-to vs = either (λ (z : Coded). length (z .bits) ≤ 7000) (isNew vs k) _ _
-      (from-root (k .zeroTree) notYetPlanes (k .path) vs short (omega arith)) (omega arith)
+  planes-up-to vs = either (λ (z : Coded). length (z .bits) ≤ pathBits notYetPlanes) (isNew vs k) _ _
+      (from-root (k .zeroTree) notYetPlanes notYetPlanes (k .path) vs short (le-refl notYetPlanes)) (omega arith)
 
-  counted-up-to : (vs : List ℕ) → 0 < c → Codable t vs k c ls ms → length (codePasses k c (segmentsOf ls ms) vs .bits) ≤ 5400
+  counted-up-to : (vs : List ℕ) → 0 < c → Codable t vs k c ls ms → length (codePasses k c (segmentsOf ls ms) vs .bits) ≤ countedBits
   unfolding codePasses segmentsOf
   counted-up-to vs some d =
       let gs : List Segment = segmentsOf ls ms in
@@ -145,7 +156,7 @@ module _ (L : Layout) (k : Block) (P : Placed L k) (short : length (k .path) ≤
         now,
       )
 
-  pub block-up-to : length ws ≡ L .size → Codable t ws k c ls ms → length (codeBlock t k c (segmentsOf ls ms) ws .bits) ≤ 20000
+  pub block-up-to : length ws ≡ L .size → Codable t ws k c ls ms → length (codeBlock t k c (segmentsOf ls ms) ws .bits) ≤ blockBits
   unfolding codeBlock
   block-up-to long d =
       let i : Coded = codeInclusion t k c ws in
@@ -172,7 +183,7 @@ ShortPaths (k ∷ ks) = (length (k .path) ≤ 7) × ShortPaths ks
 
 blocks-up-to : (L : Layout) (t : ℕ) (ks : List Block) (cs ls ms ws : List ℕ) → t < notYetIncluded → AllPlaced L ks → ShortPaths ks
     → length ws ≡ L .size → AllCodable t ws ks cs ls ms
-    → length (codeBlocks t ks cs ls ms ws .bits) ≤ 20000 * length ks
+    → length (codeBlocks t ks cs ls ms ws .bits) ≤ blockBits * length ks
 unfolding codeBlocks
 blocks-up-to L t [] cs ls ms ws h f s long d = omega arith
 blocks-up-to L t (k ∷ ks) [] ls ms ws h f s long d = omega arith
@@ -222,7 +233,7 @@ new-values L t (k ∷ ks) (c ∷ cs) ws f =
 
 pub header-up-to : (L : Layout) (t : ℕ) (bs : List Band) (p : Contribution) (ws : List ℕ) → t < notYetIncluded
     → AllPlaced L (blocks bs) → length ws ≡ L .size → ((q : ℕ) → L .BlockAt q → passesSoFar ws q ≤ 164 * t)
-    → Acceptable ws (blocks bs) p → length (headerBlocks t (blocks bs) p ws .bits) ≤ 20000 * length (blocks bs)
+    → Acceptable ws (blocks bs) p → length (headerBlocks t (blocks bs) p ws .bits) ≤ blockBits * length (blocks bs)
 unfolding blocks
 header-up-to L t bs p ws h f long most q =
     let ks : List Block = blocksAt 13 bs in

@@ -12,7 +12,7 @@ use Rattle.t800.specs.declared.Band.{Band}
 use Rattle.t800.specs.Refusals.{check, firstOf, shapeRefusal, styleRefusal, listRefusal, planesRefusal}
 use Rattle.t800.specs.State.{writer, reader, blocks, stateLength}
 use Rattle.t800.specs.Ranges.{badShape, badStyle, bandTooDeep, blockTooDeep, validState}
-use Rattle.t800.specs.Start.{freshState, setZeroPlanes, StartResult, startRefusal, start}
+use Rattle.t800.specs.Start.{freshState, setZeroPlanes, StartResult, startRefusal, start, startWith}
 use Rattle.t800.specs.Packet.{WriteResult, ReadResult}
 use Rattle.t800.specs.Book.{BlockEntry, addCounts, terminatedAsStyle}
 use Rattle.t800.specs.Interface.{StartCall, writeOf, readOf, Interface}
@@ -32,7 +32,7 @@ use Rattle.round_trip.proofs.Trip.RoundTrip.{all-packets-read}
 -- bands beyond the count have no part
 same-start : (role n : ℕ) (g h : List Band) (style : ℕ) (planes lent : List ℕ) → take n g ≡ take n h → n ≤ length g → n ≤ length h
     → start role n g style planes lent ≡ start role n h style planes lent
-unfolding start startRefusal
+unfolding startWith startRefusal
 same-start role n g h style planes lent e p q =
     let by : List Band → Bool → StartResult = λ bs short.
     let why = firstOf

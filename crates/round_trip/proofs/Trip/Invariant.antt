@@ -24,7 +24,7 @@ use Rattle.t800.specs.WriteHeader.{Contribution}
 use Rattle.t800.specs.MarkerSegments.{withMarkers}
 use Rattle.t800.specs.MarkerSegments.{MarkerRead, readSop}
 use Rattle.t800.specs.ReadHeader.{readHeader}
-use Rattle.t800.specs.Packet.{front, ReadResult, readRefusal, readAbsent, readPresent, read}
+use Rattle.t800.specs.Packet.{front, ReadResult, readRefusal, readRefusalWith, readAbsent, readPresent, read, readWith}
 use Rattle.t800.specs.Book.{BlockEntry, entryFrom, entry, newBook, addCounts, terminatedAsStyle}
 use Rattle.t800.specs.Interface.{WriteCall, writeOf, ReadCall, readOf}
 use Rattle.t800.specs.RoundTrip.{Owed, ReadsPacket, GivesEntry, withMore}
@@ -98,7 +98,7 @@ entry-reports s es cs ls h = reports-length s 0 0 es cs ls h
 
 read-not-refused : (rs scratch reports : List ℕ) → validState reader rs (length scratch) ≡ true → layer rs ≢ notYetIncluded
     → length reports ≡ reportWidth * length (blocks (bands rs)) → readRefusal rs scratch reports ≡ 0
-unfolding readRefusal
+unfolding readRefusalWith
 read-not-refused rs scratch reports v l r =
     rw (v, ne-eqb (layer rs) notYetIncluded l, eq-eqb (length reports) (reportWidth * length (blocks (bands rs))) r)
 
@@ -228,7 +228,7 @@ module _ (bs : List Band) (s t : ℕ) (ws rs : List ℕ) (es : List BlockEntry) 
   pub read-harmless : (form : RecordForm) (r : ReadCall form) → r .markers ≡ w .markers
       → take (length (owedFor s ws es w .front)) (r .input) ≡ owedFor s ws es w .front
       → Harmless form r (readOf form rs r .answer .refusal)
-  unfolding read readAbsent readPresent readRefusal owedFor
+  unfolding readWith readAbsent readPresent readRefusalWith owedFor
   read-harmless form r marked begins =
       let room : ℕ = form .room (r .records) in
       let src : List ℕ = r .input in

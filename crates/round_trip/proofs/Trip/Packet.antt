@@ -20,7 +20,7 @@ use Rattle.t800.specs.State.{Block, notYetIncluded, blocks, bands, layer}
 use Rattle.t800.specs.WriteHeader.{Contribution}
 use Rattle.t800.specs.ReadHeader.{HeaderRead, readBlocks, readHeader}
 use Rattle.t800.specs.MarkerSegments.{sopBytes, ephBytes, withMarkers, MarkerRead, readMarker, readSop, readEph}
-use Rattle.t800.specs.Packet.{ReadResult, readRefusal, readPresent, read}
+use Rattle.t800.specs.Packet.{ReadResult, readRefusal, readPresent, read, readWith}
 use Rattle.t800.specs.Book.{BlockEntry, Entry, entry, addCounts, terminatedAsStyle}
 use Rattle.t800_laws.proofs.Laws.Tests.{on-lt, if-true, if-ge, drop-head}
 use Rattle.t800_laws.proofs.Laws.Layout.{Layout, AllPlaced}
@@ -81,7 +81,7 @@ read-is : (form : RecordForm) (rs scratch : List ℕ) (m : Markers) (src reports
     → readSop m src ≡ found n → nextBit src (bioAt n) ≡ 1
     → readHeader src (form .room records) rs (bioAfter src (bioAt n)) ≡ readSoFar us end reps recs
     → read form rs scratch m src reports records ≡ readPresent form rs m src records (found n) (readSoFar us end reps recs)
-unfolding read
+unfolding readWith
 read-is form rs scratch m src reports records n us end reps recs e₁ e₂ e₃ e₄ = rw (e₁, e₂, e₃, e₄)
 
 present-is : (form : RecordForm) (rs : List ℕ) (t : ℕ) (m : Markers) (src : List ℕ) (records : form .Lent) (n : ℕ) (us : List ℕ)

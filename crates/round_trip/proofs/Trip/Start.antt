@@ -12,7 +12,7 @@ use Rattle.t800.specs.declared.Band.{Band}
 use Rattle.t800.specs.TagTree.{value, low}
 use Rattle.t800.specs.State.{Block, blocksIn, bandLength, blocksFrom, blocksAt, blocks, style, passesSoFar}
 use Rattle.t800.specs.Ranges.{badShape, bandTooDeep, blockTooDeep}
-use Rattle.t800.specs.Start.{freshState, setZeroPlanes}
+use Rattle.t800.specs.Start.{freshState, freshStateWith, setZeroPlanes}
 use Rattle.t800.specs.Book.{BlockEntry, newEntries, newBook}
 use Rattle.t800_laws.proofs.Laws.Tests.{or-left, or-right}
 use Rattle.t800_laws.proofs.Laws.Lists.{length-from}
@@ -120,7 +120,7 @@ module _ (bs : List Band) (s : ℕ) where
       }
 
   fresh-style : (r : ℕ) → style (fresh r) ≡ s
-  unfolding freshState
+  unfolding freshStateWith
   fresh-style r = refl
 
   -- ---- with the zero planes set

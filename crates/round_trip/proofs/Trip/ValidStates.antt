@@ -14,7 +14,8 @@ use Rattle.t800.specs.Base.{every}
 use Rattle.t800.specs.TagTree.{value, low, known}
 use Rattle.t800.specs.State.{notYetIncluded, notYetPlanes, bandNodes, blocksIn, bandLength, stateLength, endOf, writer, reader}
 use Rattle.t800.specs.State.{role, style, layer, passesSoFar, lengthBits}
-use Rattle.t800.specs.Ranges.{badShape, badStyle, bandTooDeep, nodeInRange, blockInRange, bandInRange, bandsInRange, validState}
+use Rattle.t800.specs.Ranges.{badShape, badStyle, bandTooDeep, nodeInRange, blockInRange, bandInRangeWith, bandsInRange, bandsInRangeWith}
+use Rattle.t800.specs.Ranges.{validState, validStateWith}
 use Rattle.t800_laws.proofs.Laws.Tests.{on-eq, if-true, if-false}
 use Rattle.t800_laws.proofs.Laws.Layout.{Tree, inclusion, zeroPlanes, notYet, NodeFrom, BlockFrom, layoutOf}
 use Rattle.t800_laws.proofs.Laws.FirstWords.{FirstWords}
@@ -99,7 +100,7 @@ bands-valid : (ws : List ℕ) (at : ℕ) (bs : List Band)
     → ((u : Tree) (a : ℕ) → NodeFrom u at bs a → nodeInRange ws (notYet u) a ≡ true)
     → ((p : ℕ) → BlockFrom at bs p → blockInRange ws p ≡ true)
     → bandsInRange ws at bs ≡ true
-unfolding bandsInRange bandInRange
+unfolding bandsInRangeWith bandInRangeWith
 bands-valid ws at [] f g = refl
 bands-valid ws at (b ∷ bs) f g =
     let n : ℕ = bandNodes b in
@@ -121,7 +122,7 @@ pub record Startable (bs : List Band) (s : ℕ) : Type 0 where
 state-valid : (r : ℕ) (bs : List Band) (s t : ℕ) (ws : List ℕ) (n : ℕ) → FirstWords r bs s t ws → Startable bs s
     → t ≤ notYetIncluded → length ws ≡ endOf 13 bs → n ≡ length ws → bandsInRange ws 13 bs ≡ true
     → validState r ws n ≡ true
-unfolding validState stateLength
+unfolding validStateWith stateLength
 state-valid r bs s t ws n h a ht l m g =
     rw (
       h .bands-are,

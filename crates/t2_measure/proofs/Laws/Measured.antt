@@ -9,7 +9,7 @@ use lib.Dec.{eqb}
 use Rattle.t800.specs.declared.Markers.{Markers}
 use Rattle.t800.specs.Base.{sum}
 use Rattle.t800.specs.WriteHeader.{Contribution, codeHeader}
-use Rattle.t800.specs.Packet.{measureRefusal, front, MeasureResult, measure}
+use Rattle.t800.specs.Packet.{measureRefusal, front, MeasureResult, measure, measureWith}
 use Rattle.t800_laws.proofs.Laws.Tests.{if-eq, if-ne}
 use Rattle.t2_refusal_laws.specs.Refusals.{measureRefusalFor}
 use Rattle.t2_refusals.proofs.Laws.ScratchLength.{refusal-by-scratch-length}
@@ -22,7 +22,7 @@ module _ (ws scratch : List ℕ) (p : Contribution) (m : Markers) (why : ℕ) (i
 
   pub measure-refused : why ≢ 0 → record { answer = record { refusal = why; header = 0; body = 0 }; scratch = scratch }
       ≡ measure ws scratch p m
-  unfolding measure
+  unfolding measureWith
   measure-refused h =
       let e = refusal-is in
       let answer : ℕ → MeasureResult = λ k. record { answer = record { refusal = k; header = 0; body = 0 }; scratch = scratch } in
@@ -35,7 +35,7 @@ module _ (ws scratch : List ℕ) (p : Contribution) (m : Markers) (why : ℕ) (i
 
   pub measure-done : (bytes : List ℕ) (body : ℕ) (h : HeaderCoded) → why ≡ 0 → h ≡ putFront p ws m 0 bytes → body ≡ sum (p .lengths)
       → record { answer = record { refusal = 0; header = h .end; body = body }; scratch = h .words } ≡ measure ws scratch p m
-  unfolding measure putFront
+  unfolding measureWith putFront
   measure-done bytes body h z f b =
       let answer : ℕ → MeasureResult = λ k. record { answer = record { refusal = k; header = 0; body = 0 }; scratch = scratch } in
       let done : MeasureResult =

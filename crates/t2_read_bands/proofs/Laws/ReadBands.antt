@@ -8,7 +8,7 @@ use native.Mathlib.Omega.{arith}
 use lib.ListN.{drop}
 use Rattle.t800.specs.declared.Band.{Band}
 use Rattle.t800.specs.State.{Block, layer, blocksIn, bandNodes, bandLength, blocksAt, notYetIncluded}
-use Rattle.t800.specs.Ranges.{bandInRange, bandsInRange}
+use Rattle.t800.specs.Ranges.{bandInRange, bandsInRange, bandsInRangeWith}
 use Rattle.t800_laws.proofs.Laws.Layout.{band-length}
 use Rattle.t800_laws.proofs.Laws.Lists.{length-from}
 use Rattle.t800_laws.proofs.Laws.Tests.{and-right}
@@ -24,7 +24,7 @@ use Rattle.t2_read_bands.specs.Bands.{BandFits, BandsFit}
 -- ---- what refusal 5 establishes
 
 pub bands-fit : (ws : List ℕ) (at : ℕ) (bs : List Band) → layer ws < notYetIncluded → bandsInRange ws at bs ≡ true → BandsFit ws at bs
-unfolding bandsInRange
+unfolding bandsInRangeWith
 bands-fit ws at [] h e = tt
 bands-fit ws at (b ∷ bs) h e = (
   λ i l. let k = block-bounds ws (at + 6 * bandNodes b + 4 * i)

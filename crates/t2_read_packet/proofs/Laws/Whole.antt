@@ -10,14 +10,14 @@ use Rattle.t800.specs.declared.ReadAnswer.{ReadAnswer}
 use Rattle.t800.specs.Bits.{Decoded, bioAt, getBit}
 use Rattle.t800.specs.MarkerSegments.{MarkerRead, readMarker, readSop}
 use Rattle.t800.specs.ReadHeader.{readHeader}
-use Rattle.t800.specs.Packet.{ReadResult, refusedAnswer, readRefusal, readAbsent, read, readResult}
+use Rattle.t800.specs.Packet.{ReadResult, refusedAnswer, readRefusal, readAbsent, read, readWith, readResult}
 use Rattle.t2_read_present.specs.Answers.{presentOrBroken}
 use Rattle.t800.specs.Reports.{recordWidth, asWords}
 
 module _ (ws scratch : List ℕ) (m : Markers) (src reports records : List ℕ) where
   pub unchanged-is : (why : ℕ) (answer : ReadAnswer) → why ≡ readRefusal ws scratch reports → why ≢ 0 → answer ≡ refusedAnswer why
       → readResult asWords ws scratch reports records answer ≡ read asWords ws scratch m src reports records
-  unfolding read
+  unfolding readWith
   unchanged-is why answer e n a =
       ap (readResult asWords ws scratch reports records) (a ∙ ap refusedAnswer e)
       ∙ rw (ne-eqb (readRefusal ws scratch reports) 0 (λ z. n (e ∙ z)))
@@ -33,7 +33,7 @@ module _ (ws scratch : List ℕ) (m : Markers) (src reports records : List ℕ) 
 
     pub read-absent-is : (o : ReadResult asWords) → first .value ≡ 0 → o ≡ readAbsent asWords ws m src reports records s (first .bio) → o
         ≡ read asWords ws scratch m src reports records
-    unfolding read
+    unfolding readWith
     read-absent-is o z e =
         e ∙ (λ j. readAbsent asWords ws m src reports records (sop-is j) (first-is j .bio))
         ∙ rw (
@@ -44,7 +44,7 @@ module _ (ws scratch : List ℕ) (m : Markers) (src reports records : List ℕ) 
     pub read-present-is : (o : ReadResult asWords) → first .value ≢ 0 → o
         ≡ presentOrBroken ws scratch m src reports records s (readHeader src (length records / recordWidth) ws (first .bio)) → o
         ≡ read asWords ws scratch m src reports records
-    unfolding read presentOrBroken
+    unfolding readWith presentOrBroken
     read-present-is o z e =
         e ∙ (λ j. presentOrBroken ws scratch m src reports records (sop-is j)
         (readHeader src (length records / recordWidth) ws (first-is j .bio)))

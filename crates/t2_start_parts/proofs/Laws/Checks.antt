@@ -11,7 +11,7 @@ use borrow.Author.Tests.{le-ltb, eq-eqb, ne-eqb}
 use Rattle.t800.specs.declared.Band.{Band}
 use Rattle.t800.specs.State.{writer, reader, blocks, stateLength}
 use Rattle.t800.specs.Ranges.{badShape, badStyle, bandTooDeep, blockTooDeep}
-use Rattle.t800.specs.Start.{StartResult, freshState, setZeroPlanes, startRefusal, start}
+use Rattle.t800.specs.Start.{StartResult, freshState, setZeroPlanes, startRefusal, start, startWith}
 use Rattle.t800_laws.proofs.Laws.Tests.{if-true, if-false, on-eq}
 use Rattle.t800_laws.proofs.Laws.Lists.{no-planes}
 use Rattle.t800_laws.proofs.Laws.FreshState.{fresh-length}
@@ -66,7 +66,7 @@ module _ (r n : ℕ) (given : List Band) (s : ℕ) (planes lent : List ℕ) wher
   -- ---- no refusal
 
   pub accepted : startRefusal r n given s planes lent ≡ 0 → StartAccepted r n given s planes lent
-  unfolding start
+  unfolding startWith
   accepted e = start-accepted r n given s planes lent e
 
   -- a state that can be filled
@@ -107,7 +107,7 @@ module _ (r n : ℕ) (given : List Band) (s : ℕ) (planes lent : List ℕ) wher
       ∙ if-true _ _ _ (eq-eqb (startRefusal r n given s planes lent) 0 (sym (begun-answer why ws e) ∙ z))
 
   refused-too : startRefusal r n given s planes lent ≢ 0 → begun r n given s planes lent ≡ start r n given s planes lent
-  unfolding begun start
+  unfolding begun startWith
   refused-too h =
       let t = ne-eqb (startRefusal r n given s planes lent) 0 h in
       let q : begun r n given s planes lent .state ≡ start r n given s planes lent .state = if-false _ _ _ t ∙ sym (if-false _ _ _ t) in
@@ -119,7 +119,7 @@ module _ (r n : ℕ) (given : List Band) (s : ℕ) (planes lent : List ℕ) wher
 
   pub start-set : (why : ℕ) (ws vs : List ℕ) → answered why ws ≡ begun r n given s planes lent → why ≡ 0
       → vs ≡ setZeroPlanes (blocks (take n given)) planes ws → answered 0 vs ≡ start r n given s planes lent
-  unfolding start
+  unfolding startWith
   start-set why ws vs e z f =
       let a : 0 ≡ startRefusal r n given s planes lent = sym z ∙ begun-answer why ws e in
       let q : vs ≡ start r n given s planes lent .state = f

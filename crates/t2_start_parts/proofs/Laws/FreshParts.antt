@@ -8,7 +8,7 @@ use lib.Seq.{sets}
 use Rattle.t800.specs.declared.Band.{Band}
 use Rattle.t800.specs.Base.{wiped}
 use Rattle.t800.specs.State.{notYetIncluded, notYetPlanes, blocksIn, bandNodes, stateLength}
-use Rattle.t800.specs.Start.{freshNodes, freshBlocks, freshBands, bandWords, freshState}
+use Rattle.t800.specs.Start.{freshNodes, freshBlocks, freshBands, freshBandsWith, bandWords, freshState, freshStateWith}
 use Rattle.t800_laws.proofs.Laws.FreshState.{length-nodes, length-blocks, fresh-length}
 use Rattle.tcd_laws.specs.Geometry.{noBand}
 use Rattle.t2_start_planes.proofs.Laws.Runs.{sets-after, sets-whole, part-length, part-set}
@@ -83,7 +83,7 @@ own-set ws at n k =
 -- one band more
 pub own-turn : (ws : List ℕ) (l : List Band) (b : Band) (bs : List Band) (at n k : ℕ) → l ≡ b ∷ bs → n ≡ bandNodes b → k ≡ blocksIn b
     → sets (sets ws at (bandOwn n k)) (at + (6 * n + 4 * k)) (freshBands bs) ≡ sets ws at (freshBands l)
-unfolding freshBands
+unfolding freshBandsWith
 own-turn ws l b bs at n k e p q =
     sets-after ws at (6 * n + 4 * k) (bandOwn n k) (freshBands bs) (length-own n k)
     ∙ ap₂ (λ (x y : ℕ). sets ws at (bandOwn x y ++ freshBands bs)) p q ∙ ap (λ (z : List Band). sets ws at (freshBands z)) (sym e)
@@ -99,7 +99,7 @@ nine (a ∷ b ∷ c ∷ bs) = refl
 
 pub state-set : (ws : List ℕ) (r n s : ℕ) (bs : List Band) → length bs ≡ n → length ws ≡ stateLength bs
     → sets (sets (sets ws 0 (r ∷ n ∷ s ∷ 0 ∷ [])) 4 (bandWords bs 3)) 13 (freshBands bs) ≡ freshState r s bs
-unfolding freshState stateLength
+unfolding freshStateWith stateLength
 state-set ws r n s bs e h =
     let four : List ℕ = r ∷ n ∷ s ∷ 0 ∷ [] in
     let l : length (four ++ bandWords bs 3) ≡ 13 = omega (arith, nine bs) in

@@ -8,7 +8,7 @@ use lib.ListN.{length, getD, take, drop, length-take, drop-of-length-le}
 use lib.Seq.{sets}
 use Rattle.t800.specs.declared.Band.{Band}
 use Rattle.t800.specs.State.{bandLength, endOf, stateLength}
-use Rattle.t800.specs.Start.{freshBands}
+use Rattle.t800.specs.Start.{freshBands, freshBandsWith}
 use Rattle.t800_laws.proofs.Laws.Layout.{band-length}
 use Rattle.tcd_laws.specs.Geometry.{noBand}
 use Rattle.tcd_laws.proofs.Laws.Bands.{next-band, sides-of-first, end-turn}
@@ -114,7 +114,7 @@ same-length : tie.Need-same-length Inv-loop μ-loop
 same-length c = c .before .loop .inv .1
 
 returns : tie.Need-returns Inv-loop μ-loop
-unfolding freshBands
+unfolding freshBandsWith
 returns c = let l = c .before .loop in let s = c .before .before .before in let z =
     drop-of-length-le (take (s .args .n) (s .args .t2)) {i = l .i} (simp length-take (omega arith)) in rw z at (l .inv .3)
 

@@ -12,7 +12,8 @@ use borrow.Author.Tests.{eq-eqb, ne-eqb, lt-ltb, le-ltb, leb-true, leb-false, no
 use Rattle.t800.specs.declared.Markers.{Markers}
 use Rattle.t800.specs.Base.{sum, overwrite, wiped}
 use Rattle.t800.specs.WriteHeader.{Contribution, codeHeader}
-use Rattle.t800.specs.Packet.{measureChecks, measureRefusal, front, packet, packetChecks, writeRefusal, WriteResult, write}
+use Rattle.t800.specs.Packet.{measureChecks, measureRefusal, measureRefusalWith, front, packet, packetChecks, writeRefusal}
+use Rattle.t800.specs.Packet.{writeRefusalWith, WriteResult, write, writeWith}
 use Rattle.t800_laws.proofs.Laws.Tests.{if-true, if-false, if-ne}
 use Rattle.t800_laws.proofs.Laws.Checks.{not-first, first-later, first-earlier}
 use Rattle.t2_refusal_laws.specs.Refusals.{measureRefusalFor}
@@ -26,7 +27,7 @@ room-left t m n c k = leb-true m n (sym c ∙ not-false t k)
 
 -- what is no refusal of writing alone
 measure-not-11 : (ws scratch : List ℕ) (p : Contribution) → measureRefusal ws scratch p ≢ 11
-unfolding measureRefusal
+unfolding measureRefusalWith
 measure-not-11 ws scratch p = not-first 11 (measureChecks ws scratch p) (omega arith)
 
 module _ (ws scratch : List ℕ) (p : Contribution) (body : List ℕ) (m : Markers) (number : ℕ) (output : List ℕ) where
@@ -42,7 +43,7 @@ module _ (ws scratch : List ℕ) (p : Contribution) (body : List ℕ) (m : Marke
       (cond (eqb why 11) (answered why 0 ws (wiped scratch) (wiped output)) (answered why 0 ws scratch output))
 
   write-by : (why : ℕ) → why ≡ writeRefusal ws scratch p body m number output → chosen why ≡ write ws scratch p body m number output
-  unfolding write
+  unfolding writeWith
   write-by why e = ap chosen e
 
   unchanged : (why : ℕ) → why ≢ 0 → why ≢ 11 → why ≡ writeRefusal ws scratch p body m number output
@@ -54,7 +55,7 @@ module _ (ws scratch : List ℕ) (p : Contribution) (body : List ℕ) (m : Marke
     why-is = is ∙ sym (refusal-by-scratch-length ws scratch p)
 
     pub write-refused : why ≢ 0 → answered why 0 ws scratch output ≡ write ws scratch p body m number output
-    unfolding measureRefusal writeRefusal
+    unfolding measureRefusalWith writeRefusalWith
     write-refused h =
         unchanged why h (λ e. measure-not-11 ws scratch p (sym why-is ∙ e))
         (why-is ∙ sym (first-earlier (packetChecks ws p body m number output) (measureChecks ws scratch p) (λ e. h (why-is ∙ e))))
@@ -65,7 +66,7 @@ module _ (ws scratch : List ℕ) (p : Contribution) (body : List ℕ) (m : Marke
 
       -- none of measuring's
       then-body : writeRefusal ws scratch p body m number output ≡ cond (not (eqb (length body) (sum (p .lengths)))) 10 space
-      unfolding measureRefusal writeRefusal
+      unfolding measureRefusalWith writeRefusalWith
       then-body = first-later (packetChecks ws p body m number output) (measureChecks ws scratch p) (omega arith) (sym why-is ∙ z)
 
       pub write-body-refused : (n : ℕ) → n ≡ sum (p .lengths) → length body ≢ n → answered 10 0 ws scratch output

@@ -12,7 +12,7 @@ use Rattle.t800.specs.WriteHeader.{Contribution, setNewBlocks, codeHeader}
 use Rattle.t800_laws.proofs.Laws.HeaderBits.{bits-blocks}
 use Rattle.t800_laws.proofs.Laws.Layout.{layoutOf, blocks-placed}
 use Rattle.t800_laws.proofs.Laws.Pack.{AreBits}
-use Rattle.round_trip.proofs.Trip.HeaderLength.{packed-up-to, header-up-to}
+use Rattle.round_trip.proofs.Trip.HeaderLength.{packed-up-to, blockBits, header-up-to}
 use Rattle.round_trip.proofs.Trip.WriterState.{headerBlocks}
 use Rattle.bio_bytes.specs.Writing.{Output, output, emptyAt, lastPlace, putBit, putBits, flush}
 use Rattle.bio_write.proofs.Laws.Packed.{flushed-is-packed, packed-place}
@@ -22,6 +22,13 @@ use Rattle.t2_refusal_laws.proofs.Laws.NotRefused.{NotRefused}
 use Rattle.tcd_laws.proofs.Laws.ValidStates.{blocks-of-valid}
 use Rattle.t2_write_header.specs.Header.{headerCoded, putHeader}
 
+-- the bits of 12,288 blocks at most, and with the first bit the bytes that they take
+abbrev headerBits : ℕ
+headerBits = blockBits * 12288
+
+abbrev pub headerBytes : ℕ
+headerBytes = headerBits + 3
+
 module _ (ws : List ℕ) (n : ℕ) (p : Contribution) (r : NotRefused ws n p) where
   abbrev all : Coded
   all = headerBlocks (layer ws) (blocks (bands ws)) p ws
@@ -29,7 +36,7 @@ module _ (ws : List ℕ) (n : ℕ) (p : Contribution) (r : NotRefused ws n p) wh
   pub layer-left : layer ws < notYetIncluded
   layer-left = omega (arith, r .layer-left, valid-state writer ws n (r .valid) .layer-up-to)
 
-  bits-up-to : length (all .bits) ≤ 20000 * 12288
+  bits-up-to : length (all .bits) ≤ headerBits
   unfolding stateLength
   bits-up-to =
       let s = valid-state writer ws n (r .valid) in
@@ -38,7 +45,7 @@ module _ (ws : List ℕ) (n : ℕ) (p : Contribution) (r : NotRefused ws n p) wh
       (record { counts = r .counts-are; lengths = r .lengths-are; marks = r .marks-are; few = r .few; fits = r .none-wide }) in
       omega (arith, k, blocks-of-valid writer ws n (r .valid))
 
-  pub header-small : length (pack (codeHeader p ws .bits)) ≤ 250000000
+  pub header-small : length (pack (codeHeader p ws .bits)) ≤ headerBytes
   unfolding codeHeader
   header-small = omega (arith, packed-up-to (1 ∷ all .bits), bits-up-to)
 

@@ -16,7 +16,7 @@ use Rattle.t800.specs.Packet.{front}
 use Rattle.t800_laws.proofs.Laws.Tests.{on-le}
 use Rattle.t2_write_header.specs.Header.{HeaderCoded, headerCoded, putHeader}
 use Rattle.t2_refusal_laws.proofs.Laws.NotRefused.{NotRefused}
-use Rattle.t2_write_header.proofs.Laws.Header.{header-small}
+use Rattle.t2_write_header.proofs.Laws.Header.{headerBytes, header-small}
 use Rattle.t2_write_packet.specs.Front.{BytesPut, bytesPut, putBytes, putFront}
 
 pub sets-append : (xs ys l : List ℕ) (i : ℕ) → sets (sets l i xs) (i + length xs) ys ≡ sets l i (xs ++ ys)
@@ -90,6 +90,6 @@ module _ (p : Contribution) (ws : List ℕ) (m : Markers) (number : ℕ) (bytes 
 
 -- a packet that nothing refuses
 module _ (ws : List ℕ) (n : ℕ) (p : Contribution) (r : NotRefused ws n p) where
-  pub header-ends : (start : ℕ) (bytes : List ℕ) (h : HeaderCoded) → start ≤ 6 → h ≡ putHeader p ws start bytes → h .end ≤ 250000006
+  pub header-ends : (start : ℕ) (bytes : List ℕ) (h : HeaderCoded) → start ≤ 6 → h ≡ putHeader p ws start bytes → h .end ≤ headerBytes + 6
   unfolding putHeader
   header-ends start bytes h l e = omega (arith, ap (λ (k : HeaderCoded). k .end) e, header-small ws n p r)

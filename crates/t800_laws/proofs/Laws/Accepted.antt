@@ -12,7 +12,7 @@ use Rattle.t800.specs.declared.Band.{Band}
 use Rattle.t800.specs.Base.{any}
 use Rattle.t800.specs.State.{Block, notYetPlanes, writer, blocksIn, bandLength, blocksFrom, blocksAt, blocks, stateLength}
 use Rattle.t800.specs.Ranges.{badShape, badStyle, bandTooDeep, blockTooDeep}
-use Rattle.t800.specs.Start.{freshState, setZeroPlanes, startRefusal, start}
+use Rattle.t800.specs.Start.{freshState, setZeroPlanes, startRefusal, start, startWith}
 use Rattle.t800_laws.proofs.Laws.Tests.{if-true, or-left, or-right, not-refused}
 
 pub record StartAccepted (r n : ℕ) (given : List Band) (s : ℕ) (planes lent : List ℕ) : Type 0 where
@@ -27,7 +27,7 @@ pub record StartAccepted (r n : ℕ) (given : List Band) (s : ℕ) (planes lent 
 
 pub start-accepted : (r n : ℕ) (given : List Band) (s : ℕ) (planes lent : List ℕ) → start r n given s planes lent .answer ≡ 0
     → StartAccepted r n given s planes lent
-unfolding start startRefusal
+unfolding startWith startRefusal
 start-accepted r n given s planes lent e =
     let bs : List Band = take n given in
     let ks : List Block = blocks bs in

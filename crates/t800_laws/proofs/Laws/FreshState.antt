@@ -12,7 +12,7 @@ use Rattle.t800.specs.Base.{every}
 use Rattle.t800.specs.TagTree.{value, low, known}
 use Rattle.t800.specs.State.{notYetIncluded, notYetPlanes, bandNodes, blocksIn, bandLength, endOf, bands, bandAt}
 use Rattle.t800.specs.Ranges.{unusedBandsZero}
-use Rattle.t800.specs.Start.{freshNodes, freshBlocks, freshBands, bandWords, freshState}
+use Rattle.t800.specs.Start.{freshNodes, freshBlocks, freshBands, freshBandsWith, bandWords, freshState, freshStateWith}
 use Rattle.t800_laws.proofs.Laws.Layout.{Tree, inclusion, zeroPlanes, notYet, NodeFrom, BlockFrom, treeFrom, band-length}
 use Rattle.t800_laws.proofs.Laws.FirstWords.{FirstWords}
 
@@ -48,7 +48,7 @@ length-own b =
     ∙ (let e : 3 * n + 3 * n + 4 * blocksIn b ≡ bandLength b = omega (arith, band-length b) in e)
 
 length-bands : (at : ℕ) (bs : List Band) → at + length (freshBands bs) ≡ endOf at bs
-unfolding freshBands endOf
+unfolding freshBandsWith endOf
 length-bands at [] = omega arith
 length-bands at (b ∷ bs) =
     ap (λ (z : ℕ). at + z) (length-append (bandOwn b) (freshBands bs) ∙ ap (λ (z : ℕ). z + length (freshBands bs)) (length-own b))
@@ -56,7 +56,7 @@ length-bands at (b ∷ bs) =
     ∙ length-bands (at + bandLength b) bs
 
 pub fresh-length : (r s : ℕ) (bs : List Band) → length (freshState r s bs) ≡ endOf 13 bs
-unfolding freshState
+unfolding freshStateWith
 fresh-length r s bs =
     let e : length (bandWords bs 3 ++ freshBands bs) ≡ 9 + length (freshBands bs) = length-append (bandWords bs 3) (freshBands bs)
     ∙ ap (λ (z : ℕ). z + length (freshBands bs)) (length-words bs 3) in
@@ -99,7 +99,7 @@ word-after at ws xs ys n i l e =
 split-first : (b : Band) (bs : List Band) → freshBands (b ∷ bs)
     ≡ freshNodes notYetIncluded (bandNodes b) ++
     (freshNodes notYetPlanes (bandNodes b) ++ (freshBlocks (blocksIn b) ++ freshBands bs))
-unfolding freshBands
+unfolding freshBandsWith
 split-first b bs =
     let n : ℕ = bandNodes b in
     append-assoc (freshNodes notYetIncluded n ++ freshNodes notYetPlanes n) (freshBlocks (blocksIn b)) (freshBands bs)
@@ -108,13 +108,13 @@ split-first b bs =
 split-second : (b : Band) (bs : List Band) → freshBands (b ∷ bs)
     ≡ freshNodes notYetIncluded (bandNodes b) ++ freshNodes notYetPlanes (bandNodes b) ++
     (freshBlocks (blocksIn b) ++ freshBands bs)
-unfolding freshBands
+unfolding freshBandsWith
 split-second b bs = append-assoc (freshNodes notYetIncluded (bandNodes b) ++ freshNodes notYetPlanes (bandNodes b))
     (freshBlocks (blocksIn b)) (freshBands bs)
 
 after-own : (at : ℕ) (ws : List ℕ) (b : Band) (bs : List Band) → drop at ws ≡ freshBands (b ∷ bs) → drop (at + bandLength b) ws
     ≡ freshBands bs
-unfolding freshBands
+unfolding freshBandsWith
 after-own at ws b bs e =
     sym (drop-drop (bandLength b) at ws) ∙ ap (drop (bandLength b)) e
     ∙ ap (λ (z : ℕ). drop z (bandOwn b ++ freshBands bs)) (sym (length-own b)) ∙ drop-append-seam (bandOwn b) (freshBands bs)
@@ -162,7 +162,7 @@ block-words at ws (b ∷ bs) p e (inl c) j h =
 block-words at ws (b ∷ bs) p e (inr n) j h = block-words (at + bandLength b) ws bs p (after-own at ws b bs e) n j h
 
 after-first : (r s : ℕ) (bs : List Band) → drop 13 (freshState r s bs) ≡ freshBands bs
-unfolding freshState
+unfolding freshStateWith
 after-first r s bs = ap (λ (z : ℕ). drop z (bandWords bs 3 ++ freshBands bs)) (sym (length-words bs 3))
     ∙ drop-append-seam (bandWords bs 3) (freshBands bs)
 
@@ -174,7 +174,7 @@ pub fresh-block : (r s : ℕ) (bs : List Band) (p : ℕ) → BlockFrom 13 bs p �
 fresh-block r s bs p n j h = block-words 13 (freshState r s bs) bs p (after-first r s bs) n j h
 
 pub fresh-first-words : (r s : ℕ) (bs : List Band) → length bs ≤ 3 → FirstWords r bs s 0 (freshState r s bs)
-unfolding freshState bandWords bands bandAt unusedBandsZero every
+unfolding freshStateWith bandWords bands bandAt unusedBandsZero every
 fresh-first-words r s [] l = record { role-is = refl; bands-are = refl; count-is = refl; style-is = refl; layer-is = refl; unused = refl }
 fresh-first-words r s (a ∷ []) l =
     record { role-is = refl; bands-are = refl; count-is = refl; style-is = refl; layer-is = refl; unused = refl }

@@ -18,14 +18,15 @@ use Rattle.t800.specs.Bits.{bioAt, getBit}
 use Rattle.t800.specs.Segments.{isLimit}
 use Rattle.t800.specs.State.{notYetIncluded, notYetPlanes, writer, reader, role, bandCount, style, layer, bands, blocksIn}
 use Rattle.t800.specs.State.{bandNodes, bandLength, stateLength, passesSoFar, lengthBits, segmentLimit, segmentPasses}
-use Rattle.t800.specs.Ranges.{badShape, badStyle, bandTooDeep, unusedBandsZero, nodeInRange, blockInRange, bandInRange}
-use Rattle.t800.specs.Ranges.{bandsInRange, validState}
+use Rattle.t800.specs.Ranges.{badShape, badStyle, bandTooDeep, unusedBandsZero, nodeInRange, blockInRange, bandInRangeWith}
+use Rattle.t800.specs.Ranges.{bandsInRange, bandsInRangeWith, validState, validStateWith}
 use Rattle.t800.specs.Reports.{RecordForm}
 use Rattle.t800.specs.WriteHeader.{Contribution, codeHeader}
 use Rattle.t800.specs.ReadHeader.{HeaderRead, readHeader}
 use Rattle.t800.specs.MarkerSegments.{MarkerRead, readMarker, readSop}
-use Rattle.t800.specs.Packet.{writeRefusal, WriteResult, write, readRefusal, ReadResult, readAbsent}
-use Rattle.t800.specs.Packet.{readResult, refusedAnswer, readPresent, read}
+use Rattle.t800.specs.Packet.{writeRefusal, writeRefusalWith, WriteResult, write, writeWith, readRefusal, readRefusalWith, ReadResult}
+use Rattle.t800.specs.Packet.{readAbsent}
+use Rattle.t800.specs.Packet.{readResult, refusedAnswer, readPresent, read, readWith}
 use Rattle.t800_laws.proofs.Laws.Tests.{either, either-by, if-true, if-false, and-left, and-right, not-refused}
 use Rattle.t800_laws.proofs.Laws.Layout.{end-after}
 use Rattle.t800_laws.proofs.Laws.FirstWords.{same-bands}
@@ -41,7 +42,7 @@ record InRange (ws : List ℕ) (n : ℕ) : Type 0 where
   bands-in : bandsInRange ws 13 (bands ws) ≡ true
 
 tested : (r : ℕ) (ws : List ℕ) (n : ℕ) → validState r ws n ≡ true → InRange ws n
-unfolding validState
+unfolding validStateWith
 tested r ws n h =
     let a : Bool = eqb (role ws) r && not (badShape (bandCount ws) (bands ws)) && not (badStyle (style ws)) in
     let b : Bool = leb (layer ws) notYetIncluded in
@@ -67,7 +68,7 @@ has-first-words ws n h = rw (h .long) (end-after 13 (bands ws))
 -- a read whose state gives neither 5 nor 6
 pub read-in-range : (ws scratch reports : List ℕ) → readRefusal ws scratch reports ≡ 0
     → (validState reader ws (length scratch) ≡ true) × (layer ws ≢ notYetIncluded)
-unfolding readRefusal
+unfolding readRefusalWith
 read-in-range ws scratch reports e =
     let c = not-refused (not (validState reader ws (length scratch))) 5 _ (omega arith) e in
     let d = not-refused (eqb (layer ws) notYetIncluded) 6 _ (omega arith) (c .1) in
@@ -122,7 +123,7 @@ module _ (ws : List ℕ) (v : ℕ) (long : 13 ≤ length ws) (more : layer ws �
       g
 
   bands-stay : (at : ℕ) (bs : List Band) → 13 ≤ at → bandsInRange ws at bs ≡ true → bandsInRange moved at bs ≡ true
-  unfolding bandsInRange bandInRange
+  unfolding bandsInRangeWith bandInRangeWith
   bands-stay at [] h g = refl
   bands-stay at (b ∷ bs) h g =
       let n : ℕ = bandNodes b in
@@ -143,7 +144,7 @@ module _ (ws : List ℕ) (v : ℕ) (long : 13 ≤ length ws) (more : layer ws �
       (bands-stay (at + bandLength b) bs (omega arith) (and-right (incl && planes && all) rest g))
 
   stays-in-range : (r n : ℕ) → validState r ws n ≡ true → v ≤ notYetIncluded → validState r moved n ≡ true
-  unfolding validState
+  unfolding validStateWith
   stays-in-range r n h l =
       let same = same-bands ws moved (λ j g ne. other-words j ne) in
       let t = tested r ws n h in
@@ -169,12 +170,12 @@ module _ (ws scratch : List ℕ) (p : Contribution) (body : List ℕ) (m : Marke
   wrote = write ws scratch p body m number output
 
   writing-in-range : writeRefusal ws scratch p body m number output ≡ 0 → validState writer ws (length scratch) ≡ true
-  unfolding writeRefusal
+  unfolding writeRefusalWith
   writing-in-range e =
       not-false (validState writer ws (length scratch)) (not-refused (not (validState writer ws (length scratch))) 5 _ (omega arith) e .0)
 
   pub accepted-write-next-layer : wrote .answer .refusal ≡ 0 → layer (wrote .state) ≡ layer ws + 1
-  unfolding write codeHeader
+  unfolding writeWith codeHeader
   accepted-write-next-layer =
       let why : ℕ = writeRefusal ws scratch p body m number output in
       let P : WriteResult → Type 0 = λ o. o .answer .refusal ≡ 0 → layer (o .state) ≡ layer ws + 1 in
@@ -184,7 +185,7 @@ module _ (ws scratch : List ℕ) (p : Contribution) (body : List ℕ) (m : Marke
       (λ f. either P (eqb why 11) _ _ (λ e. absurd (eqb-false why 0 f e)) (λ e. absurd (eqb-false why 0 f e)))
 
   pub refused-write-leaves-state : wrote .answer .refusal ≢ 0 → wrote .state ≡ ws
-  unfolding write
+  unfolding writeWith
   refused-write-leaves-state =
       let why : ℕ = writeRefusal ws scratch p body m number output in
       let P : WriteResult → Type 0 = λ o. o .answer .refusal ≢ 0 → o .state ≡ ws in
@@ -218,7 +219,7 @@ module _ (form : RecordForm) (ws scratch : List ℕ) (m : Markers) (src reports 
   header start = readHeader src (form .room records) ws (getBit src (bioAt start) .bio)
 
   pub refused-read-leaves-state : result .answer .refusal ≢ 0 → result .state ≡ ws
-  unfolding read readAbsent readPresent
+  unfolding readWith readAbsent readPresent
   refused-read-leaves-state =
       let P : ReadResult form → Type 0 = λ o. o .answer .refusal ≢ 0 → o .state ≡ ws in
       let start : ℕ = readSop m src .skip in
@@ -233,7 +234,7 @@ module _ (form : RecordForm) (ws scratch : List ℕ) (m : Markers) (src reports 
   not-given t = eqb-false why 0 (not-true (eqb why 0) t)
 
   pub accepted-read-next-layer : result .answer .refusal ≡ 0 → layer (result .state) ≡ layer ws + 1
-  unfolding read readAbsent readPresent
+  unfolding readWith readAbsent readPresent
   accepted-read-next-layer =
       let P : ReadResult form → Type 0 = λ o. o .answer .refusal ≡ 0 → layer (o .state) ≡ layer ws + 1 in
       let start : ℕ = readSop m src .skip in
@@ -250,7 +251,7 @@ module _ (form : RecordForm) (ws scratch : List ℕ) (m : Markers) (src reports 
       (λ n e. absurd (eqb-false (header start .refusal) 0 n e))))
 
   pub absent-read : result .answer .refusal ≡ 0 → result .answer .present ≡ 0 → LeftByAbsent form ws reports records result
-  unfolding read readAbsent readPresent
+  unfolding readWith readAbsent readPresent
   absent-read =
       let P : ReadResult form → Type 0 = λ o. o .answer .refusal ≡ 0 → o .answer .present ≡ 0 → LeftByAbsent form ws reports records o in
       let start : ℕ = readSop m src .skip in
@@ -276,18 +277,18 @@ module _ (form : RecordForm) (ws scratch : List ℕ) (m : Markers) (src reports 
 
   -- 5, 6 and 3 leave every lent list; 9, 12 and 13 wipe all but the state
   pub refused-before-reading : why ≢ 0 → result ≡ readResult form ws scratch reports records (refusedAnswer why)
-  unfolding read
+  unfolding readWith
   refused-before-reading h = rw (ne-eqb why 0 h)
 
   pub refused-in-header : why ≡ 0 → firstBit (readSop m src .skip) ≢ 0 → header (readSop m src .skip) .refusal ≢ 0
       → result
       ≡ readResult form ws (wiped scratch) (wiped reports) (form .cleared records) (refusedAnswer (header (readSop m src .skip) .refusal))
-  unfolding read
+  unfolding readWith
   refused-in-header e b h = rw (e, ne-eqb (firstBit (readSop m src .skip)) 0 b, ne-eqb (header (readSop m src .skip) .refusal) 0 h)
 
   -- a first bit 0 is an absent packet
   pub first-bit-0 : why ≡ 0 → firstBit (readSop m src .skip) ≡ 0 → (result .answer .refusal ≡ 0) × (result .answer .present ≡ 0)
-  unfolding read readAbsent
+  unfolding readWith readAbsent
   first-bit-0 e z = rw (e, z) (refl, refl)
 
   -- ---- the refusal, from where the header's bits begin
@@ -296,7 +297,7 @@ module _ (form : RecordForm) (ws scratch : List ℕ) (m : Markers) (src reports 
   refusalFrom start = cond (not (eqb why 0)) why (cond (eqb (firstBit start) 0) 0 (header start .refusal))
 
   refusal-is : result .answer .refusal ≡ refusalFrom (readSop m src .skip)
-  unfolding read readAbsent readPresent refusalFrom
+  unfolding readWith readAbsent readPresent refusalFrom
   refusal-is =
       let start : ℕ = readSop m src .skip in
       let P : ReadResult form → Type 0 = λ o. o .answer .refusal ≡ refusalFrom start in

@@ -13,7 +13,7 @@ use Rattle.t800.specs.declared.Band.{Band}
 use Rattle.t800.specs.Base.{every}
 use Rattle.t800.specs.Segments.{isLimit}
 use Rattle.t800.specs.State.{writer, notYetIncluded, notYetPlanes, role, style, layer, bandNodes, blocksIn}
-use Rattle.t800.specs.Ranges.{nodeInRange, blockInRange, bandInRange}
+use Rattle.t800.specs.Ranges.{nodeInRange, blockInRange, bandInRange, bandInRangeWith}
 use Rattle.t800_laws.proofs.Laws.Tests.{on-eq}
 use Rattle.tcd_band_ranges.specs.declared.Limits.{Limits}
 use Rattle.tcd_band_ranges.specs.BlockParts.{LimitsOf, isOneOf, lengthBitsInRange, segmentInRange, blockWordsInRange}
@@ -51,7 +51,7 @@ pub band-parts : (ws : List ℕ) (at : ℕ) (b : Band) (n zeros blocks m : ℕ) 
     → t ≡ every n (λ i. nodeInRange ws notYetIncluded (at + 3 * i))
     → u ≡ every n (λ i. nodeInRange ws notYetPlanes (zeros + 3 * i))
     → v ≡ every m (λ i. blockInRange ws (blocks + 4 * i)) → (t && u && v) ≡ bandInRange ws at b
-unfolding bandInRange
+unfolding bandInRangeWith
 band-parts ws at b n zeros blocks m t u v en ez eb em et eu ev =
     let e₁ : zeros ≡ at + 3 * bandNodes b = omega arith in
     let e₂ : blocks ≡ at + 6 * bandNodes b = omega arith in

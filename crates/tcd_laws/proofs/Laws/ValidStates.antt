@@ -13,8 +13,9 @@ use Rattle.t800.specs.Base.{every}
 use Rattle.t800.specs.Segments.{termAll, bypass, firstLimit, nextLimit, isLimit}
 use Rattle.t800.specs.State.{writer, notYetIncluded, notYetPlanes, role, bandCount, style, layer, bands, blocks, bandNodes, blocksIn}
 use Rattle.t800.specs.State.{bandLength, stateLength, endOf, passesSoFar, lengthBits, segmentLimit, segmentPasses}
-use Rattle.t800.specs.Ranges.{badShape, badStyle, bandTooDeep, nodeInRange, blockInRange, bandInRange, bandsInRange}
-use Rattle.t800.specs.Ranges.{unusedBandsZero, validState}
+use Rattle.t800.specs.Ranges.{badShape, badStyle, bandTooDeep, nodeInRange, blockInRange, bandInRange, bandInRangeWith, bandsInRange}
+use Rattle.t800.specs.Ranges.{bandsInRangeWith}
+use Rattle.t800.specs.Ranges.{unusedBandsZero, validState, validStateWith}
 use Rattle.t800_laws.proofs.Laws.Tests.{on-eq, and-left, and-right}
 use Rattle.t800_laws.proofs.Laws.Layout.{BlockFrom, end-after}
 use Rattle.tcd_laws.specs.Geometry.{AllUpTo64}
@@ -41,7 +42,7 @@ both : (a b : Bool) → (a && b) ≡ true → (a ≡ true) × (b ≡ true)
 both a b e = (and-left a b e, and-right a b e)
 
 pub valid-state : (r : ℕ) (ws : List ℕ) (n : ℕ) → validState r ws n ≡ true → ValidState r ws n
-unfolding validState badStyle shapeInRange
+unfolding validStateWith badStyle shapeInRange
 valid-state r ws n v =
     let shape : Bool = eqb (role ws) r && not (badShape (bandCount ws) (bands ws)) in
     let style′ : Bool = not (ltb 63 (style ws)) in
@@ -106,7 +107,7 @@ every-true (suc n) f e k h =
 -- a band's blocks
 band-blocks-known : (ws : List ℕ) (at : ℕ) (b : Band) → bandInRange ws at b ≡ true
     → every (blocksIn b) (λ i. blockInRange ws (at + 6 * bandNodes b + 4 * i)) ≡ true
-unfolding bandInRange
+unfolding bandInRangeWith
 band-blocks-known ws at b e =
     let i : Bool = every (bandNodes b) (λ i. nodeInRange ws notYetIncluded (at + 3 * i)) in
     let z : Bool = every (bandNodes b) (λ i. nodeInRange ws notYetPlanes (at + 3 * bandNodes b + 3 * i)) in
@@ -114,7 +115,7 @@ band-blocks-known ws at b e =
 
 pub block-known : (ws : List ℕ) (at : ℕ) (bs : List Band) (p : ℕ) → bandsInRange ws at bs ≡ true → BlockFrom at bs p
     → blockInRange ws p ≡ true
-unfolding bandsInRange
+unfolding bandsInRangeWith
 block-known ws at [] p e n = absurd n
 block-known ws at (b ∷ bs) p e (inl c) =
     let k = band-blocks-known ws at b (and-left (bandInRange ws at b) (bandsInRange ws (at + bandLength b) bs) e) in

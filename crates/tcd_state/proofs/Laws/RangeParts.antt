@@ -8,7 +8,8 @@ use lib.ListN.{length, take}
 use lib.Dec.{leb, eqb}
 use Rattle.t800.specs.declared.Band.{Band}
 use Rattle.t800.specs.State.{notYetIncluded, bandCount, style, layer, bands, bandLength, stateLength}
-use Rattle.t800.specs.Ranges.{badStyle, bandTooDeep, bandInRange, bandsInRange, unusedBandsZero, validState}
+use Rattle.t800.specs.Ranges.{badStyle, bandTooDeep, bandInRange, bandsInRange, bandsInRangeWith, unusedBandsZero, validState}
+use Rattle.t800.specs.Ranges.{validStateWith}
 use Rattle.t800_laws.proofs.Laws.Tests.{and-left}
 use Rattle.tcd_laws.specs.Geometry.{AllUpTo64}
 use Rattle.tcd_laws.specs.Parts.{threeBands, shapeInRange, firstWordsInRange}
@@ -16,7 +17,7 @@ use Rattle.tcd_laws.proofs.Laws.FirstWords.{first-bands, shape-known}
 
 pub bands-turn : (ws : List ℕ) (at : ℕ) (l : List Band) (b : Band) (bs : List Band) (t : Bool) → l ≡ b ∷ bs → t
     ≡ bandInRange ws at b → (t && bandsInRange ws (at + bandLength b) bs) ≡ bandsInRange ws at l
-unfolding bandsInRange
+unfolding bandsInRangeWith
 bands-turn ws at l b bs t e h = rw (e, h)
 
 pub first-words-shape : (r : ℕ) (ws : List ℕ) → firstWordsInRange r ws ≡ true → shapeInRange r ws ≡ true
@@ -45,7 +46,7 @@ regroup false u v w = refl
 pub valid-parts : (r : ℕ) (ws : List ℕ) (n : ℕ) (t v w : Bool) → t ≡ firstWordsInRange r ws → v ≡ eqb n (length ws) → w
     ≡ (eqb (length ws) (stateLength (bands ws)) && bandsInRange ws 13 (bands ws))
     → (t && v && w) ≡ validState r ws n
-unfolding validState firstWordsInRange shapeInRange
+unfolding validStateWith firstWordsInRange shapeInRange
 valid-parts r ws n t v w et ev ew =
     rw (et, ev, ew) (regroup (firstWordsInRange r ws) (eqb (length ws) (stateLength (bands ws))) (eqb n (length ws))
     (bandsInRange ws 13 (bands ws)))

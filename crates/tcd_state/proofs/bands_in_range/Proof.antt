@@ -9,7 +9,7 @@ use mathlib.Core.List.{List}
 use mathlib.Core.Path.{_∙_, _≡_, ap, ap₂, refl, sym}
 use native.Mathlib.Omega.{arith}
 use Rattle.t800_laws.proofs.Laws.Layout.{band-length, end-after}
-use Rattle.t800.specs.Ranges.{bandsInRange}
+use Rattle.t800.specs.Ranges.{bandsInRange, bandsInRangeWith}
 use Rattle.t800.specs.State.{bandLength, endOf, stateLength}
 use Rattle.t800.specs.declared.Band.{Band}
 use Rattle.tcd_laws.proofs.Laws.Bands.{band-length-up-to, blocks-up-to-4096, end-turn, next-band, no-more-bands}
@@ -141,7 +141,7 @@ loop-again c =
     )
 
 returns-3 : tie.Need-returns-3 Inv-loop μ-loop
-unfolding bandsInRange endOf
+unfolding bandsInRangeWith endOf
 returns-3 c =
     let l = c .before .loop in
     let s = c .before .before .before in
