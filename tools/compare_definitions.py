@@ -1,21 +1,24 @@
 #!/usr/bin/env python3
-"""Compares the definitions of crates/t800 with crate openjp2's own answers on random runs of calls. In the repository's root:
+"""Compares the definitions of crates/t800 with crate openjp2's own answers on random runs of calls, and where the crate is not asked with
+the scope (docs/SCOPE.md) as plain Python. In the repository's root:
 
     (cd rust && OPENJP2_SRC=FOLDER cargo build --release --bin crate_answers)   # FOLDER is the src folder of the crate's sources
     python3 tools/compare_definitions.py --runs 600 --seed 1 [--jobs 2] [--keep DIR]
 
 crate_answers runs the code of crate openjp2 0.6.1; rust/compare/src/answers.rs says how it is asked. Each run is one precinct with some
-calls on it. The calls come from a seeded generator; every answer, and the whole state after every call, comes from the crate. A run
-becomes one row of crates/t800/proofs/Table.antt. Rows stand in chunks, each a crate of a temporary repository beside a copy of
-crates/t800, outside the project and no part of its tests; `rt check` computes the definitions on them and proves `failing 0 rows ≡ []`.
+calls on it. The calls come from a seeded generator. In runs of the kinds `later` the states are in any layer, with any value in the
+inclusion trees, and the answers are those of class Scope, written from the scope's text. In all others the layer is below 999, and every
+answer, and the whole state after every call, comes from the crate; Scope is asked beside it and must agree. A run becomes one row of
+crates/t800/proofs/Table.antt. Rows stand in chunks, each a crate of a temporary repository beside a copy of crates/t800, outside the
+project and no part of its tests; `rt check` computes the definitions on them and proves `failing 0 rows ≡ []`.
 
 How answers are matched: write `ok` 0, `panic` 9, `failed` 11; read `ok` 0, `failed width` 9, `failed align` 12. Where a call fails on a
-short output and the same call panics with room enough, the scope (docs/SCOPE.md) puts 9 before 11, and the row says 9; such calls are
-counted. The crate has none of the other numbers, and they are not compared. After a call that fails, crate_answers puts the precinct back,
+short output and the same call panics with room enough, the scope puts 9 before 11, and the row says 9; such calls are counted. The crate
+has none of the other numbers, and of these only 6 is compared, by Scope. After a call that fails, crate_answers puts the precinct back,
 while the crate leaves its trees as far as it came: that a refused call leaves the state alone is the scope's demand, which the row checks.
 
-The exit status is 0 only if every chunk is proved and no answer was outside that list. For a chunk that is not proved the failing runs
-are named, and for the smallest of all the calls up to the first one that differs.
+The exit status is 0 only if every chunk is proved, no answer was outside that list and Scope agreed with the crate. For a chunk that is not
+proved the failing runs are named, and for the smallest of all the calls up to the first one that differs.
 """
 import argparse
 import collections
@@ -29,10 +32,15 @@ import sys
 import tempfile
 import time
 
-NOT_YET = 999
+NOT_YET_INCLUDED = 65535
+NOT_YET_PLANES = 999
+MOST_PLANES = 998
+CRATE_LAYERS = 999       # the crate is asked below this layer
 AMPLE = 1 << 20
 BODY_MOST = 300          # longer bodies are not built: the header alone is computed
 SEGMENT_MOST = (1 << 31) - 1
+ZEROS_MOST = CRATE_LAYERS    # a node's low is at most so far below the layer: more zeros take too long to compute
+HEADER_WORDS = 13
 COST_MOST = 300000       # of a chunk, by `cost_of`: some seconds, and below 2 GB
 PROGRAM = os.path.join(os.path.dirname(os.path.abspath(__file__)), "..", "rust", "target", "release", "crate_answers")
 
@@ -72,6 +80,10 @@ class Unexpected(Exception):
     """An answer that has no number in the scope."""
 
 
+class Disagreement(Exception):
+    """The crate answers other than the scope as plain Python."""
+
+
 # ---- rows as text
 
 def nats(xs):
@@ -96,15 +108,318 @@ def hexed(data):
 
 # ---- trees
 
-def level_sizes(w, h):
-    """Nodes of each level of a tree over w × h leaves."""
-    sizes = []
+def levels(w, h):
+    """The sides of each level of a tree over w × h leaves, from theirs to the root's."""
+    sides = []
     while w * h:
-        sizes.append(w * h)
+        sides.append((w, h))
         if w * h == 1:
             break
         w, h = (w + 1) // 2, (h + 1) // 2
-    return sizes
+    return sides
+
+
+def level_sizes(w, h):
+    """Nodes of each level of a tree over w × h leaves."""
+    return [a * b for a, b in levels(w, h)]
+
+
+def path_to(w, h, leaf):
+    """The nodes from the root to a leaf."""
+    path, first, x, y = [], 0, leaf % w, leaf // w
+    for a, b in levels(w, h):
+        path.append(first + y * a + x)
+        first, x, y = first + a * b, x // 2, y // 2
+    return path[::-1]
+
+
+# ---- the scope as plain Python
+
+LAYERS_REFUSED = "refused 6"
+READ_REFUSALS = {"failed width": 9, "failed align": 12, LAYERS_REFUSED: 6}
+
+
+class Failed(Exception):
+    """A call that is refused, by crate_answers' words for it or by LAYERS_REFUSED."""
+
+
+# where the block's words stand, its band's inclusion tree and zero-plane tree; its path in both; its band's planes
+Block = collections.namedtuple("Block", "at inclusion zero_planes path planes")
+
+
+def bands_of(words):
+    return [tuple(words[4 + 3 * i:7 + 3 * i]) for i in range(words[1])]
+
+
+def blocks_in(words):
+    """The blocks of each band."""
+    out, start = [], HEADER_WORDS
+    for w, h, planes in bands_of(words):
+        nodes = sum(level_sizes(w, h))
+        at = start + 6 * nodes
+        out.append([Block(at + 4 * i, start, start + 3 * nodes, path_to(w, h, i), planes) for i in range(w * h)])
+        start = at + 4 * w * h
+    return out
+
+
+def started(role, bands, style, planes):
+    """The words of a started state."""
+    words = [role, len(bands), style, 0] + [x for b in (list(bands) + [(0, 0, 0)] * 3)[:3] for x in b]
+    for w, h, _ in bands:
+        nodes = sum(level_sizes(w, h))
+        words += [NOT_YET_INCLUDED, 0, 0] * nodes + [NOT_YET_PLANES, 0, 0] * nodes + [0, 0, 0, 0] * (w * h)
+    for block, own in zip(sum(blocks_in(words), []), planes):
+        set_leaf(words, block.zero_planes, block.path, block.planes - own)
+    return words
+
+
+def set_leaf(words, tree, path, value):
+    for node in reversed(path):
+        if words[tree + 3 * node] <= value:
+            return
+        words[tree + 3 * node] = value
+
+
+def code_path(words, tree, path, threshold):
+    """The bits that are put."""
+    bits, low = [], 0
+    for node in path:
+        at = tree + 3 * node
+        low = max(low, words[at + 1])
+        while low < min(threshold, words[at]):
+            bits.append(0)
+            low += 1
+        if low < threshold:
+            bits += [] if words[at + 2] else [1]
+            words[at + 2] = 1
+        words[at + 1] = low
+    return bits
+
+
+def read_path(words, tree, path, threshold, bits):
+    """The leaf's value."""
+    low = 0
+    for node in path:
+        at = tree + 3 * node
+        low = max(low, words[at + 1])
+        while low < min(threshold, words[at]):
+            if bits.take(1):
+                words[at] = low
+            else:
+                low += 1
+        words[at + 1] = low
+    return words[tree + 3 * path[-1]]
+
+
+def bits_of(n, width):
+    return [n >> k & 1 for k in reversed(range(width))]
+
+
+def log2(n):
+    return n.bit_length() - 1
+
+
+def pass_bits(n):
+    """The codeword of n passes."""
+    for first, code, width in ((37, "111111111", 7), (6, "1111", 5), (3, "11", 2), (2, "10", 0)):
+        if n >= first:
+            return [int(b) for b in code] + bits_of(n - first, width)
+    return [0]
+
+
+def read_passes(bits):
+    for width, first in ((1, 1), (1, 2), (2, 3), (5, 6)):
+        n = bits.take(width)
+        if n + 1 < 1 << width:
+            return first + n
+    return 37 + bits.take(7)
+
+
+def segments_of(lengths, marks):
+    """Passes and bytes of each segment that a block's passes are written as."""
+    out, passes, size = [], 0, 0
+    for k, (length, mark) in enumerate(zip(lengths, marks)):
+        passes, size = passes + 1, size + length
+        if mark or k + 1 == len(lengths):
+            out.append((passes, size))
+            passes, size = 0, 0
+    return out
+
+
+def code_block(words, block, segments):
+    """The bits of one block, after its band's inclusion tree has been set."""
+    new = words[block.at] == 0
+    bits = code_path(words, block.inclusion, block.path, words[3] + 1) if new else [int(segments != [])]
+    if not segments:
+        return bits
+    if new:
+        bits += code_path(words, block.zero_planes, block.path, NOT_YET_PLANES)
+        words[block.at + 1] = 3
+    passes = sum(p for p, _ in segments)
+    increment = max(0, *(max(1, size.bit_length()) - words[block.at + 1] - log2(p) for p, size in segments))
+    words[block.at] += passes
+    words[block.at + 1] += increment
+    bits += pass_bits(passes) + [1] * increment + [0]
+    for p, size in segments:
+        width = words[block.at + 1] + log2(p)
+        if width > 32:
+            raise Failed("panic")
+        bits += bits_of(size, width)
+    return bits
+
+
+def code_header(words, counts, lengths, marks):
+    """The header's bytes, and the words after the packet."""
+    words, bits, at, k = list(words), [1], 0, 0
+    for band in blocks_in(words):
+        segments = []
+        for block in band:
+            segments.append(segments_of(lengths[at:at + counts[k]], marks[at:at + counts[k]]))
+            if segments[-1] and words[block.at] == 0:
+                set_leaf(words, block.inclusion, block.path, words[3])
+            at, k = at + counts[k], k + 1
+        for block, own in zip(band, segments):
+            bits += code_block(words, block, own)
+    words[3] += 1
+    return stuffed(bits), words
+
+
+class Bits:
+    """An input, read from a place on."""
+
+    def __init__(self, data, at):
+        self.data, self.next, self.byte, self.left = data, at, 0, 0
+
+    def take(self, width):
+        n = 0
+        for _ in range(width):
+            if self.left == 0:
+                self.left = 7 if self.byte == 0xff else 8
+                self.byte = self.data[self.next] if self.next < len(self.data) else 0
+                self.next += 1
+            self.left -= 1
+            n = 2 * n + (self.byte >> self.left & 1)
+        return n
+
+    def end(self):
+        """The place after the header."""
+        if self.byte == 0xff and self.next == len(self.data):
+            raise Failed("failed align")
+        return min(self.next + (self.byte == 0xff), len(self.data))
+
+
+def next_limit(style, last):
+    if style & 4:
+        return 1
+    return {0: 10, 2: 1}.get(last, 2) if style & 1 else 109
+
+
+def read_segments(words, at, left, bits):
+    """Of each segment: 1 if it opens, passes, bytes."""
+    out = []
+    while left:
+        opens = words[at + 2] == words[at + 3]
+        if opens:
+            words[at + 2:at + 4] = [next_limit(words[2], words[at + 2]), 0]
+        passes = min(left, words[at + 2] - words[at + 3])
+        width = words[at + 1] + log2(passes)
+        if width > 32:
+            raise Failed("failed width")
+        out.append([int(opens), passes, bits.take(width)])
+        words[at + 3] += passes
+        left -= passes
+    return out
+
+
+def read_block(words, block, bits):
+    """A block's report and its segments."""
+    new = words[block.at] == 0
+    included = read_path(words, block.inclusion, block.path, words[3] + 1, bits) <= words[3] if new else bits.take(1)
+    if not included:
+        return [0, 0, 0, 0], []
+    report = [2, 0, 0]
+    if new:
+        threshold = 0
+        while read_path(words, block.zero_planes, block.path, threshold, bits) >= threshold:
+            threshold += 1
+        zero = words[block.zero_planes + 3 * block.path[-1]]
+        report = [1, zero, (block.planes - zero) % (1 << 32)]
+        words[block.at + 1] = 3
+    passes = read_passes(bits)
+    while bits.take(1):
+        words[block.at + 1] += 1
+    segments = read_segments(words, block.at, passes, bits)
+    words[block.at] += passes
+    return report + [passes], segments
+
+
+def skipped(used, data, at, marker, size):
+    """A marker's mark, and the place after it."""
+    if not used:
+        return 0, at
+    if len(data) - at < size:
+        return 1, at
+    return (0, at + size) if data[at:at + 2] == marker else (2, at)
+
+
+class Scope:
+    """The scope (docs/SCOPE.md) for states in range and lists of the right lengths, asked as crate_answers is, in every layer."""
+
+    def ask(self, line):
+        name, _, rest = line.partition(" ")
+        try:
+            return getattr(self, name)(rest)
+        except Failed as why:
+            return str(why)
+
+    def words(self):
+        return list(self.state)
+
+    def start(self, rest):
+        role, _, rest = rest.partition(" ")
+        _, count, *rest = whole(rest)
+        bands = [tuple(rest[3 * i:3 * i + 3]) for i in range(count)]
+        self.state = started(1 if role == "writer" else 2, bands, rest[3 * count], rest[3 * count + 1:])
+        return "ok"
+
+    def load(self, rest):
+        self.state = whole(rest)[1:]
+        return "ok"
+
+    def layer_left(self):
+        if self.state[3] == NOT_YET_INCLUDED:
+            raise Failed(LAYERS_REFUSED)
+
+    def write(self, rest):
+        first, counts, lengths, marks = [whole(part) for part in rest.split("/")[:4]]
+        sop, eph, number, room = first
+        self.layer_left()
+        header, after = code_header(self.state, counts, lengths, marks)
+        front = [0xff, 0x91, 0, 4, number >> 8 & 255, number & 255] * sop + header + [0xff, 0x92] * eph
+        size = len(front) + (sum(lengths) if rest.endswith("*") else 0)
+        if size > room:
+            raise Failed("failed")
+        self.state = after
+        return "ok %d %s body=" % (size, hexed(front))
+
+    def read(self, rest):
+        sop, eph, data = rest.split()
+        data = [] if data == "-" else list(bytes.fromhex(data))
+        self.layer_left()
+        sop_mark, at = skipped(int(sop), data, 0, [0xff, 0x91], 6)
+        words, bits = self.words(), Bits(data, at)
+        present, blocks = bits.take(1), sum(blocks_in(words), [])
+        told = [read_block(words, block, bits) if present else ([0, 0, 0, 0], []) for block in blocks]
+        eph_mark, taken = skipped(int(eph), data, bits.end(), [0xff, 0x92], 2)
+        words[3] += 1
+        self.state = words
+        records = [[k] + segment for k, (_, segments) in enumerate(told) for segment in segments]
+        return "ok %s / %s / %s" % (spaced([present, taken, len(records), sop_mark, eph_mark]),
+            spaced(x for report, _ in told for x in report), spaced(x for r in records for x in r))
+
+
+def whole(text):
+    return [int(x) for x in text.split()]
 
 
 # ---- one run
@@ -115,6 +430,7 @@ class Run:
     def __init__(self, rng, oracles, tally, bands, style, planes, kind):
         self.rng, self.tally, self.kind = rng, tally, kind
         self.writer, self.reader, self.probe = oracles
+        self.crate, self.scope = True, Scope()
         self.bands, self.style, self.planes = bands, style, planes
         self.blocks = sum(w * h for w, h, _ in bands)
         self.empty = rng.randrange(2)
@@ -129,6 +445,11 @@ class Run:
 
     # the crate's side
 
+    def ask_the_scope(self):
+        """From here on the crate is not asked."""
+        self.crate = False
+        self.writer, self.reader, self.probe = Scope(), Scope(), Scope()
+
     def tell(self, side, line):
         answer = (self.writer if side == "writer" else self.reader).ask(line)
         self.log.append((len(self.steps), side, line, answer))
@@ -136,11 +457,22 @@ class Run:
             raise Unexpected("%s -> %s" % (line, answer))
         return answer
 
+    def agree(self, before, line, answer, after):
+        """The scope as plain Python answers as the crate does."""
+        self.tally["answers of the crate, the scope agreeing" if self.crate else "answers of the scope alone"] += 1
+        if self.crate:
+            self.scope.state = before
+            told = self.scope.ask(line)
+            if told.split() != answer.split() or self.scope.words() != after:
+                raise Disagreement("%s -> %s, by the scope %s" % (line, answer, told))
+
     def start(self, side):
         geometry = spaced(spaced(b) for b in self.bands)
         planes = self.planes if side == "writer" else []
-        self.tell(side, "start %s %d %d %s %d %s" % (side, self.empty, len(self.bands), geometry, self.style, spaced(planes)))
-        self.calls.append((side, "start", dict(after=self.holds(side))))
+        line = "start %s %d %d %s %d %s" % (side, self.empty, len(self.bands), geometry, self.style, spaced(planes))
+        answer, after = self.tell(side, line), self.holds(side)
+        self.agree([], line, answer, after)
+        self.calls.append((side, "start", dict(after=after)))
 
     def load(self, side, words):
         self.tell(side, "load %d %s" % (self.empty, spaced(words)))
@@ -174,7 +506,8 @@ class Run:
             room = self.rng.choice([max(0, size - 1), self.rng.randrange(size) if size else 0, 0])
         else:
             room = size + (0 if room == "exact" else self.rng.randrange(1, 9))
-        answer = self.tell("writer", "write %d %d %d %d %s" % (sop, eph, number, room, lists)).split()
+        line = "write %d %d %d %d %s" % (sop, eph, number, room, lists)
+        answer = self.tell("writer", line).split()
         front = []
         if answer[0] == "ok":
             why = 0
@@ -186,8 +519,10 @@ class Run:
         elif answer == ["failed"]:
             why = 11
             if ample[0] == "panic":
-                why = 9
+                why, answer = 9, ample
                 self.tally["9 where a short output made the crate fail first"] += 1
+        elif answer == LAYERS_REFUSED.split():
+            why = 6
         else:
             raise Unexpected(spaced(answer))
         call = "record { contribution = record { counts = %s; lengths = %s; marks = %s }; markers = %s; "\
@@ -200,9 +535,11 @@ class Run:
             self.tally["headers written that end in FF 00"] += front[-2 - 2 * eph:len(front) - 2 * eph] == [0xff, 0]
             self.passes = [p + c for p, c in zip(self.passes, counts)]
             self.counts.update(c for c in counts if c)
+        after = self.holds("writer")
+        self.agree(words, line, spaced(answer), after)
         self.calls.append(("writer", name, dict(
             before=words, sop=sop, eph=eph, number=number, counts=counts, lengths=lengths, marks=marks, room=room,
-            refusal=why, front=front, after=self.holds("writer"))))
+            refusal=why, front=front, after=after)))
         return front if why == 0 else None
 
     def cost_of(self, words, answer):
@@ -217,18 +554,19 @@ class Run:
     def read(self, sop, eph, data):
         """The refusal or 0; None if the read was left out because it would take too long to compute."""
         words = self.reader.words()
-        cost = self.cost_of(words, self.on_probe(words, "read %d %d %s" % (sop, eph, hexed(data))))
+        line = "read %d %d %s" % (sop, eph, hexed(data))
+        cost = self.cost_of(words, self.on_probe(words, line))
         if self.cost + cost > COST_MOST:
             self.tally["reads left out, too long to compute"] += 1
             return None
         self.cost += cost
-        answer = self.tell("reader", "read %d %d %s" % (sop, eph, hexed(data)))
+        answer = self.tell("reader", line)
         if answer.startswith("ok "):
             first, reports, records = [[int(x) for x in part.split()] for part in answer[3:].split("/")]
             told = [0] + first
             lent = first[2] + self.rng.choice([0, 0, 1, 3])
-        elif answer in ("failed width", "failed align"):
-            told = [9 if answer == "failed width" else 12, 0, 0, 0, 0, 0]
+        elif answer in READ_REFUSALS:
+            told = [READ_REFUSALS[answer], 0, 0, 0, 0, 0]
             reports, records = [], []
             # a record for each segment that could come first: each has three bits or more of the input, or is of one block after its end
             lent = min(164 * self.blocks, 8 * len(data) // 3 + 164 + self.blocks)
@@ -243,12 +581,14 @@ class Run:
             self.tally["reads SOP mark %d" % told[4]] += 1
             self.tally["reads EPH mark %d" % told[5]] += 1
             self.tally["reads absent, with EPH found"] += not told[1] and eph and told[5] == 0
-            self.tally["reads with more zero planes than the band has"] += any(x > NOT_YET for x in reports)
-            self.tally["reads with 999 zero planes"] += bool(told[1]) and any(x == NOT_YET for x in reports[1::4])
+            self.tally["reads with more zero planes than the band has"] += any(x > NOT_YET_PLANES for x in reports)
+            self.tally["reads with %d zero planes" % NOT_YET_PLANES] += bool(told[1]) and any(x == NOT_YET_PLANES for x in reports[1::4])
             self.tally["reads with a length of 2^31 or more"] += any(x >= 1 << 31 for x in records[3::4])
+        after = self.holds("reader")
+        self.agree(words, line, answer, after)
         self.calls.append(("reader", "reads", dict(
             sop=sop, eph=eph, data=data, reports=4 * self.blocks, records=4 * lent, told=told,
-            rows=(reports, records), after=self.holds("reader"))))
+            rows=(reports, records), after=after)))
         return told[0]
 
     def row(self, steps=None):
@@ -267,7 +607,8 @@ def some_bands(rng, most):
     while True:
         bands = []
         for _ in range(rng.choice([1, 1, 1, 2, 2, 3])):
-            planes = rng.choice([rng.randrange(9), rng.randrange(9), rng.randrange(41), rng.choice([0, 1, 37, 998, rng.randrange(999)])])
+            planes = rng.choice([rng.randrange(9), rng.randrange(9), rng.randrange(41),
+                rng.choice([0, 1, 37, MOST_PLANES, rng.randrange(MOST_PLANES + 1)])])
             bands.append((some_side(rng), some_side(rng), planes))
         blocks = sum(w * h for w, h, _ in bands)
         if blocks <= most and (blocks or rng.random() < 0.1):
@@ -285,7 +626,7 @@ def some_shape(rng):
         for _ in range(w * h):
             zero = rng.choice([0, 0, 1, 2, rng.randrange(5), rng.randrange(5), rng.randrange(25) if rng.random() < 0.2 else 1])
             if deep and rng.random() < 0.3:
-                zero = rng.randrange(999)
+                zero = rng.randrange(MOST_PLANES + 1)
             planes.append(max(0, p - zero))
     return bands, style, planes
 
@@ -452,8 +793,8 @@ def hunted(rng, run, sop, eph, base, wanted, tries):
     return data, False
 
 
-def some_state(rng, role, bands, style, layer):
-    """Words in the ranges of refusal 5, reachable or not."""
+def some_state(rng, role, bands, style, layer, later=CRATE_LAYERS):
+    """Words in the ranges of refusal 5, reachable or not. Inclusion values from `later` on are "not yet"."""
     words = [role, len(bands), style, layer]
     for i in range(3):
         words += list(bands[i]) if i < len(bands) else [0, 0, 0]
@@ -462,28 +803,32 @@ def some_state(rng, role, bands, style, layer):
     far = rng.random() < 0.1
     wide = rng.random() < 0.3
 
+    least = max(0, layer - ZEROS_MOST)
+
     def incl():
         if wild and rng.random() < 0.3:
-            return rng.randrange(1000)
-        return min(NOT_YET, max(0, rng.choice([layer, layer, layer - 1, layer + 1, layer + 2, layer - 3, NOT_YET,
-            rng.randrange(layer + 1) if far else layer])))
+            value = rng.randrange(later + 1)
+        else:
+            value = max(0, rng.choice([layer, layer, layer - 1, layer + 1, layer + 2, layer - 3, NOT_YET_INCLUDED,
+                rng.randrange(layer + 1) if far else layer]))
+        return value if value < later else NOT_YET_INCLUDED
 
     def incl_low():
         if wild and rng.random() < 0.3:
-            return rng.randrange(1000)
-        return min(NOT_YET, max(0, rng.choice([layer, layer, layer - 1, layer - 1, layer + 1, layer - 2,
-            0 if far or layer < 5 else layer])))
+            return rng.randrange(least, later + 1)
+        return min(later, max(0, rng.choice([layer, layer, layer - 1, layer - 1, layer + 1, layer - 2,
+            least if far or layer < 5 else layer])))
 
     def zero():
         if (wild and rng.random() < 0.1) or (far and rng.random() < 0.1):
-            return rng.choice([NOT_YET, rng.randrange(1000)])
+            return rng.choice([NOT_YET_PLANES, rng.randrange(NOT_YET_PLANES + 1)])
         if role == 2 and rng.random() < 0.5:
-            return NOT_YET
+            return NOT_YET_PLANES
         return rng.randrange(7)
 
     def zero_low():
         if wild and rng.random() < 0.1:
-            return rng.randrange(1000)
+            return rng.randrange(NOT_YET_PLANES + 1)
         return rng.randrange(5)
 
     old = rng.choice([0.2, 0.5, 0.8])
@@ -601,6 +946,11 @@ def trip_run(rng, run):
     """A writer with matching marks and a reader of its packets, in order; refused calls between them. The table asks the book too."""
     run.start("writer")
     run.start("reader")
+    tripping(rng, run)
+
+
+def tripping(rng, run):
+    """Some writing calls, and reads of their packets."""
     large = rng.random() < 0.25
     waiting = []
     for _ in range(rng.randrange(1, 6)):
@@ -636,23 +986,27 @@ def trip_run(rng, run):
 
 
 def some_layer(rng):
-    return rng.choice([1, 1, 2, 2, 3, 5, 20, 997, 998, rng.randrange(1, 999)])
+    return rng.choice([1, 1, 2, 2, 3, 5, 20, CRATE_LAYERS - 2, CRATE_LAYERS - 1, rng.randrange(1, CRATE_LAYERS)])
 
 
 def loaded_writer_run(rng, run):
     words = some_state(rng, 1, run.bands, run.style, some_layer(rng))
     run.load("writer", words)
     run.passes = passes_in(words, run.bands)
-    layers = min(rng.randrange(1, 4), 999 - words[3])
+    layers = min(rng.randrange(1, 4), CRATE_LAYERS - words[3])
     writing(rng, run, rng.choice(["matching", "some", "all", "none"]), layers, rng.random() < 0.4)
 
 
 def loaded_reader_run(rng, run):
     words = some_state(rng, 2, run.bands, run.style, some_layer(rng))
     run.load("reader", words)
-    layer = words[3]
+    reading(rng, run, words[3])
+
+
+def reading(rng, run, layer):
+    """Some reading calls on the run's reader, the crate's in its layers."""
     for _ in range(rng.randrange(1, 4)):
-        if layer == NOT_YET:
+        if run.crate and layer == CRATE_LAYERS:
             break
         sop, eph = rng.choice([(0, 0), (0, 0), (0, 1), (1, 0), (1, 1)])
         base = some_bytes(rng, 16)
@@ -666,8 +1020,50 @@ def loaded_reader_run(rng, run):
             layer += 1
 
 
+# ---- kinds of runs beyond the crate's layers
+
+def some_later_layer(rng):
+    return rng.choice([CRATE_LAYERS - 1, CRATE_LAYERS, CRATE_LAYERS, CRATE_LAYERS + 1, NOT_YET_INCLUDED - 2, NOT_YET_INCLUDED - 1,
+        rng.randrange(1, CRATE_LAYERS), rng.randrange(CRATE_LAYERS, NOT_YET_INCLUDED), rng.randrange(CRATE_LAYERS, NOT_YET_INCLUDED)])
+
+
+def later_writer_run(rng, run):
+    run.ask_the_scope()
+    words = some_state(rng, 1, run.bands, run.style, some_later_layer(rng), NOT_YET_INCLUDED)
+    run.load("writer", words)
+    run.passes = passes_in(words, run.bands)
+    writing(rng, run, rng.choice(["matching", "some", "all", "none"]), rng.randrange(1, 4), rng.random() < 0.4)
+
+
+def later_reader_run(rng, run):
+    run.ask_the_scope()
+    words = some_state(rng, 2, run.bands, run.style, some_later_layer(rng), NOT_YET_INCLUDED)
+    run.load("reader", words)
+    reading(rng, run, words[3])
+
+
+def without_news(words, layer):
+    """A started state after so many packets to which no block contributed."""
+    words = words[:3] + [layer] + words[4:]
+    for block in sum(blocks_in(words), []):
+        for node in block.path:
+            words[block.inclusion + 3 * node + 1] = layer
+    return words
+
+
+def later_trip_run(rng, run):
+    """A round trip that begins in a later layer."""
+    run.ask_the_scope()
+    layer = some_later_layer(rng)
+    for side in ("writer", "reader"):
+        run.start(side)
+        run.load(side, without_news(run.calls[-1][2]["after"], layer))
+    tripping(rng, run)
+
+
 KINDS = [("writer", writer_run, 22), ("reader", reader_run, 24), ("trip", trip_run, 22), ("loaded writer", loaded_writer_run, 18),
-    ("loaded reader", loaded_reader_run, 14)]
+    ("loaded reader", loaded_reader_run, 14), ("later writer", later_writer_run, 14), ("later reader", later_reader_run, 11),
+    ("later trip", later_trip_run, 11)]
 
 
 def make_run(seed, i, oracles, tally):
@@ -792,7 +1188,7 @@ def main():
     for i in range(args.runs):
         try:
             runs.append(make_run(args.seed, i, oracles, tally))
-        except Unexpected as e:
+        except (Unexpected, Disagreement) as e:
             odd.append("%d/%d: %s" % (args.seed, i, e))
     for o in oracles:
         o.close()
@@ -832,7 +1228,7 @@ def main():
     for k in sorted(tally):
         print("  %-55s %d" % (k, tally[k]))
     for o in odd:
-        print("answer without a number: " + o)
+        print("answer without a number, or not the scope's: " + o)
     if bad:
         print("%d runs fail, %d can't be told; the smallest that fails:" % (len(bad), len(unknown)))
         explain(repository, min(bad, key=lambda r: len(r.row())))

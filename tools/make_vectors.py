@@ -6,8 +6,10 @@
 
 This gives the files that are there byte for byte; --seed gives others. crate_answers runs the code of crate openjp2 0.6.1
 (rust/compare/src/answers.rs), and compare_definitions.py's generator makes the random runs. Every answer of a list, and the state after
-it, comes from the crate, but for those of the lists `hand` and `refusals` that the scope (docs/SCOPE.md) gives alone: the crate has no such
-refusal, and there the number stands in this file, with the buffers as the scope leaves them. Starts are sums of the crate's lengths.
+it, comes from the crate, but for two kinds. From layer 999 on, and where 999 stands in an inclusion tree, the answers of the lists `layers`
+and `refusals` come from compare_definitions.py's Scope, the scope (docs/SCOPE.md) as plain Python, which must agree with the crate wherever
+that is asked. Refusals that the crate has not stand in this file by their numbers, in the lists `hand`, `layers` and `refusals`, with the
+buffers as the scope leaves them. Starts are sums of the lengths.
 
 The lists, which crates/vectors/args names:
 
@@ -17,8 +19,8 @@ The lists, which crates/vectors/args names:
     reads       packets read as they were written     reloaded    packets read from loaded states
     damaged     packets damaged, cut or made of other bytes
     markers     packets with a marker missing, cut or where none is due
-    big         packets of big geometries
-    refusals    refusals by the scope alone
+    big         packets of big geometries             layers      packets of layers from 998 on
+    refusals    refusals by the scope alone, and states at the ends of the ranges
 
 A list is a file of bytes, crates/vectors/data/NAME. A number below 251 is one byte; else 252, 253, 254 or 255 and then 1, 2, 4 or 8 bytes,
 the highest first. In a row of numbers 251, how often, and a number stand for that number so often. A list is the number of its calls, the
@@ -44,11 +46,11 @@ import os
 import random
 
 import compare_definitions as generator
-from compare_definitions import AMPLE, Oracle, Run, Unexpected, add_program, hexed, spaced
+from compare_definitions import AMPLE, CRATE_LAYERS, HEADER_WORDS, MOST_PLANES, NOT_YET_INCLUDED, NOT_YET_PLANES
+from compare_definitions import Oracle, Run, Scope, Unexpected, add_program, blocks_in, hexed, spaced, started, without_news
 
 STATE, SCRATCH, OUTPUT, REPORTS, RECORDS = 7, 5, 165, 9, 8
 STATE_MOST, COUNTS_MOST, PASSES_MOST, BYTES_MOST, RECORDS_MOST, LIST_MOST = 147463, 12288, 700, 4000, 49152, 65535
-HEADER_WORDS = 13
 
 
 def check(words):
@@ -276,31 +278,40 @@ def put_random(calls, oracles, seed, kinds, side, answers, most):
 # ---- calls made by hand, answered by the crate
 
 class Asked:
-    """A writer or a reader of the crate, and the list that its answers go to."""
+    """A writer or a reader of the crate, with the scope to agree, or by the scope alone; and the list that its answers go to."""
 
     def __init__(self, calls, oracle):
-        self.calls, self.oracle = calls, oracle
+        self.calls, self.oracle, self.scope = calls, oracle, Scope()
+        self.given = dict(from_crate=isinstance(oracle, Oracle))
+
+    def load(self, words):
+        self.bands = generator.bands_of(words)
+        self.ask("load 0 " + spaced(words))
+        self.calls.load(words)
 
     def start(self, role, bands, style, planes):
         self.bands = bands
         self.ask("start %s 0 %d %s %d %s" % ("writer" if role == 1 else "reader", len(bands), spaced(spaced(b) for b in bands), style,
             spaced(planes)))
         words = self.oracle.words()
-        self.calls.start(role, len(bands), bands, style, planes, len(words), 0, words)
+        self.calls.start(role, len(bands), bands, style, planes, len(words), 0, words, **self.given)
 
     def ask(self, line):
         answer = self.oracle.ask(line)
         if "note:" in answer or answer == "bad":
             raise SystemExit("%s -> %s" % (line, answer))
+        told = self.scope.ask(line)
+        if told.split() != answer.split() or self.scope.words() != self.oracle.words():
+            raise SystemExit("%s -> %s, by the scope %s" % (line, answer, told))
         return answer
 
     def measure(self, sop, eph, counts, lengths, marks):
         before = self.oracle.words()
         answer = self.ask("write %d %d 0 %d / %s / %s / %s / !" % (sop, eph, AMPLE, spaced(counts), spaced(lengths), spaced(marks))).split()
         if answer[0] == "ok":
-            self.calls.measure(sop, eph, counts, lengths, marks, (0, int(answer[1]), sum(lengths)), self.oracle.words())
+            self.calls.measure(sop, eph, counts, lengths, marks, (0, int(answer[1]), sum(lengths)), self.oracle.words(), **self.given)
         else:
-            self.calls.measure(sop, eph, counts, lengths, marks, ({"panic": 9}[answer[0]], 0, 0))
+            self.calls.measure(sop, eph, counts, lengths, marks, ({"panic": 9}[answer[0]], 0, 0), **self.given)
         self.ask("load 0 " + spaced(before))
 
     def write(self, counts, lengths, marks, room=None, sop=0, eph=0, packet=0, front=None):
@@ -313,12 +324,12 @@ class Asked:
         self.ask("load 0 " + spaced(before))
         answer = self.ask("write %d %d %d %d %s" % (sop, eph, packet, room, lists)).split()
         if answer[0] == "failed":
-            self.calls.write(sop, eph, packet, counts, lengths, marks, body, room, 11)
+            self.calls.write(sop, eph, packet, counts, lengths, marks, body, room, 11, **self.given)
             return None
         got = list(bytes.fromhex(answer[2]))
         if answer[3] != "body=" or (front and got != list(bytes.fromhex(front))):
             raise SystemExit("the crate writes %s, not %s" % (answer[2], front))
-        self.calls.write(sop, eph, packet, counts, lengths, marks, body, room, 0, got, after)
+        self.calls.write(sop, eph, packet, counts, lengths, marks, body, room, 0, got, after, **self.given)
         return got
 
     def read(self, data, sop=0, eph=0, records=None, reports=None, rows=None):
@@ -330,13 +341,16 @@ class Asked:
             if (reports and told != [x for r in reports for x in r]) or (rows and got != [x for r in rows for x in r]):
                 raise SystemExit("the crate reads %s" % answer)
             self.calls.read(sop, eph, data, 4 * blocks, 4 * (first[2] if records is None else records), [0] + first, (told, got),
-                self.oracle.words())
+                self.oracle.words(), **self.given)
         else:
             refusal = {"failed width": 9, "failed align": 12}[answer]
-            self.calls.read(sop, eph, data, 4 * blocks, 4 * (4 if records is None else records), [refusal, 0, 0, 0, 0, 0])
+            self.calls.read(sop, eph, data, 4 * blocks, 4 * (4 if records is None else records), [refusal, 0, 0, 0, 0, 0],
+                **self.given)
 
 
 ONE = [(1, 1, 8)]
+TWO = [(2, 1, 8)]
+DEEP = [(1, 1, MOST_PLANES + 1)]
 
 
 def last(n, total):
@@ -434,38 +448,55 @@ def published_list(oracle):
 
 def words_in_range(role, oracle):
     """A state with one block included and one not, from the crate."""
-    bands = [(2, 1, 8)]
     oracle.ask("start writer 0 1 2 1 8 1 8 5")
     front = oracle.ask("write 0 0 0 100 / 1 0 / 5 / 0 / *").split()[2]
     if role == 2:
         oracle.ask("start reader 0 1 2 1 8 1")
         oracle.ask("read 0 0 " + front)
-    return bands, oracle.words()
+    return oracle.words()
+
+
+def changed(words, *pairs):
+    """Other words at some places."""
+    words = list(words)
+    for at, value in pairs:
+        words[at] = value
+    return words
+
+
+def asked_of(calls, oracle, words):
+    """The crate, where it has the layer and the inclusion values, else the scope; with this state loaded."""
+    values = {words[b.inclusion + 3 * node] for band in blocks_in(words) for b in band for node in b.path}
+    asked = Asked(calls, oracle if words[3] < CRATE_LAYERS and CRATE_LAYERS not in values else Scope())
+    asked.load(words)
+    return asked
 
 
 def refusal_list(oracle):
-    """Refusals that the crate has not, by the scope's numbers and order."""
+    """Refusals that the crate has not, by the scope's numbers and order, and states at the ends of the ranges."""
     calls = Calls("refusals")
     given = dict(from_crate=False)
     for answer, count, bands, style, planes, size in (
-            (1, 0, ONE, 0xc0, [], 5), (1, 4, ONE, 0, [], 5), (1, 1, [(65, 1, 999)], 0x40, [], 5), (1, 1, [(1, 65, 8)], 0, [8], 23),
-            (1, 2, [(1, 1, 8), (64, 65, 8)], 0, [8], 23), (2, 1, ONE, 0x40, [], 5), (2, 1, ONE, 0x80, [9], 23), (3, 1, ONE, 0, [8], 22),
-            (3, 1, ONE, 0, [8], 24), (3, 1, [(1, 1, 999)], 0, [8], 22), (3, 1, ONE, 0, [8, 8], 23)):
+            (1, 0, ONE, 0xc0, [], 5), (1, 4, ONE, 0, [], 5), (1, 1, [(65, 1, MOST_PLANES + 1)], 0x40, [], 5),
+            (1, 1, [(1, 65, 8)], 0, [8], 23), (1, 2, [(1, 1, 8), (64, 65, 8)], 0, [8], 23), (2, 1, ONE, 0x40, [], 5),
+            (2, 1, ONE, 0x80, [9], 23), (3, 1, ONE, 0, [8], 22), (3, 1, ONE, 0, [8], 24), (3, 1, DEEP, 0, [8], 22),
+            (3, 1, ONE, 0, [8, 8], 23)):
         for role in (1, 2):
             calls.start(role, count, bands, style, planes, size, answer, **given)
     calls.start(1, 1, ONE, 0, [], 23, 3, **given)
     calls.start(2, 1, ONE, 0, [8], 23, 3, **given)
-    calls.start(1, 1, [(1, 1, 999)], 0, [8], 23, 4, **given)
-    calls.start(2, 1, [(1, 1, 999)], 0, [], 23, 4, **given)
+    calls.start(1, 1, DEEP, 0, [8], 23, 4, **given)
+    calls.start(2, 1, DEEP, 0, [], 23, 4, **given)
     calls.start(1, 1, ONE, 0, [9], 23, 4, **given)
     calls.start(1, 2, [(1, 1, 8), (1, 1, 5)], 0, [8, 6], 33, 4, **given)
     # 5: each word out of its range, then lengths and roles
     for role in (1, 2):
-        _, words = words_in_range(role, oracle)
+        words = words_in_range(role, oracle)
         first = HEADER_WORDS
         block = first + 2 * 3 * 3
-        bad = [(0, 3 - role), (0, 0), (1, 0), (1, 4), (2, 64), (3, 1000), (4, 65), (5, 65), (6, 999), (7, 1), (9, 1), (12, 1),
-               (first, 1000), (first + 1, 1000), (first + 2, 2), (block - 3, 1000), (block - 2, 1000), (block - 1, 2),
+        bad = [(0, 3 - role), (0, 0), (1, 0), (1, 4), (2, 64), (3, NOT_YET_INCLUDED + 1), (4, 65), (5, 65), (6, MOST_PLANES + 1), (7, 1),
+               (9, 1), (12, 1), (first, NOT_YET_INCLUDED + 1), (first + 1, NOT_YET_INCLUDED + 1), (first + 2, 2),
+               (block - 3, NOT_YET_PLANES + 1), (block - 2, NOT_YET_PLANES + 1), (block - 1, 2),
                (block, 165), (block, 0), (block + 1, 2), (block + 1, 33), (block + 1, 0), (block + 2, 5), (block + 3, 11),
                (block + 5, 3), (block + 6, 1), (block + 7, 1)]
         calls.load(words)
@@ -480,8 +511,10 @@ def refusal_list(oracle):
         for size in (len(words) - 1, len(words) + 1, 0):
             refused(calls, role, 5, scratch=size)
         refused(calls, 3 - role, 5)
-        calls.load(words[:3] + [999] + words[4:])
-        refused(calls, role, 6)
+        for at, value in ((3, CRATE_LAYERS), (3, CRATE_LAYERS + 1), (first, CRATE_LAYERS + 1), (first, NOT_YET_INCLUDED),
+                (first + 1, CRATE_LAYERS + 1), (first + 1, NOT_YET_INCLUDED), (block - 3, NOT_YET_PLANES), (block - 2, NOT_YET_PLANES)):
+            in_range(calls, oracle, role, changed(words, (at, value)))
+        last_layer(calls, oracle, role, words, block)
     writer_order(calls, given)
     reader_order(calls, given)
     return calls
@@ -496,9 +529,37 @@ def refused(calls, role, number, scratch=None):
         calls.read(0, 0, [0xd5, 0x15, 0, 0], 8, 16, [number, 0, 0, 0, 0, 0], scratch=scratch, from_crate=False)
 
 
+def in_range(calls, oracle, role, words):
+    """The calls of `refused` on a state in range."""
+    asked = asked_of(calls, oracle, words)
+    if role == 1:
+        asked.measure(0, 0, [0, 1], [3], [0])
+        asked.write([0, 1], [3], [0], room=40)
+    else:
+        asked.read([0xd5, 0x15, 0, 0], records=4)
+
+
+def last_layer(calls, oracle, role, words, block):
+    """The largest numbers of a state's last layer; then none is left, and 6 comes after 5 and before 3."""
+    layer, root = NOT_YET_INCLUDED - 1, HEADER_WORDS + 6
+    late = changed(words, (3, layer), (root + 1, layer), (block, 164 * layer))
+    in_range(calls, oracle, role, late)
+    calls.load(changed(late, (block, 164 * layer + 1)))
+    refused(calls, role, 5)
+    done = changed(late, (3, NOT_YET_INCLUDED), (block, 164 * NOT_YET_INCLUDED))
+    calls.load(done)
+    refused(calls, role, 6)
+    if role == 1:
+        calls.write(0, 0, 0, [165], [], [], 0, 40, 6, from_crate=False)
+    else:
+        calls.read(0, 0, [0xd5], 5, 0, [6, 0, 0, 0, 0, 0], from_crate=False)
+    calls.load(changed(done, (root, NOT_YET_INCLUDED + 1)))
+    refused(calls, role, 5)
+
+
 def writer_order(calls, given):
     top = 1 << 31
-    calls.start(1, 1, [(2, 1, 8)], 0, [8, 8], 39, 0, started(1, [(2, 1, 8)], 0), **given)
+    calls.start(1, 1, TWO, 0, [8, 8], 39, 0, started(1, TWO, 0, [8, 8]), **given)
     for number, counts, lengths, marks, body, room in (
             (3, [165], [0] * 165, [0] * 165, 0, 0), (3, [165, 0], [0] * 164, [0] * 165, 0, 0), (3, [165, 0], [0] * 165, [0] * 164, 0, 0),
             (3, [1, 1, 1], [0] * 3, [0] * 3, 0, 0), (3, [], [], [], 0, 9), (3, [(1 << 32) - 1, 1], [], [], 0, 9),
@@ -515,7 +576,7 @@ def writer_order(calls, given):
 
 def reader_order(calls, given):
     no = lambda n: [n, 0, 0, 0, 0, 0]
-    calls.start(2, 1, ONE, 4, [], 23, 0, started(2, ONE, 4), **given)
+    calls.start(2, 1, ONE, 4, [], 23, 0, started(2, ONE, 4, []), **given)
     wide = generator.stuffed([1, 1, 1, 0] + [1] * 30 + [0])
     cut = [0xfe, 0xad, 0xff]
     calls.read(0, 0, [0xe5], 0, 0, no(3), **given)
@@ -526,19 +587,86 @@ def reader_order(calls, given):
     calls.read(0, 0, wide, 4, 0, no(9), **given)
     calls.read(0, 0, wide, 4, 16, no(9), **given)
     calls.read(0, 0, cut, 4, 60, no(13), **given)
-    calls.start(2, 1, ONE, 0, [], 23, 0, started(2, ONE, 0), **given)
+    calls.start(2, 1, ONE, 0, [], 23, 0, started(2, ONE, 0, []), **given)
     calls.read(0, 0, cut, 4, 0, no(13), **given)
     calls.read(0, 0, cut, 4, 4, no(12), **given)
 
 
-def started(role, bands, style):
-    """The words of a started state as the scope says them, for blocks of the same planes as their band."""
-    words = [role, len(bands), style, 0] + [x for b in three(bands) for x in b]
-    for w, h, _ in bands:
-        nodes = sum(generator.level_sizes(w, h))
-        fresh, zero = [999, 0, 0], [0 if role == 1 else 999, 0, 0]
-        words += fresh * nodes + zero * nodes + [0, 0, 0, 0] * (w * h)
-    return words
+# ---- layers beyond the crate's
+
+LAYERS = (CRATE_LAYERS - 1, CRATE_LAYERS, CRATE_LAYERS + 1, NOT_YET_INCLUDED - 2, NOT_YET_INCLUDED - 1)
+VALUES = (700, CRATE_LAYERS - 1, CRATE_LAYERS, CRATE_LAYERS + 1, 5000, NOT_YET_INCLUDED - 1, NOT_YET_INCLUDED)
+
+
+def with_node(role, layer, node):
+    """A block without passes, whose inclusion node is this one."""
+    words = started(role, ONE, 0, [8] if role == 1 else [])
+    return changed(words, (3, layer), *enumerate(node, HEADER_WORDS))
+
+
+def layer_list(oracle):
+    """Layers on both sides of the crate's last and at the end, with inclusion values below, at and above them."""
+    calls = Calls("layers")
+    for layer in LAYERS:
+        for value in VALUES:
+            node_calls(calls, oracle, layer, [value, min(value, layer) - 1, 0])
+    for layer in (CRATE_LAYERS, NOT_YET_INCLUDED - 1):
+        for low in sorted({layer, layer + 1, NOT_YET_INCLUDED}):
+            node_calls(calls, oracle, layer, [NOT_YET_INCLUDED, low, 0])
+        node_calls(calls, oracle, layer, [layer, layer, 1])
+    long_codes(calls, oracle)
+    for layer in LAYERS[:3]:
+        set_to_999(calls, oracle, layer)
+    for first, packets in ((CRATE_LAYERS - 1, [[0, 0], [0, 1], [2, 1]]), (NOT_YET_INCLUDED - 2, [[0, 0], [3, 0]])):
+        trip(calls, first, packets)
+    return calls
+
+
+def node_calls(calls, oracle, layer, node):
+    """No inclusion measured, one written, and a read."""
+    writer = asked_of(calls, oracle, with_node(1, layer, node))
+    writer.measure(0, 0, [0], [], [])
+    writer.write([1], [5], [0])
+    asked_of(calls, oracle, with_node(2, layer, node)).read(bits("1 01 1 0 0 101 0"))
+
+
+def long_codes(calls, oracle):
+    """A thousand zeros written and read; all that a last layer can have, measured and read past the input's end."""
+    for layer, low, count in ((CRATE_LAYERS + 1, 0, 1), (NOT_YET_INCLUDED - 1, NOT_YET_INCLUDED - 1000, 0)):
+        node = [NOT_YET_INCLUDED, low, 0]
+        front = asked_of(calls, oracle, with_node(1, layer, node)).write([count], [5] * count, [0] * count)
+        asked_of(calls, oracle, with_node(2, layer, node)).read(front)
+    fresh = [NOT_YET_INCLUDED, 0, 0]
+    asked_of(calls, oracle, with_node(1, NOT_YET_INCLUDED - 1, fresh)).measure(0, 0, [1], [5], [0])
+    asked_of(calls, oracle, with_node(2, NOT_YET_INCLUDED - 1, fresh)).read([0x80])
+
+
+def set_to_999(calls, oracle, layer):
+    """A second block without passes whose node says layer 999, as far as the layer is known."""
+    leaf = HEADER_WORDS + 3
+    node = (leaf, CRATE_LAYERS), (leaf + 1, layer), (leaf + 2, 0)
+    writer = asked_of(calls, oracle, changed(words_in_range(1, oracle), (3, layer), *node))
+    writer.measure(0, 0, [1, 1], [2, 3], [0, 0])
+    front = writer.write([1, 0], [2], [0])
+    asked_of(calls, oracle, changed(words_in_range(2, oracle), (3, layer), *node)).read(front)
+
+
+def trip(calls, first, packets):
+    """Packets of two blocks from a layer on, with none before, written and read."""
+    writer, reader, fronts = Asked(calls, Scope()), Asked(calls, Scope()), []
+    writer.load(without_news(started(1, TWO, 0, [8, 5]), first))
+    for counts in packets:
+        fronts.append(writer.write(counts, [4] * sum(counts), [0] * sum(counts)))
+    after_last(calls, 1)
+    reader.load(without_news(started(2, TWO, 0, []), first))
+    for front in fronts:
+        reader.read(front)
+    after_last(calls, 2)
+
+
+def after_last(calls, role):
+    if calls.state[3] == NOT_YET_INCLUDED:
+        refused(calls, role, 6)
 
 
 # ---- big geometries
@@ -577,7 +705,7 @@ def big_list(oracles, seed):
             ([(64, 64, 9)], 0, 8), ([(64, 64, 8)], 4, 5), ([(64, 64, 7), (64, 64, 8), (64, 64, 9)], 1, 8),
             ([(64, 1, 12), (1, 64, 12), (33, 63, 10)], 0, 6),
             ([(63, 64, 7), (64, 63, 6)], 0x2a, 5), ([(32, 32, 20), (31, 33, 21), (17, 16, 22)], 5, 4),
-            ([(5, 64, 998), (64, 3, 998), (0, 64, 1)], 4, 4),
+            ([(5, 64, MOST_PLANES), (64, 3, MOST_PLANES), (0, 64, 1)], 4, 4),
             ([(64, 64, 0), (2, 1, 3)], 0, 5), ([(9, 9, 6), (10, 10, 7)], 1, 6)):
         big_case(calls, oracles, seed, bands, style, most)
     return calls
@@ -604,6 +732,7 @@ def main():
             ("reloaded", [generator.loaded_reader_run], "reader", 60)):
         lists.append(put_random(Calls(name), oracles, args.seed, kinds, side, answers, 60))
     lists.append(big_list(oracles, args.seed))
+    lists.append(layer_list(oracles[0]))
     lists.append(refusal_list(oracles[0]))
     for o in oracles:
         o.close()

@@ -10,12 +10,14 @@
 //! | `write SOP EPH NUMBER ROOM / COUNTS.. / LENGTHS.. / MARKS.. / BODY` | `ok BYTES FRONT body=`, `failed`, `panic` |
 //! | `read SOP EPH BYTES` | `ok PRESENT TAKEN SEGMENTS SOP EPH / REPORTS.. / RECORDS..`, `failed width`, `failed align`, `panic` |
 //!
-//! E says how the crate is shown a band without blocks: 0 as an empty band, 1 as one with an area. WORDS are those of a state. BODY is `*`
-//! for (7 i + 3) mod 256 at each place i, or `!` for no body: then only the header is made. FRONT is the packet less its body; `body!` in
-//! place of `body=` says that the body is not what was given. `panic` is an assertion of the crate. After a call that fails the precinct is
-//! what it was before. A line that is none of these, or whose lists have other lengths than the precinct asks, is answered `bad`.
+//! E says how the crate is shown a band without blocks: 0 as an empty band, 1 as one with an area. WORDS are those of a state: the crate's
+//! own "not yet", 999, is 65,535 in its inclusion trees, and 999 in one of them is answered `bad`. From layer 999 on the crate takes what
+//! is not yet included for included. BODY is `*` for (7 i + 3) mod 256 at each place i, or `!` for no body: then only the header is made.
+//! FRONT is the packet less its body; `body!` in place of `body=` says that the body is not what was given. `panic` is an assertion of the
+//! crate. After a call that fails the precinct is what it was before. A line that is none of these, or whose lists have other lengths than
+//! the precinct asks, is answered `bad`.
 use crate::model;
-use crate::openjp2::t2::precinct::{Failed, Precinct};
+use crate::openjp2::t2::precinct::{come_back, Failed, Precinct};
 use std::panic::{catch_unwind, AssertUnwindSafe};
 
 /// The longest body that `*` makes.
@@ -70,7 +72,7 @@ impl Answers {
             return None;
         }
         let bands = model::bands_of(words);
-        if bands.iter().any(|band| band[0] > 64 || band[1] > 64) || words.len() != model::layout(&bands).1 {
+        if bands.iter().any(|band| band[0] > 64 || band[1] > 64) || words.len() != model::layout(&bands).1 || !come_back(words) {
             return None;
         }
         self.empty = *empty == 0;

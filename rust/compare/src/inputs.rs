@@ -1,5 +1,5 @@
 //! Random shapes, layers, states and inputs.
-use crate::model;
+use crate::model::{self, Place, LAYERS, NOT_YET_INCLUDED, NOT_YET_PLANES};
 use crate::pair::{Bands, Layer, Markers};
 use crate::random::Random;
 
@@ -11,8 +11,39 @@ pub struct Shape {
     pub planes: Vec<u32>,
 }
 
-const EDGES: [u32; 26] =
-    [0, 1, 2, 3, 4, 9, 10, 11, 31, 32, 33, 63, 64, 65, 108, 109, 110, 163, 164, 165, 998, 999, 1000, 1 << 31, (1 << 31) - 1, u32::MAX];
+const EDGES: [u32; 29] = [
+    0,
+    1,
+    2,
+    3,
+    4,
+    9,
+    10,
+    11,
+    31,
+    32,
+    33,
+    63,
+    64,
+    65,
+    108,
+    109,
+    110,
+    163,
+    164,
+    165,
+    998,
+    999,
+    1000,
+    65_534,
+    65_535,
+    65_536,
+    1 << 31,
+    (1 << 31) - 1,
+    u32::MAX,
+];
+/// Layers about the crate's last, in the middle and about the last.
+pub const LATE_LAYERS: [u32; 12] = [997, 998, 999, 1000, 1001, 32_767, 32_768, 65_530, 65_532, 65_533, 65_534, 65_535];
 const PASSES: [u32; 16] = [1, 2, 3, 4, 5, 6, 7, 10, 12, 13, 36, 37, 109, 110, 163, 164];
 
 pub fn edge(random: &mut Random) -> u32 {
@@ -62,9 +93,14 @@ fn passes_so_far(state: &[u32]) -> Vec<u32> {
 /// A layer for a writer's state: blocks as dense as one in `rare`, marks as the style ends segments or any.
 pub fn layer(random: &mut Random, state: &[u32], rare: u64, length_bits: u64) -> Layer {
     let matching = !random.once_in(3);
+    layer_by_block(random, state, |_| rare, length_bits, matching)
+}
+
+/// A layer with another density for each block; `matching` where marks are as the style ends segments.
+pub fn layer_by_block(random: &mut Random, state: &[u32], rare: impl Fn(usize) -> u64, length_bits: u64, matching: bool) -> Layer {
     let mut layer = Layer::default();
-    for so_far in passes_so_far(state) {
-        let count = match random.once_in(rare) {
+    for (block, so_far) in passes_so_far(state).into_iter().enumerate() {
+        let count = match random.once_in(rare(block)) {
             true if random.once_in(3) => random.pick(&PASSES),
             true => random.between(1, 4) as u32,
             false => 0,
@@ -83,40 +119,110 @@ pub fn blocks_in(state: &[u32]) -> usize {
     model::layout(&model::bands_of(state)).2
 }
 
-/// A state in the ranges of refusal 5, whether or not calls could leave it.
+/// A state in the ranges of refusal 5, whether or not calls could leave it, in one of the crate's layers or next layer 999.
 pub fn state(random: &mut Random, role: u32, shape: &Shape) -> Vec<u32> {
-    let used = &shape.bands[..shape.count as usize];
-    let (places, length, _) = model::layout(used);
-    let mut state = vec![0; length];
     let layer = if random.once_in(8) { random.pick(&[0, 1, 997, 998, 999]) } else { random.between(1, 20) as u32 };
-    state[..4].copy_from_slice(&[role, shape.count, u32::from(shape.style), layer]);
-    state[4..4 + 3 * used.len()].copy_from_slice(used.as_flattened());
+    let (places, mut state) = with_blocks(random, role, shape, layer);
     let most = random.pick(&[3, 12, 999]);
     for p in &places {
-        for node in state[p.inclusion..p.block_words].chunks_exact_mut(3) {
-            node[0] = if random.once_in(3) { 999 } else { random.between(0, most) as u32 };
-            node[1] = random.between(0, most) as u32;
-            node[2] = random.below(2) as u32;
-        }
-        for block in state[p.block_words..].chunks_exact_mut(4).take(p.blocks) {
-            if layer > 0 && !random.once_in(3) {
-                let limit = if shape.style & 4 != 0 {
-                    1
-                } else if shape.style & 1 != 0 {
-                    random.pick(&[10, 2, 1])
-                } else {
-                    109
-                };
-                block[0] = if random.once_in(4) { 164 * layer } else { random.between(1, u64::from(164 * layer)) as u32 };
-                block[1] = if random.once_in(4) { random.between(25, 32) as u32 } else { random.between(3, 8) as u32 };
-                if role == 2 {
-                    block[2] = limit;
-                    block[3] = random.between(1, u64::from(limit)) as u32;
-                }
-            }
+        fill_nodes(random, &mut state[p.inclusion..p.zero_planes], NOT_YET_INCLUDED, most);
+        fill_nodes(random, &mut state[p.zero_planes..p.block_words], NOT_YET_PLANES, most);
+        if p.nodes > 0 && random.once_in(8) {
+            let node = p.inclusion + 3 * random.below(p.nodes as u64) as usize;
+            state[node] = random.pick(&[998, 1000, 1001, 32_768, 65_534]);
+            state[node + 1] = random.pick(&[state[node + 1], 998, 999, 1000, 65_534, 65_535]);
         }
     }
     state
+}
+
+/// The same in one of `LATE_LAYERS` or any layer from 998 on. A root's low is near the layer but for one state in `far`, since each layer
+/// between them costs a bit.
+pub fn late_state(random: &mut Random, role: u32, shape: &Shape, far: u64) -> Vec<u32> {
+    let layer = late_layer(random);
+    let (places, mut state) = with_blocks(random, role, shape, layer);
+    let (most, far) = (random.pick(&[3, 12, 999]), random.once_in(far));
+    for p in &places {
+        for node in state[p.inclusion..p.zero_planes].chunks_exact_mut(3) {
+            node.copy_from_slice(&[late_number(random, layer), late_number(random, layer), random.below(2) as u32]);
+        }
+        fill_nodes(random, &mut state[p.zero_planes..p.block_words], NOT_YET_PLANES, most);
+        if p.nodes > 0 && !far {
+            state[p.zero_planes - 2] = (layer + 1 - random.below(40) as u32).min(NOT_YET_INCLUDED);
+        }
+    }
+    state
+}
+
+pub fn late_layer(random: &mut Random) -> u32 {
+    match random.once_in(4) {
+        true => random.between(998, LAYERS.into()) as u32,
+        false => random.pick(&LATE_LAYERS),
+    }
+}
+
+/// A value or low of an inclusion tree: at an edge, any, or about the layer.
+fn late_number(random: &mut Random, layer: u32) -> u32 {
+    match random.below(4) {
+        0 => random.pick(&[0, 998, 999, 1000, 65_534, 65_535]),
+        1 => random.between(0, NOT_YET_INCLUDED.into()) as u32,
+        _ => (layer - 2 + random.below(5) as u32).min(NOT_YET_INCLUDED),
+    }
+}
+
+/// A state of this layer with blocks in range, whose nodes are all zeros; and the places of its bands.
+fn with_blocks(random: &mut Random, role: u32, shape: &Shape, layer: u32) -> (Vec<Place>, Vec<u32>) {
+    let used = &shape.bands[..shape.count as usize];
+    let (places, length, _) = model::layout(used);
+    let mut state = vec![0; length];
+    state[..4].copy_from_slice(&[role, shape.count, u32::from(shape.style), layer]);
+    state[4..4 + 3 * used.len()].copy_from_slice(used.as_flattened());
+    for p in &places {
+        for block in state[p.block_words..].chunks_exact_mut(4).take(p.blocks) {
+            if layer > 0 && !random.once_in(3) {
+                fill_block(random, role, shape.style, layer, block);
+            }
+        }
+    }
+    (places, state)
+}
+
+/// A block with passes.
+fn fill_block(random: &mut Random, role: u32, style: u8, layer: u32, block: &mut [u32]) {
+    let limit = if style & 4 != 0 {
+        1
+    } else if style & 1 != 0 {
+        random.pick(&[10, 2, 1])
+    } else {
+        109
+    };
+    block[0] = if random.once_in(4) { 164 * layer } else { random.between(1, u64::from(164 * layer)) as u32 };
+    block[1] = if random.once_in(4) { random.between(25, 32) as u32 } else { random.between(3, 8) as u32 };
+    if role == 2 {
+        block[2] = limit;
+        block[3] = random.between(1, u64::from(limit)) as u32;
+    }
+}
+
+/// Nodes with values and lows of at most `most`, some of the values "not yet".
+fn fill_nodes(random: &mut Random, nodes: &mut [u32], not_yet: u32, most: u64) {
+    for node in nodes.chunks_exact_mut(3) {
+        node[0] = if random.once_in(3) { not_yet } else { random.between(0, most) as u32 };
+        node[1] = random.between(0, most) as u32;
+        node[2] = random.below(2) as u32;
+    }
+}
+
+/// Moves a state on to a layer as packets without passes leave it.
+pub fn pass_over(state: &mut [u32], layer: u32) {
+    state[3] = layer;
+    for p in &model::layout(&model::bands_of(state)).0 {
+        for node in state[p.inclusion..p.zero_planes].chunks_exact_mut(3) {
+            if node[0] == NOT_YET_INCLUDED {
+                node[1] = layer;
+            }
+        }
+    }
 }
 
 /// A reader's state after layer 0 in which each block has a pass, and length fields of 32 bits from then on; its style has 0x04.

@@ -3,7 +3,11 @@
 
 const WRITER: u32 = 1;
 const READER: u32 = 2;
-const NOT_YET: u32 = 999;
+/// The layers of a precinct: next layer 65,535 says that all have been coded.
+pub const LAYERS: u32 = 65_535;
+/// The value of a fresh node, in inclusion trees and in zero-plane trees.
+pub const NOT_YET_INCLUDED: u32 = 65_535;
+pub const NOT_YET_PLANES: u32 = 999;
 const MOST_PLANES: u32 = 998;
 const MOST_PASSES: u32 = 164;
 const FIRST_WORDS: usize = 13;
@@ -114,8 +118,9 @@ fn start(role: u32, count: u32, bands: &[u32], style: u8, planes: &[u32], state:
         state[4 + 3 * i..7 + 3 * i].copy_from_slice(band);
     }
     for p in &places {
-        for node in 0..2 * p.nodes {
-            state[p.inclusion + 3 * node] = NOT_YET;
+        for node in 0..p.nodes {
+            state[p.inclusion + 3 * node] = NOT_YET_INCLUDED;
+            state[p.zero_planes + 3 * node] = NOT_YET_PLANES;
         }
         for (leaf, x) in of_band(p).iter().enumerate() {
             set_leaf(state, p.zero_planes, &p.path(leaf), p.planes - x);
@@ -150,7 +155,7 @@ fn in_range(role: u32, state: &[u32], scratch: usize) -> bool {
     }
     let (count, style, layer) = (state[1] as usize, state[2], state[3]);
     let bands = bands_of(state);
-    if style > 0x3f || layer > NOT_YET || state[4 + 3 * count..FIRST_WORDS].iter().any(|w| *w != 0) {
+    if style > 0x3f || layer > LAYERS || state[4 + 3 * count..FIRST_WORDS].iter().any(|w| *w != 0) {
         return false;
     }
     if bands.iter().any(|b| b[0] > 64 || b[1] > 64 || b[2] > MOST_PLANES) {
@@ -161,11 +166,15 @@ fn in_range(role: u32, state: &[u32], scratch: usize) -> bool {
         return false;
     }
     places.iter().all(|p| {
-        let nodes = state[p.inclusion..p.block_words].chunks_exact(3);
-        let blocks = state[p.block_words..p.block_words + 4 * p.blocks].chunks_exact(4);
-        nodes.into_iter().all(|n| n[0] <= NOT_YET && n[1] <= NOT_YET && n[2] <= 1)
-            && blocks.into_iter().all(|b| block_in_range(role, style, layer, b))
+        let mut blocks = state[p.block_words..p.block_words + 4 * p.blocks].chunks_exact(4);
+        nodes_in_range(&state[p.inclusion..p.zero_planes], NOT_YET_INCLUDED)
+            && nodes_in_range(&state[p.zero_planes..p.block_words], NOT_YET_PLANES)
+            && blocks.all(|b| block_in_range(role, style, layer, b))
     })
+}
+
+fn nodes_in_range(nodes: &[u32], most: u32) -> bool {
+    nodes.chunks_exact(3).all(|n| n[0] <= most && n[1] <= most && n[2] <= 1)
 }
 
 fn block_in_range(role: u32, style: u32, layer: u32, b: &[u32]) -> bool {
@@ -349,7 +358,7 @@ fn code(state: &[u32], scratch: usize, counts: &[u32], lengths: &[u32], marks: &
     if !in_range(WRITER, state, scratch) {
         return Err(5);
     }
-    if state[3] == NOT_YET {
+    if state[3] == LAYERS {
         return Err(6);
     }
     let (places, _, blocks) = layout(&bands_of(state));
@@ -390,7 +399,7 @@ fn code(state: &[u32], scratch: usize, counts: &[u32], lengths: &[u32], marks: &
                 continue;
             }
             if first {
-                put_tree(&mut new, p.zero_planes, &p.path(i), NOT_YET, &mut bits);
+                put_tree(&mut new, p.zero_planes, &p.path(i), NOT_YET_PLANES, &mut bits);
                 new[at + 1] = 3;
             }
             put_passes(&mut bits, count);
@@ -599,7 +608,7 @@ pub fn read(
     if !in_range(READER, state, scratch.len()) {
         return 5;
     }
-    if state[3] == NOT_YET {
+    if state[3] == LAYERS {
         return 6;
     }
     let blocks = layout(&bands_of(state)).2;

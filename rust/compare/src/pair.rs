@@ -12,6 +12,9 @@ type Start = fn(u32, &[u32], u8, &[u32], &mut [u32]) -> u32;
 /// What the lists held before a call is written over by it; these are the words that no call is to keep by chance.
 const USED: u32 = 0xdead_beef;
 
+/// The layers that the crate has.
+const CRATE_LAYERS: u32 = 999;
+
 #[derive(Clone, Copy, PartialEq, Eq, Debug)]
 pub enum Call {
     Length,
@@ -42,6 +45,8 @@ pub struct Counts {
     pub mixed_bodies: u64,
     /// Reads of a segment that starts 2^32 bytes or more into the body.
     pub long_bodies: u64,
+    /// Packets measured, written and read in layers that the crate doesn't have.
+    pub late_layers: u64,
 }
 
 impl Counts {
@@ -69,6 +74,7 @@ impl Counts {
         let with_crate: u64 = self.with_crate.iter().flatten().sum();
         println!("{} calls, {} of them compared with the crate too", self.total(), with_crate);
         println!("{} reads of several segments behind another block, {} of starts from 2^32 on", self.mixed_bodies, self.long_bodies);
+        println!("{} accepted in layers from 999 on", self.late_layers);
     }
 
     /// Counts what an accepted read's records show of the starts.
@@ -121,6 +127,12 @@ impl Pair {
         self.counts.with_crate[call as usize][number as usize] += u64::from(with_crate);
     }
 
+    /// Counts a call about the next packet of a state.
+    fn count_packet(&mut self, call: Call, state: &[u32], number: u32, with_crate: bool) {
+        self.count(call, number, with_crate);
+        self.counts.late_layers += u64::from(number == 0 && state[3] >= CRATE_LAYERS);
+    }
+
     pub fn state_length(&mut self, count: u32, bands: &[u32]) -> usize {
         let engine = words::state_length(count, bands);
         same("lengths", &engine, &model::state_length(count, bands), &|| format!("{count} {bands:?}"));
@@ -157,7 +169,7 @@ impl Pair {
         same("numbers", &number, &should, &text);
         same("buffers", &buffers, &expected, &text);
         let with_crate = number == 0 && crate_measures(state, layer, markers, &buffers, &text);
-        self.count(Call::Measure, number, with_crate);
+        self.count_packet(Call::Measure, state, number, with_crate);
         let word = |i: usize| if number == 0 { buffers.1[i] } else { 0 };
         (number, word(0), word(1))
     }
@@ -217,7 +229,7 @@ impl Pair {
         same("buffers", &buffers, &expected, &text);
         let with_crate =
             (number == 0 || number == 11) && crate_writes(&before, layer, body, markers, packet, (number, state, &buffers.1), &text);
-        self.count(Call::Write, number, with_crate);
+        self.count_packet(Call::Write, &before, number, with_crate);
         self.left(number, state, &text);
         let bytes = if number == 0 { buffers.2[0] as usize } else { 0 };
         buffers.1.truncate(bytes);
@@ -269,7 +281,7 @@ impl Pair {
         same("records", &lent, &expected_records, &text);
         let told = (number, &state[..], &buffers.1[..], &lent[..], &buffers.3[..]);
         let with_crate = matches!(number, 0 | 9 | 12) && crate_reads(&before, src, markers, told, &text);
-        self.count(Call::Read, number, with_crate);
+        self.count_packet(Call::Read, &before, number, with_crate);
         if number == 0 {
             self.counts.records(&lent[..buffers.3[2] as usize]);
         }
@@ -318,7 +330,7 @@ fn record(segment: &words::Segment) -> Record {
 #[cfg(openjp2)]
 fn in_domain(state: &[u32]) -> bool {
     if state[3] != 0 {
-        return true;
+        return state[3] < CRATE_LAYERS && come_back(state);
     }
     let mut bands = Bands::default();
     let used = model::bands_of(state);
@@ -338,7 +350,7 @@ fn in_domain(state: &[u32]) -> bool {
 }
 
 #[cfg(openjp2)]
-use crate::openjp2::t2::precinct::{Failed, Precinct};
+use crate::openjp2::t2::precinct::{come_back, Failed, Precinct};
 
 /// The crate's header is as long, and leaves the same state. No body is made.
 #[cfg(openjp2)]

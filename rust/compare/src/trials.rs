@@ -1,6 +1,6 @@
 //! The trials: each makes calls until its share is used up.
 use crate::inputs::{self, Shape};
-use crate::model;
+use crate::model::{self, LAYERS};
 use crate::pair::{Bands, Layer, Markers, Pair};
 use crate::random::Random;
 
@@ -8,6 +8,8 @@ pub struct Trials {
     pub pair: Pair,
     random: Random,
 }
+
+const RANGE_EDGES: [u32; 14] = [0, 1, 2, 997, 998, 999, 1000, 1001, 32_767, 32_768, 65_533, 65_534, 65_535, 65_536];
 
 /// Bands, style and block planes of one block.
 fn one_block(planes: u32, block: u32, style: u8) -> Shape {
@@ -75,19 +77,38 @@ impl Trials {
     pub fn sessions(&mut self, calls: u64, side: u64) {
         self.until(calls, |t| {
             let shape = inputs::shape(&mut t.random, side);
-            let mut writer = t.start(true, &shape);
-            let mut reader = t.start(false, &shape);
-            for number in 0..t.random.between(1, 6) as u32 {
-                let rare = t.random.pick(&[1, 2, 8]);
-                let layer = inputs::layer(&mut t.random, &writer, rare, 7);
-                let markers = inputs::markers(&mut t.random);
-                let Some(packet) = t.written(&mut writer, &layer, markers, number) else { return };
-                let header = packet.len() - layer.body() as usize;
-                t.read_copies(&reader, &packet[..header], markers);
-                let src = if t.random.once_in(2) { &packet[..header] } else { &packet[..] };
-                t.read(&mut reader, src, markers, layer.lengths.len());
-            }
+            let (mut writer, mut reader) = (t.start(true, &shape), t.start(false, &shape));
+            let layers = t.random.between(1, 6);
+            t.session(&mut writer, &mut reader, layers);
         });
+    }
+
+    /// The same, most of it in layers from 999 on.
+    pub fn late_sessions(&mut self, calls: u64, side: u64) {
+        self.until(calls, |t| {
+            let shape = inputs::shape(&mut t.random, side);
+            let (mut writer, mut reader) = (t.start(true, &shape), t.start(false, &shape));
+            let layers = t.random.below(3);
+            t.session(&mut writer, &mut reader, layers);
+            let late = inputs::late_layer(&mut t.random);
+            inputs::pass_over(&mut writer, late);
+            inputs::pass_over(&mut reader, late);
+            let layers = t.random.between(1, 6);
+            t.session(&mut writer, &mut reader, layers);
+        });
+    }
+
+    fn session(&mut self, writer: &mut Vec<u32>, reader: &mut Vec<u32>, layers: u64) {
+        for number in 0..layers as u32 {
+            let rare = self.random.pick(&[1, 2, 8]);
+            let layer = inputs::layer(&mut self.random, writer, rare, 7);
+            let markers = inputs::markers(&mut self.random);
+            let Some(packet) = self.written(writer, &layer, markers, number) else { return };
+            let header = packet.len() - layer.body() as usize;
+            self.read_copies(reader, &packet[..header], markers);
+            let src = if self.random.once_in(2) { &packet[..header] } else { &packet[..] };
+            self.read(reader, src, markers, layer.lengths.len());
+        }
     }
 
     /// Measures, then writes into outputs that are too short and at last into one that isn't.
@@ -127,14 +148,26 @@ impl Trials {
     pub fn states(&mut self, calls: u64) {
         self.until(calls, |t| {
             let shape = inputs::shape(&mut t.random, 3);
-            t.states_written(&shape);
-            t.states_read(&shape);
+            let mut state = |role| inputs::state(&mut t.random, role, &shape);
+            let (writer, reader) = (state(1), state(2));
+            t.states_written(writer);
+            t.states_read(reader);
             t.states_described(&shape);
         });
     }
 
-    fn states_written(&mut self, shape: &Shape) {
-        let mut state = inputs::state(&mut self.random, 1, shape);
+    /// The same in layers from 998 on.
+    pub fn late_states(&mut self, calls: u64) {
+        self.until(calls, |t| {
+            let shape = inputs::shape(&mut t.random, 3);
+            let mut state = |role| inputs::late_state(&mut t.random, role, &shape, 100);
+            let (writer, reader) = (state(1), state(2));
+            t.states_written(writer);
+            t.states_read(reader);
+        });
+    }
+
+    fn states_written(&mut self, mut state: Vec<u32>) {
         let bits = self.random.pick(&[4, 12, 31, 32]);
         let layer = inputs::layer(&mut self.random, &state, 2, bits);
         let markers = inputs::markers(&mut self.random);
@@ -149,9 +182,9 @@ impl Trials {
         }
     }
 
-    fn states_read(&mut self, shape: &Shape) {
-        let state = inputs::state(&mut self.random, 2, shape);
+    fn states_read(&mut self, state: Vec<u32>) {
         let markers = inputs::markers(&mut self.random);
+        let reports = 4 * inputs::blocks_in(&state);
         for _ in 0..3 {
             let src = inputs::noise(&mut self.random);
             self.read(&mut state.clone(), &src, markers, 164 * 27);
@@ -161,7 +194,7 @@ impl Trials {
             let (length, src) = (state.len(), inputs::noise(&mut self.random));
             let other = self.random.once_in(2);
             let work = self.near(400, other);
-            self.pair.read(&mut state, length, &src, markers, 4 * shape.planes.len(), work, 100, 5);
+            self.pair.read(&mut state, length, &src, markers, reports, work, 100, 5);
         }
     }
 
@@ -176,6 +209,36 @@ impl Trials {
         }
         let short = self.random.below(13) as usize;
         self.pair.describe(&vec![1; short], 3);
+    }
+
+    /// States with one word at an edge of its range or beyond: the next layer, and each word of each node.
+    pub fn ranges(&mut self) {
+        let shape = Shape { count: 2, bands: [[2, 1, 5], [1, 1, 998], [0; 3]], style: 0, planes: vec![5, 0, 990] };
+        for (writer, layer) in [true, false].into_iter().flat_map(|writer| RANGE_EDGES.map(|layer| (writer, layer))) {
+            let mut state = self.start(writer, &shape);
+            inputs::pass_over(&mut state, layer.min(LAYERS));
+            state[3] = layer;
+            let (places, _, _) = model::layout(&shape.bands[..2]);
+            for at in places.iter().flat_map(|p| p.inclusion..p.block_words) {
+                for edge in RANGE_EDGES {
+                    let mut state = state.clone();
+                    state[at] = edge;
+                    self.any_role(&mut state);
+                }
+            }
+        }
+    }
+
+    /// Describes a state, then measures or reads its next packet, with passes for each block.
+    fn any_role(&mut self, state: &mut Vec<u32>) {
+        self.pair.describe(state, 3);
+        let (length, blocks) = (state.len(), inputs::blocks_in(state));
+        if state[0] == 1 {
+            let layer = Layer { counts: vec![1; blocks], lengths: vec![2; blocks], marks: vec![0; blocks] };
+            self.pair.measure(state, length, &layer, Markers::default(), 2);
+        } else {
+            self.read(state, &[0xed, 0xb7, 0x6d], Markers::default(), 9);
+        }
     }
 
     // ---- lists of other lengths
@@ -369,23 +432,67 @@ impl Trials {
         }
     }
 
-    /// All 999 layers of a small precinct, and then refusal 6.
+    /// All layers of a small precinct that the crate has, and some more.
+    pub fn first_layers(&mut self) {
+        let (mut writer, mut reader) = self.small_precinct();
+        for number in 0..1020 {
+            let rare = |block| if number > 1010 { 2 } else { [3, 40, 400, 1000][block % 4] };
+            self.one_layer(&mut writer, &mut reader, number, rare, true);
+        }
+    }
+
+    /// All 65,535 layers of a small precinct, and then refusal 6; damaged copies in some layers.
     pub fn all_layers(&mut self) {
+        let (mut writer, mut reader) = self.small_precinct();
+        for number in 0..LAYERS {
+            let rare = |block| if number > LAYERS - 9 { 2 } else { [20, 2_000, 20_000, 60_000][block % 4] };
+            let copies = inputs::LATE_LAYERS.contains(&number) || self.random.once_in(50);
+            self.one_layer(&mut writer, &mut reader, number, rare, copies);
+        }
+        assert_eq!((writer[3], reader[3]), (LAYERS, LAYERS), "layers");
+        let layer = inputs::layer(&mut self.random, &writer, 2, 6);
+        assert!(self.written(&mut writer, &layer, Markers::default(), 0).is_none(), "a layer too many");
+        self.read(&mut reader, &[0xe5], Markers::default(), 9);
+    }
+
+    /// Writer and reader of one band of four blocks, and perhaps others of as many.
+    fn small_precinct(&mut self) -> (Vec<u32>, Vec<u32>) {
         let mut shape = inputs::shape(&mut self.random, 2);
         shape.bands[0] = [2, 2, 9];
         shape.planes = shape.bands[..shape.count as usize].iter().flat_map(|b| vec![b[2]; (b[0] * b[1]) as usize]).collect();
-        let (mut writer, mut reader) = (self.start(true, &shape), self.start(false, &shape));
-        for number in 0..1000 {
-            let rare = if number < 900 { 400 } else { 3 };
-            let layer = inputs::layer(&mut self.random, &writer, rare, 6);
-            let markers = inputs::markers(&mut self.random);
-            let Some(packet) = self.written(&mut writer, &layer, markers, number) else {
-                assert_eq!(writer[3], 999, "layers");
-                self.read(&mut reader, &[0xe5], markers, 9);
+        (self.start(true, &shape), self.start(false, &shape))
+    }
+
+    /// The next packet of a writer, written as the round trip asks, and read back.
+    fn one_layer(&mut self, writer: &mut Vec<u32>, reader: &mut Vec<u32>, number: u32, rare: impl Fn(usize) -> u64, copies: bool) {
+        let layer = inputs::layer_by_block(&mut self.random, writer, rare, 6, true);
+        let markers = inputs::markers(&mut self.random);
+        let packet = self.written(writer, &layer, markers, number).expect("accepted");
+        if copies {
+            self.read_copies(reader, &packet, markers);
+        }
+        assert_eq!(self.read(reader, &packet, markers, layer.lengths.len()), 0);
+    }
+
+    /// First inclusions that cost a bit for each layer before, written, and read whole and cut.
+    pub fn furthest(&mut self) {
+        for number in inputs::LATE_LAYERS {
+            let mut shape = one_block(9, 9, 0);
+            shape.bands[0][0] = 3;
+            shape.planes = vec![9, 7, 8];
+            let (mut writer, mut reader) = (self.start(true, &shape), self.start(false, &shape));
+            (writer[3], reader[3]) = (number, number);
+            let layer = Layer { counts: vec![1, 0, 3], lengths: vec![1; 4], marks: vec![0; 4] };
+            let Some(packet) = self.written(&mut writer, &layer, Markers::default(), 0) else {
+                assert_eq!(number, LAYERS);
                 return;
             };
-            self.read_copies(&reader, &packet, markers);
-            self.read(&mut reader, &packet, markers, layer.lengths.len());
+            for _ in 0..20 {
+                let cut = self.random.below(packet.len() as u64) as usize;
+                self.read(&mut reader.clone(), &packet[..cut], Markers::default(), 9);
+            }
+            self.read_copies(&reader, &packet, Markers::default());
+            assert_eq!(self.read(&mut reader, &packet, Markers::default(), 9), 0);
         }
     }
 

@@ -15,7 +15,7 @@ fn answers(lines: &[&str]) -> Vec<String> {
 #[test]
 #[cfg_attr(not(openjp2), ignore = "crate openjp2's answers: set OPENJP2_SRC to the src folder of its sources")]
 fn a_packet_there_and_back() {
-    let started = "2 1 0 0 1 1 8 0 0 0 0 0 0 999 0 0 999 0 0 0 0 0 0";
+    let started = "2 1 0 0 1 1 8 0 0 0 0 0 0 65535 0 0 999 0 0 0 0 0 0";
     let asked = [
         ("start writer 0 1 1 1 8 0 8", "ok"),
         ("write 0 0 0 5 / 1 / 5 / 0 / *", "failed"),
@@ -30,6 +30,28 @@ fn a_packet_there_and_back() {
         ("write 0 0 0 5 / 1 / 5 / 0 / *", "bad"),
     ];
     let (lines, wanted): (Vec<&str>, Vec<&str>) = asked.into_iter().unzip();
+    assert_eq!(answers(&lines), wanted);
+}
+
+/// A writer of one block at layer 999 whose inclusion node is this one.
+fn loaded(node: &str) -> String {
+    format!("load 0 1 1 0 999 1 1 5 0 0 0 0 0 0 {node} 0 0 0 0 0 0 0")
+}
+
+#[test]
+#[cfg_attr(not(openjp2), ignore = "crate openjp2's answers: set OPENJP2_SRC to the src folder of its sources")]
+fn not_yet_included() {
+    let left = |node: &str| loaded(node).replace("load 0", "ok");
+    let asked = [
+        (loaded("999 999 0"), "bad".to_string()),
+        (loaded("1000 999 0"), "ok".to_string()),
+        ("dump".to_string(), left("1000 999 0")),
+        ("write 0 0 0 9 / 0 / / / *".to_string(), "ok 1 80 body=".to_string()),
+        (loaded("65535 999 0"), "ok".to_string()),
+        ("dump".to_string(), left("65535 999 0")),
+        ("write 0 0 0 9 / 0 / / / *".to_string(), "ok 1 c0 body=".to_string()),
+    ];
+    let (lines, wanted): (Vec<&str>, Vec<&str>) = asked.iter().map(|(line, wanted)| (&line[..], &wanted[..])).unzip();
     assert_eq!(answers(&lines), wanted);
 }
 

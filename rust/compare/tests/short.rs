@@ -36,6 +36,12 @@ fn packets() {
 }
 
 #[test]
+fn late_packets() {
+    let counts = trial(&[0, 6, 9, 11, 12, 13], |t| t.late_sessions(100_000, 4));
+    assert!(counts.late_layers > 0, "layers from 999 on");
+}
+
+#[test]
 fn larger_packets() {
     trial(&[0, 9, 11, 12], |t| t.sessions(20_000, 12));
 }
@@ -43,6 +49,12 @@ fn larger_packets() {
 #[test]
 fn states() {
     trial(&[0, 5, 6, 8, 9, 10, 11, 12, 13], |t| t.states(200_000));
+}
+
+#[test]
+fn late_states() {
+    let counts = trial(&[0, 5, 6, 8, 9, 10, 11, 12, 13], |t| t.late_states(100_000));
+    assert!(counts.late_layers > 0, "layers from 999 on");
 }
 
 /// A state told in range, out of range, and with an answer of another length.
@@ -88,8 +100,24 @@ fn largest() {
 }
 
 #[test]
+fn ranges() {
+    trial(&[0, 5, 6], |t| t.ranges());
+}
+
+#[test]
+fn first_layers() {
+    trial(&[0], |t| t.first_layers());
+}
+
+#[test]
 fn all_layers() {
-    trial(&[0, 6], |t| t.all_layers());
+    let counts = trial(&[0, 6], |t| t.all_layers());
+    assert!(counts.late_layers > 3 * (65_535 - 999), "layers from 999 on");
+}
+
+#[test]
+fn furthest() {
+    trial(&[0, 6], |t| t.furthest());
 }
 
 #[test]

@@ -19,7 +19,10 @@ fn main() {
     };
     let share = |percent: u64| calls * percent / 100;
     part("deepest", &|t| t.deepest());
-    part("all layers", &|t| (0..share(1) / 20_000 + 1).for_each(|_| t.all_layers()));
+    part("furthest", &|t| t.furthest());
+    part("ranges", &|t| t.ranges());
+    part("first layers", &|t| (0..share(1) / 20_000 + 1).for_each(|_| t.first_layers()));
+    part("all layers", &|t| (0..share(1) / 100_000 + 1).for_each(|_| t.all_layers()));
     part("largest", &|t| t.largest(share(1) as u32 / 20_000 + 2));
     part("counts and lengths", &|t| t.counts_and_lengths(1));
     part("wide fields", &|t| t.wide_fields());
@@ -28,7 +31,9 @@ fn main() {
     part("starts", &|t| t.starts(share(8)));
     part("lists", &|t| t.lists(share(8)));
     part("states", &|t| t.states(share(20)));
+    part("late states", &|t| t.late_states(share(8)));
     part("packets", &|t| t.sessions(share(18), 4));
+    part("late packets", &|t| t.late_sessions(share(8), 4));
     part("larger packets", &|t| t.sessions(share(2), 12));
     part("packets of one block", &|t| {
         let left = calls.saturating_sub(t.pair.counts.total());

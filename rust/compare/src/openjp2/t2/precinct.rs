@@ -1,7 +1,11 @@
 //! One precinct in the crate's structs, made from the words of a state, coded and read by the crate's own functions, and turned back
 //! into words.
 use super::*;
+use crate::model::{self, NOT_YET_INCLUDED};
 use std::sync::OnceLock;
+
+/// The value of a fresh node in the crate's trees.
+const NOT_YET: u32 = 999;
 
 struct Band {
     across: u32,
@@ -104,9 +108,9 @@ impl Band {
             front
         };
         let (inclusion, zero_planes) = (opj_tgt_create(across, down, manager), opj_tgt_create(across, down, manager));
-        for tree in [inclusion, zero_planes] {
+        for (tree, not_yet) in [(inclusion, NOT_YET_INCLUDED), (zero_planes, NOT_YET)] {
             for (node, row) in nodes(tree).iter_mut().zip(take(3 * nodes(tree).len()).chunks_exact(3)) {
-                node.value = row[0] as i32;
+                node.value = if row[0] == not_yet { NOT_YET } else { row[0] } as i32;
                 node.low = row[1] as i32;
                 node.known = row[2];
             }
@@ -138,9 +142,10 @@ impl Band {
     }
 
     fn words(&self, into: &mut Vec<u32>) {
-        for tree in [self.inclusion, self.zero_planes] {
+        for (tree, not_yet) in [(self.inclusion, NOT_YET_INCLUDED), (self.zero_planes, NOT_YET)] {
             for node in nodes(tree) {
-                into.extend([node.value as u32, node.low as u32, node.known]);
+                let value = if node.value as u32 == NOT_YET { not_yet } else { node.value as u32 };
+                into.extend([value, node.low as u32, node.known]);
             }
         }
         for block in &self.enc {
@@ -204,6 +209,13 @@ impl Drop for Band {
     }
 }
 
+/// Whether the values of a state's inclusion trees come back as they go in: the crate's trees take every number, but 999 would come back
+/// as "not yet".
+pub fn come_back(words: &[u32]) -> bool {
+    let (places, _, _) = model::layout(&model::bands_of(words));
+    places.iter().all(|p| words[p.inclusion..p.zero_planes].chunks_exact(3).all(|node| node[0] != NOT_YET))
+}
+
 impl Precinct {
     /// From the words of a state in the ranges of refusal 5. A band without blocks is shown as an empty one, or as one with an area
     /// whose precinct has no blocks.
@@ -262,7 +274,7 @@ impl Precinct {
     pub fn started(writer: bool, bands: &[[u32; 3]], style: u32, planes: &[u32], empty: bool) -> Precinct {
         let mut words = vec![if writer { 1 } else { 2 }, bands.len() as u32, style, 0];
         words.extend(bands.as_flattened());
-        words.resize(crate::model::layout(bands).1, 0);
+        words.resize(model::layout(bands).1, 0);
         let mut precinct = Precinct::from_words(&words, empty);
         let mut planes = planes.iter();
         for band in &mut precinct.bands {
