@@ -7,9 +7,9 @@
 This gives the files that are there byte for byte; --seed gives others. crate_answers runs the code of crate openjp2 0.6.1
 (rust/compare/src/answers.rs), and compare_definitions.py's generator makes the random runs. Every answer of a list, and the state after
 it, comes from the crate, but for two kinds. From layer 999 on, and where 999 stands in an inclusion tree, the answers of the lists `layers`
-and `refusals` come from compare_definitions.py's Scope, the scope (docs/SCOPE.md) as plain Python, which must agree with the crate wherever
-that is asked. Refusals that the crate has not stand in this file by their numbers, in the lists `hand`, `layers` and `refusals`, with the
-buffers as the scope leaves them. Starts are sums of the lengths.
+and `refusals` come from scope.py, the scope (docs/SCOPE.md) as plain Python, which must agree with the crate wherever that is asked.
+Refusals that the crate has not stand in this file by their numbers, in the lists `hand`, `layers` and `refusals`, with the buffers as the
+scope leaves them. Starts are sums of the lengths.
 
 The lists, which crates/vectors/args names:
 
@@ -46,8 +46,8 @@ import os
 import random
 
 import compare_definitions as generator
-from compare_definitions import AMPLE, CRATE_LAYERS, HEADER_WORDS, MOST_PLANES, NOT_YET_INCLUDED, NOT_YET_PLANES
-from compare_definitions import Oracle, Run, Scope, Unexpected, add_program, blocks_in, hexed, spaced, started, without_news
+from compare_definitions import AMPLE, CRATE_LAYERS, MOST_PLANES, Oracle, Run, Unexpected, add_program, without_news
+from scope import HEADER_WORDS, NOT_YET_INCLUDED, NOT_YET_PLANES, Scope, bands_of, blocks_in, hexed, spaced, started
 
 STATE, SCRATCH, OUTPUT, REPORTS, RECORDS = 7, 5, 165, 9, 8
 STATE_MOST, COUNTS_MOST, PASSES_MOST, BYTES_MOST, RECORDS_MOST, LIST_MOST = 147463, 12288, 700, 4000, 49152, 65535
@@ -285,7 +285,7 @@ class Asked:
         self.given = dict(from_crate=isinstance(oracle, Oracle))
 
     def load(self, words):
-        self.bands = generator.bands_of(words)
+        self.bands = bands_of(words)
         self.ask("load 0 " + spaced(words))
         self.calls.load(words)
 
