@@ -1,2 +1,3 @@
 pub mod Replaced
 pub mod Trees
+pub mod Headers

@@ -24,6 +24,14 @@ pub record UpTo (m : ℕ) (bs : List Band) (t a : ℕ) : Type 0 where
 abbrev pub AllUpTo : (m : ℕ) → List Band → (t base : ℕ) → List ℕ → Type 0
 AllUpTo m bs t base ns = All (UpTo m bs t) (addresses base ns)
 
+-- n for m in the words after coding, and after a read
+module _ (m n : ℕ) (bs : List Band) where
+  abbrev pub replacedCoded : Coded → Coded
+  replacedCoded c = record { bits = c .bits; words = replacedWords m n bs (c .words) }
+
+  abbrev pub replacedRead : PathRead → PathRead
+  replacedRead r = record { words = replacedWords m n bs (r .words); bio = r .bio }
+
 module _ (m n : ℕ) (more : m ≤ n) (bs : List Band) where
   abbrev R : List ℕ → List ℕ
   R ws = replacedWords m n bs ws
@@ -49,9 +57,6 @@ module _ (m n : ℕ) (more : m ≤ n) (bs : List Band) where
 
   -- ---- coding
 
-  abbrev pub replacedCoded : Coded → Coded
-  replacedCoded c = record { bits = c .bits; words = R (c .words) }
-
   low-same : (q : Bool) (v from t : ℕ) → (q ≡ true → t ≤ m) → lowAfter (replacedWord m n q v) from t ≡ lowAfter v from t
   unfolding lowAfter
   low-same q v from t f = ap (λ (z : ℕ). max from z) (same-min m n more q v t f)
@@ -66,7 +71,7 @@ module _ (m n : ℕ) (more : m ≤ n) (bs : List Band) where
   known-same q v from known t f = rw (low-same q v from t f)
 
   pub path-coded : (base t : ℕ) (ns : List ℕ) (l : ℕ) (ws : List ℕ) → AllUpTo m bs t base ns
-      → codePath base t ns l (R ws) ≡ replacedCoded (codePath base t ns l ws)
+      → codePath base t ns l (R ws) ≡ replacedCoded m n bs (codePath base t ns l ws)
   unfolding codePath
   path-coded base t [] l ws u = refl
   path-coded base t (k ∷ ns) l ws u =
@@ -109,11 +114,8 @@ module _ (m n : ℕ) (more : m ≤ n) (bs : List Band) where
       (λ i. record { value = sym (word-below m n q from below) i; low = from; bio = c .bio }))
       refl
 
-  abbrev pub replacedRead : PathRead → PathRead
-  replacedRead r = record { words = R (r .words); bio = r .bio }
-
   pub path-read : (src : List ℕ) (base t : ℕ) (ns : List ℕ) (l : ℕ) (ws : List ℕ) (b : Bio) → AllUpTo m bs t base ns
-      → readPath src base t ns l (R ws) b ≡ replacedRead (readPath src base t ns l ws b)
+      → readPath src base t ns l (R ws) b ≡ replacedRead m n bs (readPath src base t ns l ws b)
   unfolding readPath
   path-read src base t [] l ws b u = refl
   path-read src base t (k ∷ ns) l ws b u =
