@@ -9,11 +9,17 @@ use lib.ListN.{length, getD, set, take, drop}
 use lib.Dec.{ltb, leb, eqb}
 use Rattle.t800.specs.declared.Band.{Band}
 use Rattle.t800.specs.declared.Bio.{Bio}
-use Rattle.t800.specs.TagTree.{setValue, codePath}
-use Rattle.t800.specs.Segments.{Segment, segmentsOf}
+use Rattle.t800.specs.Refusals.{widthRefusal, recordsRefusal, headerEndRefusal}
+use Rattle.t800.specs.Bits.{getBit, endsInFF}
+use Rattle.t800.specs.TagTree.{setValue, PathRead, readPath}
+use Rattle.t800.specs.Segments.{Segment, segmentsOf, width}
 use Rattle.t800.specs.State.{Block, notYetPlanes, blocks, bands, layer, passesSoFar, lengthBits}
 use Rattle.t800.specs.WriteHeader.{Contribution, isNew, lengthBitsBefore, setNewBlocks, codeInclusion, codeZeroPlanes, codePasses, codeBlock}
 use Rattle.t800.specs.WriteHeader.{codeBlocks, codeHeader}
+use Rattle.t800.specs.ReadHeader.{HeaderRead, refused, opensSegment, currentLimit, currentPasses, passesTaken, readSegment, readSegments}
+use Rattle.t800.specs.ReadHeader.{readZeroPlanesFrom, readZeroPlanes, readIncluded, readNewBlock, readOldBlock, readBlock, readBlocks}
+use Rattle.t800.specs.ReadHeader.{readHeader}
+use Rattle.t800.specs.FewerLayers.{replacedFrom}
 use Rattle.t800_laws.proofs.Laws.Paths.{All}
 use Rattle.t800_laws.proofs.Laws.Layout.{Tree, inclusion, zeroPlanes, NodeFrom, layoutOf, Placed, AllPlaced, path-nodes, from-root-nodes}
 use Rattle.t800_laws.proofs.Laws.Layout.{leafToRoot, rootToLeaf, blocks-placed, leaf-node}
@@ -106,7 +112,6 @@ module _ (m n : ℕ) (more : m ≤ n) (bs : List Band) where
           (path-coded m n more bs (k .zeroTree) notYetPlanes (reverse (k .path)) 0 ws (planes-from-root m bs k P notYetPlanes))
           refl
 
-      -- the words stored, of a block
       passes-replaced : (c : ℕ) (segments : List Segment) (ws : List ℕ)
           → codePasses k c segments (R ws) ≡ replacedCoded m n bs (codePasses k c segments ws)
       unfolding codePasses
@@ -117,3 +122,135 @@ module _ (m n : ℕ) (more : m ≤ n) (bs : List Band) where
             stays-set m n bs ws (k .at) (passesSoFar ws (k .at) + c) (own-stays bs k P),
             stays-set m n bs (set ws (k .at) (passesSoFar ws (k .at) + c)) (k .at + 1) _ (own-after bs k P 1 (omega arith)),
           )
+
+      block-replaced : (c : ℕ) (segments : List Segment) (ws : List ℕ)
+          → codeBlock now k c segments (R ws) ≡ replacedCoded m n bs (codeBlock now k c segments ws)
+      unfolding codeBlock
+      block-replaced c segments ws =
+          let after : List ℕ = codeInclusion now k c ws .words in
+          rw (
+            inclusion-replaced c ws,
+            planes-replaced after,
+            passes-replaced c segments (codeZeroPlanes k after .words),
+          )
+          (choice-of (replacedCoded m n bs) (eqb c 0) (eqb c 0) _ _ _ _ refl refl refl)
+
+    blocks-replaced : (ks : List Block) (cs ls ms ws : List ℕ) → AllPlaced (layoutOf bs) ks
+        → codeBlocks now ks cs ls ms (R ws) ≡ replacedCoded m n bs (codeBlocks now ks cs ls ms ws)
+    unfolding codeBlocks
+    blocks-replaced [] cs ls ms ws P = refl
+    blocks-replaced (k ∷ ks) [] ls ms ws P = refl
+    blocks-replaced (k ∷ ks) (c ∷ cs) ls ms ws P =
+        let segments : List Segment = segmentsOf (take c ls) (take c ms) in
+        rw (
+          block-replaced k (P .0 .0) c segments ws,
+          blocks-replaced ks cs (drop c ls) (drop c ms) (codeBlock now k c segments ws .words) (P .1),
+        )
+
+  -- ---- reading
+
+  abbrev pub replacedHeader : HeaderRead → HeaderRead
+  replacedHeader r = record { refusal = r .refusal; words = R (r .words); bio = r .bio; reports = r .reports; records = r .records }
+
+  refused-same : (why : ℕ) → refused why ≡ replacedHeader (refused why)
+  unfolding replacedFrom
+  refused-same why = refl
+
+  module _ (k : Block) (P : Placed (layoutOf bs) k) where
+    opens-same : (ws : List ℕ) → opensSegment (R ws) k ≡ opensSegment ws k
+    unfolding opensSegment
+    opens-same ws =
+        rw (
+          stays-get m n bs ws (k .at + 2) (own-after bs k P 2 (omega arith)),
+          stays-get m n bs ws (k .at + 3) (own-after bs k P 3 (omega arith)),
+        )
+
+    limit-same : (ws : List ℕ) → currentLimit (R ws) k ≡ currentLimit ws k
+    unfolding currentLimit
+    limit-same ws =
+        rw (
+          opens-same ws,
+          stays-get m n bs ws (k .at + 2) (own-after bs k P 2 (omega arith)),
+          stays-get m n bs ws 2 (first-stays bs 2 (omega arith)),
+        )
+
+    passes-same : (ws : List ℕ) → currentPasses (R ws) k ≡ currentPasses ws k
+    unfolding currentPasses
+    passes-same ws = rw (opens-same ws, stays-get m n bs ws (k .at + 3) (own-after bs k P 3 (omega arith)))
+
+    taken-same : (ws : List ℕ) (left : ℕ) → passesTaken (R ws) k left ≡ passesTaken ws k left
+    unfolding passesTaken
+    taken-same ws left = rw (limit-same ws, passes-same ws)
+
+    module _ (src : List ℕ) (room i : ℕ) where
+      segment-replaced : (passes : ℕ) (r : HeaderRead)
+          → readSegment src room i k passes (replacedHeader r) ≡ replacedHeader (readSegment src room i k passes r)
+      unfolding readSegment
+      segment-replaced passes r =
+          let ws : List ℕ = r .words in
+          let w : ℕ = width (lengthBits ws (k .at)) passes in
+          let limit : ℕ = currentLimit ws k in
+          rw (
+            opens-same ws,
+            limit-same ws,
+            passes-same ws,
+            stays-get m n bs ws (k .at + 1) (own-after bs k P 1 (omega arith)),
+            stays-set m n bs ws (k .at + 2) limit (own-after bs k P 2 (omega arith)),
+            stays-set m n bs (set ws (k .at + 2) limit) (k .at + 3) (currentPasses ws k + passes) (own-after bs k P 3 (omega arith)),
+          )
+          (choice-of replacedHeader (ltb 32 w) (ltb 32 w) _ _ _ _ refl (refused-same widthRefusal)
+          (choice-of replacedHeader (leb room (length (r .records))) (leb room (length (r .records))) _ _ _ _ refl
+          (refused-same recordsRefusal) refl))
+
+      segments-replaced : (bound left : ℕ) (r : HeaderRead)
+          → readSegments src room i k bound left (replacedHeader r) ≡ replacedHeader (readSegments src room i k bound left r)
+      unfolding readSegments
+      segments-replaced zero left r = refl
+      segments-replaced (suc bound) left r =
+          let passes : ℕ = passesTaken (r .words) k left in
+          let a : HeaderRead = readSegment src room i k passes r in
+          rw (
+            taken-same (r .words) left,
+            segment-replaced passes r,
+            segments-replaced bound (left - passes) a,
+          )
+          (choice-of replacedHeader (eqb (a .refusal) 0 && ltb 0 (left - passes)) (eqb (a .refusal) 0 && ltb 0 (left - passes)) _ _ _ _
+          refl refl refl)
+
+    thresholds-replaced : (src : List ℕ) (bound t : ℕ) (ws : List ℕ) (b : Bio)
+        → readZeroPlanesFrom src k bound t (R ws) b ≡ replacedRead m n bs (readZeroPlanesFrom src k bound t ws b)
+    unfolding readZeroPlanesFrom
+    thresholds-replaced src zero t ws b = refl
+    thresholds-replaced src (suc bound) t ws b =
+        let r : PathRead = readPath src (k .zeroTree) t (reverse (k .path)) 0 ws b in
+        let leaf : ℕ = k .zeroTree + 3 * k .leaf in
+        rw (
+          path-read m n more bs src (k .zeroTree) t (reverse (k .path)) 0 ws b (planes-from-root m bs k P t),
+          thresholds-replaced src bound (t + 1) (r .words) (r .bio),
+          stays-get m n bs (r .words) leaf (planes-stay bs leaf (leaf-node (layoutOf bs) zeroPlanes k P)),
+        )
+        (choice-of (replacedRead m n bs) (ltb (getD (r .words) leaf 0) t) (ltb (getD (r .words) leaf 0) t) _ _ _ _ refl refl refl)
+
+    planes-read : (src : List ℕ) (r : HeaderRead) → readZeroPlanes src k (replacedHeader r) ≡ replacedRead m n bs (readZeroPlanes src k r)
+    unfolding readZeroPlanes
+    planes-read src r =
+        choice-of (replacedRead m n bs) (isNew (r .words) k) (isNew (R (r .words)) k) _ _ _ _ (new-same k (r .words) P)
+        (thresholds-replaced src (notYetPlanes + 2) 0 (r .words) (r .bio)) refl
+
+    module _ (src : List ℕ) (room i : ℕ) where
+      included-replaced : (r : HeaderRead) → readIncluded src room i k (replacedHeader r) ≡ replacedHeader (readIncluded src room i k r)
+      unfolding readIncluded
+      included-replaced r =
+          let ws : List ℕ = r .words in
+          let z : PathRead = readZeroPlanes src k r in
+          let leaf : ℕ = k .zeroTree + 3 * k .leaf in
+          rw (
+            planes-read src r,
+            new-same k ws P,
+            bits-before-same k ws P,
+            stays-get m n bs ws (k .at) (own-stays bs k P),
+            stays-get m n bs (z .words) leaf (planes-stay bs leaf (leaf-node (layoutOf bs) zeroPlanes k P)),
+            stays-set m n bs (z .words) (k .at) _ (own-stays bs k P),
+            stays-set m n bs (set (z .words) (k .at) _) (k .at + 1) _ (own-after bs k P 1 (omega arith)),
+          )
+          (segments-replaced src room i _ _ _)
