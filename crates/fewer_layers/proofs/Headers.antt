@@ -10,20 +10,21 @@ use lib.Dec.{ltb, leb, eqb}
 use Rattle.t800.specs.declared.Band.{Band}
 use Rattle.t800.specs.declared.Bio.{Bio}
 use Rattle.t800.specs.Refusals.{widthRefusal, recordsRefusal, headerEndRefusal}
-use Rattle.t800.specs.Bits.{getBit, endsInFF}
+use Rattle.t800.specs.Bits.{Decoded, getBit, endsInFF}
 use Rattle.t800.specs.TagTree.{setValue, PathRead, readPath}
 use Rattle.t800.specs.Segments.{Segment, segmentsOf, width}
 use Rattle.t800.specs.State.{Block, notYetPlanes, blocks, bands, layer, passesSoFar, lengthBits}
 use Rattle.t800.specs.WriteHeader.{Contribution, isNew, lengthBitsBefore, setNewBlocks, codeInclusion, codeZeroPlanes, codePasses, codeBlock}
 use Rattle.t800.specs.WriteHeader.{codeBlocks, codeHeader}
-use Rattle.t800.specs.ReadHeader.{HeaderRead, refused, opensSegment, currentLimit, currentPasses, passesTaken, readSegment, readSegments}
+use Rattle.t800.specs.ReadHeader.{HeaderRead, refused, movedTo, opensSegment, currentLimit, currentPasses, passesTaken, readSegment, readSegments}
 use Rattle.t800.specs.ReadHeader.{readZeroPlanesFrom, readZeroPlanes, readIncluded, readNewBlock, readOldBlock, readBlock, readBlocks}
 use Rattle.t800.specs.ReadHeader.{readHeader}
 use Rattle.t800.specs.FewerLayers.{replacedFrom}
+use Rattle.t800_laws.proofs.Laws.FirstWords.{same-bands}
 use Rattle.t800_laws.proofs.Laws.Paths.{All}
 use Rattle.t800_laws.proofs.Laws.Layout.{Tree, inclusion, zeroPlanes, NodeFrom, layoutOf, Placed, AllPlaced, path-nodes, from-root-nodes}
 use Rattle.t800_laws.proofs.Laws.Layout.{leafToRoot, rootToLeaf, blocks-placed, leaf-node}
-use Rattle.fewer_layers.proofs.Replaced.{choice-of, replacedWords, replacedWord, replaced-get, same-side, valueAt, Stays, stays-get}
+use Rattle.fewer_layers.proofs.Replaced.{choice-of, replacedWords, replacedWord, replaced-get, same-below, valueAt, Stays, stays-get}
 use Rattle.fewer_layers.proofs.Replaced.{stays-set, first-stays, second-stays, third-stays, planes-stay, block-stays}
 use Rattle.fewer_layers.proofs.Trees.{UpTo, AllUpTo, leaf-replaced, replacedCoded, path-coded, replacedRead, path-read}
 
@@ -67,6 +68,16 @@ module _ (bs : List Band) (k : Block) (P : Placed (layoutOf bs) k) where
 
   own-after : (j : ℕ) → j < 4 → Stays bs (k .at + j)
   own-after j h = block-stays bs (k .at) j (P .block) h
+
+-- n for m in the words after a read
+module _ (m n : ℕ) (bs : List Band) where
+  abbrev pub replacedHeader : HeaderRead → HeaderRead
+  replacedHeader r =
+      record { refusal = r .refusal; words = replacedWords m n bs (r .words); bio = r .bio; reports = r .reports; records = r .records }
+
+  pub refused-same : (why : ℕ) → refused why ≡ replacedHeader (refused why)
+  unfolding replacedFrom
+  refused-same why = refl
 
 module _ (m n : ℕ) (more : m ≤ n) (bs : List Band) where
   abbrev R : List ℕ → List ℕ
@@ -149,12 +160,8 @@ module _ (m n : ℕ) (more : m ≤ n) (bs : List Band) where
 
   -- ---- reading
 
-  abbrev pub replacedHeader : HeaderRead → HeaderRead
-  replacedHeader r = record { refusal = r .refusal; words = R (r .words); bio = r .bio; reports = r .reports; records = r .records }
-
-  refused-same : (why : ℕ) → refused why ≡ replacedHeader (refused why)
-  unfolding replacedFrom
-  refused-same why = refl
+  abbrev H : HeaderRead → HeaderRead
+  H r = replacedHeader m n bs r
 
   module _ (k : Block) (P : Placed (layoutOf bs) k) where
     opens-same : (ws : List ℕ) → opensSegment (R ws) k ≡ opensSegment ws k
@@ -184,7 +191,7 @@ module _ (m n : ℕ) (more : m ≤ n) (bs : List Band) where
 
     module _ (src : List ℕ) (room i : ℕ) where
       segment-replaced : (passes : ℕ) (r : HeaderRead)
-          → readSegment src room i k passes (replacedHeader r) ≡ replacedHeader (readSegment src room i k passes r)
+          → readSegment src room i k passes (H r) ≡ H (readSegment src room i k passes r)
       unfolding readSegment
       segment-replaced passes r =
           let ws : List ℕ = r .words in
@@ -198,12 +205,12 @@ module _ (m n : ℕ) (more : m ≤ n) (bs : List Band) where
             stays-set m n bs ws (k .at + 2) limit (own-after bs k P 2 (omega arith)),
             stays-set m n bs (set ws (k .at + 2) limit) (k .at + 3) (currentPasses ws k + passes) (own-after bs k P 3 (omega arith)),
           )
-          (choice-of replacedHeader (ltb 32 w) (ltb 32 w) _ _ _ _ refl (refused-same widthRefusal)
-          (choice-of replacedHeader (leb room (length (r .records))) (leb room (length (r .records))) _ _ _ _ refl
-          (refused-same recordsRefusal) refl))
+          (choice-of H (ltb 32 w) (ltb 32 w) _ _ _ _ refl (refused-same m n bs widthRefusal)
+          (choice-of H (leb room (length (r .records))) (leb room (length (r .records))) _ _ _ _ refl
+          (refused-same m n bs recordsRefusal) refl))
 
       segments-replaced : (bound left : ℕ) (r : HeaderRead)
-          → readSegments src room i k bound left (replacedHeader r) ≡ replacedHeader (readSegments src room i k bound left r)
+          → readSegments src room i k bound left (H r) ≡ H (readSegments src room i k bound left r)
       unfolding readSegments
       segments-replaced zero left r = refl
       segments-replaced (suc bound) left r =
@@ -214,7 +221,7 @@ module _ (m n : ℕ) (more : m ≤ n) (bs : List Band) where
             segment-replaced passes r,
             segments-replaced bound (left - passes) a,
           )
-          (choice-of replacedHeader (eqb (a .refusal) 0 && ltb 0 (left - passes)) (eqb (a .refusal) 0 && ltb 0 (left - passes)) _ _ _ _
+          (choice-of H (eqb (a .refusal) 0 && ltb 0 (left - passes)) (eqb (a .refusal) 0 && ltb 0 (left - passes)) _ _ _ _
           refl refl refl)
 
     thresholds-replaced : (src : List ℕ) (bound t : ℕ) (ws : List ℕ) (b : Bio)
@@ -231,14 +238,14 @@ module _ (m n : ℕ) (more : m ≤ n) (bs : List Band) where
         )
         (choice-of (replacedRead m n bs) (ltb (getD (r .words) leaf 0) t) (ltb (getD (r .words) leaf 0) t) _ _ _ _ refl refl refl)
 
-    planes-read : (src : List ℕ) (r : HeaderRead) → readZeroPlanes src k (replacedHeader r) ≡ replacedRead m n bs (readZeroPlanes src k r)
+    planes-read : (src : List ℕ) (r : HeaderRead) → readZeroPlanes src k (H r) ≡ replacedRead m n bs (readZeroPlanes src k r)
     unfolding readZeroPlanes
     planes-read src r =
         choice-of (replacedRead m n bs) (isNew (r .words) k) (isNew (R (r .words)) k) _ _ _ _ (new-same k (r .words) P)
         (thresholds-replaced src (notYetPlanes + 2) 0 (r .words) (r .bio)) refl
 
     module _ (src : List ℕ) (room i : ℕ) where
-      included-replaced : (r : HeaderRead) → readIncluded src room i k (replacedHeader r) ≡ replacedHeader (readIncluded src room i k r)
+      included-replaced : (r : HeaderRead) → readIncluded src room i k (H r) ≡ H (readIncluded src room i k r)
       unfolding readIncluded
       included-replaced r =
           let ws : List ℕ = r .words in
@@ -254,3 +261,86 @@ module _ (m n : ℕ) (more : m ≤ n) (bs : List Band) where
             stays-set m n bs (set (z .words) (k .at) _) (k .at + 1) _ (own-after bs k P 1 (omega arith)),
           )
           (segments-replaced src room i _ _ _)
+
+      -- the layer lies below m, and so the leaf's value on the same side of the next
+      new-replaced : (now : ℕ) → now < m → (r : HeaderRead)
+          → readNewBlock src room now i k (H r) ≡ H (readNewBlock src room now i k r)
+      unfolding readNewBlock
+      new-replaced now soon r =
+          let tree : PathRead = readPath src (k .inclTree) (now + 1) (reverse (k .path)) 0 (r .words) (r .bio) in
+          let leaf : ℕ = k .inclTree + 3 * k .leaf in
+          let v : ℕ = getD (tree .words) leaf 0 in
+          rw (path-read m n more bs src (k .inclTree) (now + 1) (reverse (k .path)) 0 (r .words) (r .bio)
+          (inclusion-from-root m bs k P now soon))
+          (choice-of H (ltb v (now + 1)) (ltb (getD (R (tree .words)) leaf 0) (now + 1)) _ _ _ _
+          (ap (λ (z : ℕ). ltb z (now + 1)) (replaced-get m n bs (tree .words) leaf (λ e. omega arith))
+          ∙ same-below m n more (valueAt bs leaf) v (now + 1) (λ e. omega arith))
+          (included-replaced (movedTo (tree .words) (tree .bio) r))
+          refl)
+
+      old-replaced : (r : HeaderRead) → readOldBlock src room i k (H r) ≡ H (readOldBlock src room i k r)
+      unfolding readOldBlock
+      old-replaced r =
+          let bit : Decoded = getBit src (r .bio) in
+          choice-of H (eqb (bit .value) 0) (eqb (bit .value) 0) _ _ _ _ refl refl (included-replaced (movedTo (r .words) (bit .bio) r))
+
+      read-replaced : (now : ℕ) → now < m → (r : HeaderRead) → readBlock src room now i k (H r) ≡ H (readBlock src room now i k r)
+      unfolding readBlock
+      read-replaced now soon r =
+          choice-of H (isNew (r .words) k) (isNew (R (r .words)) k) _ _ _ _ (new-same k (r .words) P) (new-replaced now soon r)
+          (old-replaced r)
+
+  reads-replaced : (src : List ℕ) (room now : ℕ) → now < m → (i : ℕ) (ks : List Block) (r : HeaderRead) → AllPlaced (layoutOf bs) ks
+      → readBlocks src room now i ks (H r) ≡ H (readBlocks src room now i ks r)
+  unfolding readBlocks
+  reads-replaced src room now soon i [] r P = refl
+  reads-replaced src room now soon i (k ∷ ks) r P =
+      let a : HeaderRead = readBlock src room now i k r in
+      rw (read-replaced k (P .0 .0) src room i now soon r, reads-replaced src room now soon (i + 1) ks a (P .1))
+      (choice-of H (eqb (a .refusal) 0) (eqb (a .refusal) 0) _ _ _ _ refl refl refl)
+
+-- ---- a state's whole header, below layer m
+
+module _ (m n : ℕ) (more : m ≤ n) (ws : List ℕ) where
+  abbrev bs : List Band
+  bs = bands ws
+
+  abbrev vs : List ℕ
+  vs = replacedWords m n bs ws
+
+  pub first-same : (i : ℕ) → i < 13 → getD vs i 0 ≡ getD ws i 0
+  first-same i h = stays-get m n bs ws i (first-stays bs i h)
+
+  pub bands-same : bands vs ≡ bs
+  bands-same = same-bands ws vs (λ j h d. first-same j h) .0
+
+  module _ (below : layer ws < m) where
+    pub header-replaced : (p : Contribution) → codeHeader p vs ≡ replacedCoded m n bs (codeHeader p ws)
+    unfolding codeHeader
+    header-replaced p =
+        let now : ℕ = layer ws in
+        let ks : List Block = blocks bs in
+        let after : List ℕ = setNewBlocks now ks (p .counts) ws in
+        rw (
+          bands-same,
+          first-same 3 (omega arith),
+          new-blocks-replaced m n more bs now below ks (p .counts) ws (blocks-placed bs),
+          blocks-replaced m n more bs now below ks (p .counts) (p .lengths) (p .marks) after (blocks-placed bs),
+          stays-set m n bs (codeBlocks now ks (p .counts) (p .lengths) (p .marks) after .words) 3 (now + 1) (first-stays bs 3 (omega arith)),
+        )
+
+    pub header-read-replaced : (src : List ℕ) (room : ℕ) (b : Bio)
+        → readHeader src room vs b ≡ replacedHeader m n bs (readHeader src room ws b)
+    unfolding readHeader
+    header-read-replaced src room b =
+        let now : ℕ = layer ws in
+        let ks : List Block = blocks bs in
+        let start : HeaderRead = record { refusal = 0; words = ws; bio = b; reports = []; records = [] } in
+        let r : HeaderRead = readBlocks src room now 0 ks start in
+        rw (
+          bands-same,
+          first-same 3 (omega arith),
+          reads-replaced m n more bs src room now below 0 ks start (blocks-placed bs),
+        )
+        (choice-of (replacedHeader m n bs) (eqb (r .refusal) 0 && endsInFF src (r .bio)) (eqb (r .refusal) 0 && endsInFF src (r .bio))
+        _ _ _ _ refl (refused-same m n bs headerEndRefusal) refl)

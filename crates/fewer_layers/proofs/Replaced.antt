@@ -8,7 +8,7 @@ use Prim.Native.Nat.{ℕ, zero, suc, _+_, _-_, _*_, _/_, _%_, _≤_, _<_, min}
 use native.Mathlib.Omega.{arith}
 use lib.ListN.{length, getD, set, List·getD-eq-default}
 use lib.Dec.{ltb, leb, eqb}
-use borrow.Author.Tests.{leb-true, ltb-true, eqb-true, eq-eqb, ne-eqb, lt-ltb}
+use borrow.Author.Tests.{leb-true, ltb-true, eqb-true, eq-eqb, ne-eqb, lt-ltb, le-ltb}
 use Rattle.t800.specs.declared.Band.{Band}
 use Rattle.t800.specs.State.{bandNodes, bandLength}
 use Rattle.t800.specs.FewerLayers.{isInclusionValue, replacedFrom}
@@ -39,11 +39,16 @@ module _ (m n : ℕ) (q : Bool) (v : ℕ) where
       (λ t. on-eq v m (λ e. rw (t, eq-eqb v m e) (f t e)) (λ e. rw (t, ne-eqb v m e) p))
       (λ t. rw t p)
 
--- no number below m tells n from m, and none up to m lies above either
-pub same-side : (m n : ℕ) → m ≤ n → (q : Bool) (v t : ℕ) → (q ≡ true → t < m) → ltb t (replacedWord m n q v) ≡ ltb t v
-same-side m n more q v t f =
+-- n and m are on the same side of every number below m, of every threshold up to m, and of the least of one and the word
+pub same-above : (m n : ℕ) → m ≤ n → (q : Bool) (v t : ℕ) → (q ≡ true → t < m) → ltb t (replacedWord m n q v) ≡ ltb t v
+same-above m n more q v t f =
     on-word m n q v (λ w. ltb t w ≡ ltb t v) refl
     (λ e i. let l = f e in lt-ltb t n (omega arith) ∙ sym (lt-ltb t v (omega arith)))
+
+pub same-below : (m n : ℕ) → m ≤ n → (q : Bool) (v t : ℕ) → (q ≡ true → t ≤ m) → ltb (replacedWord m n q v) t ≡ ltb v t
+same-below m n more q v t f =
+    on-word m n q v (λ w. ltb w t ≡ ltb v t) refl
+    (λ e i. let l = f e in le-ltb n t (omega arith) ∙ sym (le-ltb v t (omega arith)))
 
 pub same-min : (m n : ℕ) → m ≤ n → (q : Bool) (v t : ℕ) → (q ≡ true → t ≤ m) → min (replacedWord m n q v) t ≡ min v t
 same-min m n more q v t f = on-word m n q v (λ w. min w t ≡ min v t) refl (λ e i. let l = f e in omega arith)

@@ -12,7 +12,7 @@ use Rattle.t800.specs.declared.Bio.{Bio}
 use Rattle.t800.specs.Bits.{getBit}
 use Rattle.t800.specs.TagTree.{setValue, Coded, lowAfter, nodeBits, knownAfter, codePath, NodeRead, readNode, PathRead, readPath}
 use Rattle.t800_laws.proofs.Laws.Paths.{All, addresses}
-use Rattle.fewer_layers.proofs.Replaced.{choice-of, replacedWord, word-below, same-side, same-min, replacedWords, valueAt}
+use Rattle.fewer_layers.proofs.Replaced.{choice-of, replacedWord, word-below, same-above, same-min, replacedWords, valueAt}
 use Rattle.fewer_layers.proofs.Replaced.{replaced-set, replaced-get, Stays, stays-get, stays-set}
 
 -- the node at a, coded or read up to the threshold t
@@ -51,7 +51,7 @@ module _ (m n : ℕ) (more : m ≤ n) (bs : List Band) where
       let stored : set (R ws) a v ≡ R (set ws a v) =
       ap (λ (z : ℕ). set (R ws) a z) (sym (word-below m n (valueAt bs a) v below)) ∙ sym (replaced-set m n bs ws a v) in
       choice-of R (ltb v (getD ws a 0)) (ltb v (getD (R ws) a 0)) _ _ _ _
-      (ap (λ (z : ℕ). ltb v z) (value-is (v + 1) a ws (u .0)) ∙ same-side m n more (valueAt bs a) (getD ws a 0) v below)
+      (ap (λ (z : ℕ). ltb v z) (value-is (v + 1) a ws (u .0)) ∙ same-above m n more (valueAt bs a) (getD ws a 0) v below)
       (ap (setValue base ns v) stored ∙ leaf-replaced base ns v (set ws a v) (u .1))
       refl
 
@@ -108,7 +108,7 @@ module _ (m n : ℕ) (more : m ≤ n) (bs : List Band) where
   node-read src q (suc steps) v from b f =
       let below : q ≡ true → from < m = λ e. let l = f e (omega arith) in omega arith in
       let c = getBit src b in
-      choice-of (replacedNode q) (ltb from v) (ltb from (replacedWord m n q v)) _ _ _ _ (same-side m n more q v from below)
+      choice-of (replacedNode q) (ltb from v) (ltb from (replacedWord m n q v)) _ _ _ _ (same-above m n more q v from below)
       (choice-of (replacedNode q) (eqb (c .value) 0) (eqb (c .value) 0) _ _ _ _ refl
       (node-read src q steps v (from + 1) (c .bio) (λ e h. let l = f e (omega arith) in omega arith))
       (λ i. record { value = sym (word-below m n q from below) i; low = from; bio = c .bio }))
