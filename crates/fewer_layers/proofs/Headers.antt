@@ -30,7 +30,7 @@ use Rattle.fewer_layers.proofs.Trees.{UpTo, AllUpTo, leaf-replaced, rep
 
 -- ---- a block that stands in the layout
 
-all-of : (P Q : ℕ → Type 0) (xs : List ℕ) → ((a : ℕ) → P a → Q a) → All P xs → All Q xs
+pub all-of : (P Q : ℕ → Type 0) (xs : List ℕ) → ((a : ℕ) → P a → Q a) → All P xs → All Q xs
 all-of P Q [] f h = tt
 all-of P Q (a ∷ xs) f h = (f a (h .0), all-of P Q xs f (h .1))
 

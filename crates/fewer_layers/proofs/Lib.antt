@@ -1,3 +1,4 @@
 pub mod Replaced
 pub mod Trees
 pub mod Headers
+pub mod BandsStay
