@@ -2,3 +2,4 @@ pub mod Replaced
 pub mod Trees
 pub mod Headers
 pub mod BandsStay
+pub mod Ranges
