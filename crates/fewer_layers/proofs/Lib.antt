@@ -3,3 +3,4 @@ pub mod Trees
 pub mod Headers
 pub mod BandsStay
 pub mod Ranges
+pub mod Starts

@@ -125,7 +125,7 @@ module _ (m n : ℕ) (bs : List Band) where
 
 -- ---- where the inclusion trees' values stand
 
-value-is-node : (at : ℕ) (bs : List Band) (i : ℕ) → isInclusionValue at bs i ≡ true → NodeFrom inclusion at bs i
+pub value-is-node : (at : ℕ) (bs : List Band) (i : ℕ) → isInclusionValue at bs i ≡ true → NodeFrom inclusion at bs i
 unfolding isInclusionValue
 value-is-node at [] i h = absurd (true≢false (sym h))
 value-is-node at (b ∷ bs) i h =

@@ -1,0 +1,117 @@
+-- A fresh state of n layers is that of m layers with n for m in its inclusion trees, and so is a state after a start, for any m and n.
+use mathlib.Core.Path.{_≡_, refl, sym, ap, ap₂, _∙_}
+use mathlib.Core.Logic.{_≢_}
+use mathlib.Core.Bool.{Bool, true, false, _&&_, _||_}
+use mathlib.Core.List.{List, [], _∷_, _++_}
+use Prim.Native.Nat.{ℕ, zero, suc, _+_, _-_, _*_, _%_, _≤_, _<_}
+use native.Mathlib.Omega.{arith}
+use lib.ListN.{length, length-append}
+use lib.Dec.{ltb, leb, eqb}
+use borrow.Author.Tests.{eq-eqb, ne-eqb, lt-ltb, le-ltb, le-leb}
+use Rattle.t800.specs.declared.Band.{Band}
+use Rattle.t800.specs.State.{Block, notYetPlanes, bandNodes, blocksIn, bandLength, blocks, bandAt, bands}
+use Rattle.t800.specs.Start.{freshNodes, freshBlocks, freshBandsWith, bandWords, freshStateWith, setZeroPlanes}
+use Rattle.t800.specs.FewerLayers.{isInclusionValue, replacedFrom}
+use Rattle.t800_laws.proofs.Laws.Checks.{on-bool}
+use Rattle.t800_laws.proofs.Laws.Layout.{inclusion, layoutOf, AllPlaced, blocks-placed, node-between, band-length}
+use Rattle.t800_laws.proofs.Laws.FreshState.{length-nodes, length-blocks}
+use Rattle.fewer_layers.proofs.Replaced.{replacedWords, replacedWord, valueAt, Stays, value-is-node, first-stays}
+
+-- ---- where the inclusion trees' values stand, in bands from `at` on
+
+before-no-value : (at : ℕ) (bs : List Band) (i : ℕ) → i < at → isInclusionValue at bs i ≡ false
+before-no-value at bs i h =
+    on-bool (isInclusionValue at bs i)
+    (λ t. let l = node-between inclusion at bs i (value-is-node at bs i t) .0 in absurd (omega arith))
+    (λ f. f)
+
+module _ (at : ℕ) (b : Band) (bs : List Band) (i : ℕ) where
+  value-here : at ≤ i → i < at + 3 * bandNodes b → (i - at) % 3 ≡ 0 → isInclusionValue at (b ∷ bs) i ≡ true
+  unfolding isInclusionValue
+  value-here h l z = rw (le-leb at i h, lt-ltb i (at + 3 * bandNodes b) l, eq-eqb ((i - at) % 3) 0 z)
+
+  no-value-here : at ≤ i → i < at + bandLength b → (i - at) % 3 ≢ 0 → isInclusionValue at (b ∷ bs) i ≡ false
+  unfolding isInclusionValue
+  no-value-here h l z = on-bool (ltb i (at + 3 * bandNodes b))
+      (λ t. rw (le-leb at i h, t, ne-eqb ((i - at) % 3) 0 z) (before-no-value (at + bandLength b) bs i l))
+      (λ f. rw (le-leb at i h, f) (before-no-value (at + bandLength b) bs i l))
+
+  value-later : at + 3 * bandNodes b ≤ i → isInclusionValue at (b ∷ bs) i ≡ isInclusionValue (at + bandLength b) bs i
+  unfolding isInclusionValue
+  value-later h = rw (le-leb at i (omega arith), le-ltb i (at + 3 * bandNodes b) h)
+
+-- ---- the words of a fresh state
+
+module _ (m n : ℕ) (bs : List Band) where
+  append-from : (p : ℕ) (xs ys : List ℕ) → replacedFrom m n bs p (xs ++ ys)
+      ≡ replacedFrom m n bs p xs ++ replacedFrom m n bs (p + length xs) ys
+  unfolding replacedFrom
+  append-from p [] ys = let e : p ≡ p + 0 = omega arith in ap (λ (z : ℕ). replacedFrom m n bs z ys) e
+  append-from p (x ∷ xs) ys =
+      let e : p + 1 + length xs ≡ p + suc (length xs) = omega arith in
+      let rest : List ℕ = replacedFrom m n bs (p + 1) xs in
+      ap (λ (z : List ℕ). replacedWord m n (valueAt bs p) x ∷ z)
+      (append-from (p + 1) xs ys ∙ ap (λ (z : ℕ). rest ++ replacedFrom m n bs z ys) e)
+
+  -- words that stay
+  stay-from : (p : ℕ) (xs : List ℕ) → ((i : ℕ) → p ≤ i → i < p + length xs → Stays bs i) → replacedFrom m n bs p xs ≡ xs
+  unfolding replacedFrom
+  stay-from p [] f = refl
+  stay-from p (x ∷ xs) f =
+      rw (f p (omega arith) (omega arith), stay-from (p + 1) xs (λ i h l. f i (omega arith) (omega arith)))
+
+  -- the nodes of an inclusion tree
+  nodes-from : (p c : ℕ) → ((j : ℕ) → j < c → (valueAt bs (p + 3 * j) ≡ true) × Stays bs (p + 3 * j + 1) × Stays bs (p + 3 * j + 2))
+      → replacedFrom m n bs p (freshNodes m c) ≡ freshNodes n c
+  unfolding replacedFrom freshNodes
+  nodes-from p zero f = refl
+  nodes-from p (suc c) f =
+      let e₀ : p + 3 * 0 ≡ p = omega arith in
+      let e₁ : p + 3 * 0 + 1 ≡ p + 1 = omega arith in
+      let e₂ : p + 3 * 0 + 2 ≡ p + 1 + 1 = omega arith in
+      let g = f 0 (omega arith) in
+      let v : valueAt bs p ≡ true = ap (valueAt bs) (sym e₀) ∙ g .0 in
+      let l : Stays bs (p + 1) = ap (valueAt bs) (sym e₁) ∙ g .1 in
+      let k : Stays bs (p + 1 + 1) = ap (valueAt bs) (sym e₂) ∙ g .2 in
+      rw (v, l, k, eq-eqb m m refl, nodes-from (p + 1 + 1 + 1) c (λ j h. let r = f (suc j) (omega arith) in
+      let d₀ : p + 1 + 1 + 1 + 3 * j ≡ p + 3 * suc j = omega arith in
+      let d₁ : p + 1 + 1 + 1 + 3 * j + 1 ≡ p + 3 * suc j + 1 = omega arith in
+      let d₂ : p + 1 + 1 + 1 + 3 * j + 2 ≡ p + 3 * suc j + 2 = omega arith in
+      (ap (valueAt bs) d₀ ∙ r .0, ap (valueAt bs) d₁ ∙ r .1, ap (valueAt bs) d₂ ∙ r .2)))
+
+  -- the bands from `at` on
+  bands-from : (at : ℕ) (rest : List Band) → ((i : ℕ) → at ≤ i → valueAt bs i ≡ isInclusionValue at rest i)
+      → replacedFrom m n bs at (freshBandsWith m rest) ≡ freshBandsWith n rest
+  unfolding replacedFrom freshBandsWith
+  bands-from at [] same = refl
+  bands-from at (b ∷ rest) same =
+      let c : ℕ = bandNodes b in
+      let incl : List ℕ = freshNodes m c in
+      let planes : List ℕ = freshNodes notYetPlanes c in
+      let own : List ℕ = freshBlocks (blocksIn b) in
+      let later : List ℕ = freshBandsWith m rest in
+      let li : length incl ≡ 3 * c = length-nodes m c in
+      let lp : length planes ≡ 3 * c = length-nodes notYetPlanes c in
+      let lo : length own ≡ 4 * blocksIn b = length-blocks (blocksIn b) in
+      let ltwo : length (incl ++ planes) ≡ 6 * c = length-append incl planes ∙ omega arith in
+      let lall : length (incl ++ planes ++ own) ≡ bandLength b = length-append (incl ++ planes) own ∙ omega (arith, band-length b) in
+      let bl = band-length b in
+      let past : (i : ℕ) → at + 3 * c ≤ i → i < at + bandLength b → Stays bs i =
+      λ i h l. same i (omega arith) ∙ value-later at b rest i h ∙ before-no-value (at + bandLength b) rest i l in
+      let e : at + length (incl ++ planes ++ own) ≡ at + bandLength b = omega arith in
+      let join : List ℕ → List ℕ → List ℕ = λ xs ys. xs ++ ys in
+      append-from at (incl ++ planes ++ own) later
+      ∙ ap₂ join
+      (append-from at (incl ++ planes) own
+      ∙ ap₂ join
+      (append-from at incl planes
+      ∙ ap₂ join
+      (nodes-from at c (λ j h. (
+        same (at + 3 * j) (omega arith) ∙ value-here at b rest (at + 3 * j) (omega arith) (omega arith) (omega arith),
+        same (at + 3 * j + 1) (omega arith) ∙ no-value-here at b rest (at + 3 * j + 1) (omega arith) (omega arith) (omega arith),
+        same (at + 3 * j + 2) (omega arith) ∙ no-value-here at b rest (at + 3 * j + 2) (omega arith) (omega arith) (omega arith),
+      )))
+      (stay-from (at + length incl) planes (λ i h l. past i (omega arith) (omega arith))))
+      (stay-from (at + length (incl ++ planes)) own (λ i h l. past i (omega arith) (omega arith))))
+      (ap (λ (z : ℕ). replacedFrom m n bs z later) e
+      ∙ bands-from (at + bandLength b) rest (λ i h. same i (omega arith) ∙ value-later at b rest i (omega arith)))
