@@ -20,12 +20,11 @@ use Rattle.t800.specs.ReadHeader.{HeaderRead, refused, movedTo, opensSegment, c
 use Rattle.t800.specs.ReadHeader.{readZeroPlanesFrom, readZeroPlanes, readIncluded, readNewBlock, readOldBlock, readBlock, readBlocks}
 use Rattle.t800.specs.ReadHeader.{readHeader}
 use Rattle.t800.specs.FewerLayers.{replacedFrom}
-use Rattle.t800_laws.proofs.Laws.FirstWords.{same-bands}
 use Rattle.t800_laws.proofs.Laws.Paths.{All}
 use Rattle.t800_laws.proofs.Laws.Layout.{Tree, inclusion, zeroPlanes, NodeFrom, layoutOf, Placed, AllPlaced, path-nodes, from-root-nodes}
 use Rattle.t800_laws.proofs.Laws.Layout.{leafToRoot, rootToLeaf, blocks-placed, leaf-node}
 use Rattle.fewer_layers.proofs.Replaced.{choice-of, replacedWords, replacedWord, replaced-get, same-below, valueAt, Stays, stays-get}
-use Rattle.fewer_layers.proofs.Replaced.{stays-set, first-stays, second-stays, third-stays, planes-stay, block-stays}
+use Rattle.fewer_layers.proofs.Replaced.{stays-set, first-stays, second-stays, third-stays, planes-stay, block-stays, first-same, bands-same}
 use Rattle.fewer_layers.proofs.Trees.{UpTo, AllUpTo, leaf-replaced, replacedCoded, path-coded, replacedRead, path-read}
 
 -- ---- a block that stands in the layout
@@ -301,46 +300,39 @@ module _ (m n : ℕ) (more : m ≤ n) (bs : List Band) where
 
 -- ---- a state's whole header, below layer m
 
-module _ (m n : ℕ) (more : m ≤ n) (ws : List ℕ) where
+module _ (m n : ℕ) (more : m ≤ n) (ws : List ℕ) (below : layer ws < m) where
   abbrev bs : List Band
   bs = bands ws
 
   abbrev vs : List ℕ
   vs = replacedWords m n bs ws
 
-  pub first-same : (i : ℕ) → i < 13 → getD vs i 0 ≡ getD ws i 0
-  first-same i h = stays-get m n bs ws i (first-stays bs i h)
+  pub header-replaced : (p : Contribution) → codeHeader p vs ≡ replacedCoded m n bs (codeHeader p ws)
+  unfolding codeHeader
+  header-replaced p =
+      let now : ℕ = layer ws in
+      let ks : List Block = blocks bs in
+      let after : List ℕ = setNewBlocks now ks (p .counts) ws in
+      rw (
+        bands-same m n bs ws,
+        first-same m n bs ws 3 (omega arith),
+        new-blocks-replaced m n more bs now below ks (p .counts) ws (blocks-placed bs),
+        blocks-replaced m n more bs now below ks (p .counts) (p .lengths) (p .marks) after (blocks-placed bs),
+        stays-set m n bs (codeBlocks now ks (p .counts) (p .lengths) (p .marks) after .words) 3 (now + 1) (first-stays bs 3 (omega arith)),
+      )
 
-  pub bands-same : bands vs ≡ bs
-  bands-same = same-bands ws vs (λ j h d. first-same j h) .0
-
-  module _ (below : layer ws < m) where
-    pub header-replaced : (p : Contribution) → codeHeader p vs ≡ replacedCoded m n bs (codeHeader p ws)
-    unfolding codeHeader
-    header-replaced p =
-        let now : ℕ = layer ws in
-        let ks : List Block = blocks bs in
-        let after : List ℕ = setNewBlocks now ks (p .counts) ws in
-        rw (
-          bands-same,
-          first-same 3 (omega arith),
-          new-blocks-replaced m n more bs now below ks (p .counts) ws (blocks-placed bs),
-          blocks-replaced m n more bs now below ks (p .counts) (p .lengths) (p .marks) after (blocks-placed bs),
-          stays-set m n bs (codeBlocks now ks (p .counts) (p .lengths) (p .marks) after .words) 3 (now + 1) (first-stays bs 3 (omega arith)),
-        )
-
-    pub header-read-replaced : (src : List ℕ) (room : ℕ) (b : Bio)
-        → readHeader src room vs b ≡ replacedHeader m n bs (readHeader src room ws b)
-    unfolding readHeader
-    header-read-replaced src room b =
-        let now : ℕ = layer ws in
-        let ks : List Block = blocks bs in
-        let start : HeaderRead = record { refusal = 0; words = ws; bio = b; reports = []; records = [] } in
-        let r : HeaderRead = readBlocks src room now 0 ks start in
-        rw (
-          bands-same,
-          first-same 3 (omega arith),
-          reads-replaced m n more bs src room now below 0 ks start (blocks-placed bs),
-        )
-        (choice-of (replacedHeader m n bs) (eqb (r .refusal) 0 && endsInFF src (r .bio)) (eqb (r .refusal) 0 && endsInFF src (r .bio))
-        _ _ _ _ refl (refused-same m n bs headerEndRefusal) refl)
+  pub header-read-replaced : (src : List ℕ) (room : ℕ) (b : Bio)
+      → readHeader src room vs b ≡ replacedHeader m n bs (readHeader src room ws b)
+  unfolding readHeader
+  header-read-replaced src room b =
+      let now : ℕ = layer ws in
+      let ks : List Block = blocks bs in
+      let start : HeaderRead = record { refusal = 0; words = ws; bio = b; reports = []; records = [] } in
+      let r : HeaderRead = readBlocks src room now 0 ks start in
+      rw (
+        bands-same m n bs ws,
+        first-same m n bs ws 3 (omega arith),
+        reads-replaced m n more bs src room now below 0 ks start (blocks-placed bs),
+      )
+      (choice-of (replacedHeader m n bs) (eqb (r .refusal) 0 && endsInFF src (r .bio)) (eqb (r .refusal) 0 && endsInFF src (r .bio))
+      _ _ _ _ refl (refused-same m n bs headerEndRefusal) refl)

@@ -18,7 +18,7 @@ use Rattle.t800_laws.proofs.Laws.Tests.{and-left, and-right}
 use Rattle.t800_laws.proofs.Laws.Layout.{Tree, inclusion, zeroPlanes, NodeFrom, BlockFrom}
 use Rattle.t800_laws.proofs.Laws.FirstWords.{same-bands}
 use Rattle.fewer_layers.proofs.Replaced.{replacedWords, replacedWord, on-word, replaced-get, replaced-length, valueAt, stays-get}
-use Rattle.fewer_layers.proofs.Replaced.{first-stays, second-stays, third-stays, planes-stay, block-stays}
+use Rattle.fewer_layers.proofs.Replaced.{first-same, second-stays, third-stays, planes-stay, block-stays}
 
 every-stays : (c : ℕ) (f g : ℕ → Bool) → ((i : ℕ) → i < c → f i ≡ true → g i ≡ true) → every c f ≡ true → every c g ≡ true
 unfolding every
@@ -35,9 +35,6 @@ module _ (m n : ℕ) (more : m ≤ n) (ws : List ℕ) (below : layer ws < m) whe
 
   abbrev vs : List ℕ
   vs = replacedWords m n bs ws
-
-  first-same : (i : ℕ) → i < 13 → getD vs i 0 ≡ getD ws i 0
-  first-same i h = stays-get m n bs ws i (first-stays bs i h)
 
   inclusion-in : (a : ℕ) → NodeFrom inclusion 13 bs a → nodeInRange ws m a ≡ true → nodeInRange vs n a ≡ true
   unfolding nodeInRange
@@ -74,9 +71,9 @@ module _ (m n : ℕ) (more : m ≤ n) (ws : List ℕ) (below : layer ws < m) whe
       let e : p + 0 ≡ p = omega arith in
       let passes : getD vs p 0 ≡ getD ws p 0 = stays-get m n bs ws p (rw e at (block-stays bs p 0 v (omega arith))) in
       rw (
-        first-same 0 (omega arith),
-        first-same 2 (omega arith),
-        first-same 3 (omega arith),
+        first-same m n bs ws 0 (omega arith),
+        first-same m n bs ws 2 (omega arith),
+        first-same m n bs ws 3 (omega arith),
         passes,
         stays-get m n bs ws (p + 1) (block-stays bs p 1 v (omega arith)),
         stays-get m n bs ws (p + 2) (block-stays bs p 2 v (omega arith)),
@@ -112,17 +109,17 @@ module _ (m n : ℕ) (more : m ≤ n) (ws : List ℕ) (below : layer ws < m) whe
   pub valid-replaced : (r len : ℕ) → validStateWith m r ws len ≡ true → validStateWith n r vs len ≡ true
   unfolding validStateWith
   valid-replaced r len h =
-      let same = same-bands ws vs (λ j l d. first-same j l) in
+      let same = same-bands ws vs (λ j l d. first-same m n bs ws j l) in
       let first : Bool = eqb (role ws) r && not (badShape (bandCount ws) bs) && not (badStyle (style ws)) && leb (layer ws) m
       && not (bandTooDeep bs) && unusedBandsZero ws && eqb (length ws) (stateLength bs) && eqb len (length ws) in
       let ranges : bandsInRangeWith m ws 13 bs ≡ true = and-right first (bandsInRangeWith m ws 13 bs) h in
       rw (
         same .0,
         same .1,
-        first-same 0 (omega arith),
-        first-same 1 (omega arith),
-        first-same 2 (omega arith),
-        first-same 3 (omega arith),
+        first-same m n bs ws 0 (omega arith),
+        first-same m n bs ws 1 (omega arith),
+        first-same m n bs ws 2 (omega arith),
+        first-same m n bs ws 3 (omega arith),
         replaced-length m n bs ws,
         bands-in 13 bs (λ t a v. v) (λ p v. v) ranges ∙ sym ranges,
         le-leb (layer ws) n (omega arith) ∙ sym (le-leb (layer ws) m (omega arith)),

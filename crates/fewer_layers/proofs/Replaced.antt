@@ -10,10 +10,11 @@ use lib.ListN.{length, getD, set, List·getD-eq-default}
 use lib.Dec.{ltb, leb, eqb}
 use borrow.Author.Tests.{leb-true, ltb-true, eqb-true, eq-eqb, ne-eqb, lt-ltb, le-ltb}
 use Rattle.t800.specs.declared.Band.{Band}
-use Rattle.t800.specs.State.{bandNodes, bandLength}
-use Rattle.t800.specs.FewerLayers.{isInclusionValue, replacedFrom}
+use Rattle.t800.specs.State.{bandNodes, bandLength, bands}
+use Rattle.t800.specs.FewerLayers.{isInclusionValue, replacedFrom, replaced}
 use Rattle.t800_laws.proofs.Laws.Tests.{on-lt, on-eq, and-left, and-right}
 use Rattle.t800_laws.proofs.Laws.Checks.{on-bool}
+use Rattle.t800_laws.proofs.Laws.FirstWords.{same-bands}
 use Rattle.t800_laws.proofs.Laws.Layout.{Tree, inclusion, zeroPlanes, NodeFrom, BlockFrom, layoutOf, second-no-node, third-no-node}
 
 -- ---- a choice between two images under one function
@@ -158,3 +159,15 @@ module _ (bs : List Band) where
 
   pub block-stays : (p j : ℕ) → BlockFrom 13 bs p → j < 4 → Stays bs (p + j)
   block-stays p j v h = no-node-stays (p + j) (λ c w. let o = layoutOf bs .node-off-block inclusion c p w v in omega arith)
+
+module _ (m n : ℕ) (bs : List Band) (ws : List ℕ) where
+  pub first-same : (i : ℕ) → i < 13 → getD (replacedWords m n bs ws) i 0 ≡ getD ws i 0
+  first-same i h = stays-get m n bs ws i (first-stays bs i h)
+
+  pub bands-same : bands (replacedWords m n bs ws) ≡ bands ws
+  bands-same = same-bands ws (replacedWords m n bs ws) (λ j h d. first-same j h) .0
+
+-- a state with these bands
+pub replaced-as : (m n : ℕ) (bs : List Band) (ws : List ℕ) → bands ws ≡ bs → replaced m n ws ≡ replacedWords m n bs ws
+unfolding replaced
+replaced-as m n bs ws e = ap (λ (z : List Band). replacedWords m n z ws) e

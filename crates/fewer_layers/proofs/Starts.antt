@@ -5,17 +5,24 @@ use mathlib.Core.Bool.{Bool, true, false, _&&_, _||_}
 use mathlib.Core.List.{List, [], _∷_, _++_}
 use Prim.Native.Nat.{ℕ, zero, suc, _+_, _-_, _*_, _%_, _≤_, _<_}
 use native.Mathlib.Omega.{arith}
-use lib.ListN.{length, length-append}
+use lib.ListN.{length, take, length-append}
 use lib.Dec.{ltb, leb, eqb}
-use borrow.Author.Tests.{eq-eqb, ne-eqb, lt-ltb, le-ltb, le-leb}
+use borrow.Author.Tests.{eqb-true, eq-eqb, ne-eqb, lt-ltb, le-ltb, le-leb}
 use Rattle.t800.specs.declared.Band.{Band}
-use Rattle.t800.specs.State.{Block, notYetPlanes, bandNodes, blocksIn, bandLength, blocks, bandAt, bands}
-use Rattle.t800.specs.Start.{freshNodes, freshBlocks, freshBandsWith, bandWords, freshStateWith, setZeroPlanes}
-use Rattle.t800.specs.FewerLayers.{isInclusionValue, replacedFrom}
+use Rattle.t800.specs.State.{Block, notYetIncluded, notYetPlanes, bandNodes, blocksIn, bandLength, blocks, bands}
+use Rattle.t800.specs.TagTree.{setValue}
+use Rattle.t800.specs.Start.{freshNodes, freshBlocks, freshBandsWith, bandWords, freshState, freshStateWith, setZeroPlanes, StartResult}
+use Rattle.t800.specs.Start.{startRefusal, startWith}
+use Rattle.t800.specs.FewerLayers.{isInclusionValue, replacedFrom, replaced, StartsAlike}
 use Rattle.t800_laws.proofs.Laws.Checks.{on-bool}
 use Rattle.t800_laws.proofs.Laws.Layout.{inclusion, layoutOf, AllPlaced, blocks-placed, node-between, band-length}
-use Rattle.t800_laws.proofs.Laws.FreshState.{length-nodes, length-blocks}
+use Rattle.t800_laws.proofs.Laws.FreshState.{length-nodes, length-blocks, fresh-first-words}
+use Rattle.t800_laws.proofs.Laws.Accepted.{start-accepted, few-bands}
 use Rattle.fewer_layers.proofs.Replaced.{replacedWords, replacedWord, valueAt, Stays, value-is-node, first-stays}
+use Rattle.fewer_layers.proofs.Replaced.{bands-same, replaced-as}
+use Rattle.fewer_layers.proofs.Trees.{leaf-replaced}
+use Rattle.fewer_layers.proofs.Headers.{planes-path}
+use Rattle.fewer_layers.proofs.BandsStay.{zero-planes-set}
 
 -- ---- where the inclusion trees' values stand, in bands from `at` on
 
@@ -115,3 +122,59 @@ module _ (m n : ℕ) (bs : List Band) where
       (stay-from (at + length (incl ++ planes)) own (λ i h l. past i (omega arith) (omega arith))))
       (ap (λ (z : ℕ). replacedFrom m n bs z later) e
       ∙ bands-from (at + bandLength b) rest (λ i h. same i (omega arith) ∙ value-later at b rest i (omega arith)))
+
+first-thirteen : (r s : ℕ) (bs : List Band) → length (r ∷ length bs ∷ s ∷ 0 ∷ bandWords bs 3) ≡ 13
+unfolding bandWords
+first-thirteen r s [] = refl
+first-thirteen r s (a ∷ []) = refl
+first-thirteen r s (a ∷ b ∷ []) = refl
+first-thirteen r s (a ∷ b ∷ c ∷ bs) = refl
+
+module _ (r s : ℕ) (bs : List Band) where
+  fresh-replaced : (m n : ℕ) → freshStateWith n r s bs ≡ replacedWords m n bs (freshStateWith m r s bs)
+  unfolding freshStateWith
+  fresh-replaced m n =
+      let first : List ℕ = r ∷ length bs ∷ s ∷ 0 ∷ bandWords bs 3 in
+      let l : length first ≡ 13 = first-thirteen r s bs in
+      let e : 0 + length first ≡ 13 = omega arith in
+      let join : List ℕ → List ℕ → List ℕ = λ xs ys. xs ++ ys in
+      sym (append-from m n bs 0 first (freshBandsWith m bs)
+      ∙ ap₂ join (stay-from m n bs 0 first (λ i h g. first-stays bs i (omega arith)))
+      (ap (λ (z : ℕ). replacedFrom m n bs z (freshBandsWith m bs)) e ∙ bands-from m n bs 13 bs (λ i h. refl)))
+
+  -- as with all layers, for which it is known
+  fresh-bands : (m : ℕ) → length bs ≤ 3 → bands (freshStateWith m r s bs) ≡ bs
+  fresh-bands m l =
+      ap bands (fresh-replaced notYetIncluded m) ∙ bands-same notYetIncluded m bs (freshState r s bs) ∙ fresh-first-words r s bs l .bands-are
+
+-- ---- a start
+
+module _ (m n : ℕ) (more : m ≤ n) where
+  planes-set : (bs : List Band) (ks : List Block) (ps ws : List ℕ) → AllPlaced (layoutOf bs) ks
+      → setZeroPlanes ks ps (replacedWords m n bs ws) ≡ replacedWords m n bs (setZeroPlanes ks ps ws)
+  unfolding setZeroPlanes
+  planes-set bs [] ps ws P = refl
+  planes-set bs (k ∷ ks) [] ws P = refl
+  planes-set bs (k ∷ ks) (p ∷ ps) ws P =
+      let z : ℕ = k .planes - p in
+      ap (setZeroPlanes ks ps) (leaf-replaced m n more bs (k .zeroTree) (k .path) z ws (planes-path m bs k (P .0 .0) (z + 1)))
+      ∙ planes-set bs ks ps (setValue (k .zeroTree) (k .path) z ws) (P .1)
+
+  filled-alike : (r s : ℕ) (bs : List Band) (ps : List ℕ) → length bs ≤ 3
+      → setZeroPlanes (blocks bs) ps (freshStateWith n r s bs) ≡ replaced m n (setZeroPlanes (blocks bs) ps (freshStateWith m r s bs))
+  filled-alike r s bs ps l =
+      let ks : List Block = blocks bs in
+      let fresh : List ℕ = freshStateWith m r s bs in
+      ap (setZeroPlanes ks ps) (fresh-replaced r s bs m n) ∙ planes-set bs ks ps fresh (blocks-placed bs)
+      ∙ sym (replaced-as m n bs (setZeroPlanes ks ps fresh)
+      (zero-planes-set bs ks ps fresh (blocks-placed bs) ∙ fresh-bands r s bs m l))
+
+  pub starts-alike : StartsAlike m n
+  unfolding StartsAlike startWith
+  starts-alike role count given style planes lent =
+      let bs : List Band = take count given in
+      let why : ℕ = startRefusal role count given style planes lent in
+      on-bool (eqb why 0)
+      (λ t. let a = start-accepted role count given style planes lent (eqb-true why 0 t) in
+      rw t (ap (λ (z : List ℕ). record { answer = why; state = z }) (filled-alike role style bs planes (few-bands count given (a .shape)))))
+      (λ f. rw f)
