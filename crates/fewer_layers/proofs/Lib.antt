@@ -4,3 +4,4 @@ pub mod Headers
 pub mod BandsStay
 pub mod Ranges
 pub mod Starts
+pub mod Alike

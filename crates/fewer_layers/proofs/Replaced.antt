@@ -19,10 +19,15 @@ use Rattle.t800_laws.proofs.Laws.Layout.{Tree, inclusion, zeroPlanes, NodeFrom,
 
 -- ---- a choice between two images under one function
 
+-- each branch is looked at only where it is chosen
+pub choice-by {ℓ κ} : {A : Type ℓ} {B : Type κ} (f : A → B) (b c : Bool) (x y : A) (x₁ y₁ : B) → c ≡ b → (b ≡ true → x₁ ≡ f x)
+    → (b ≡ false → y₁ ≡ f y) → cond c x₁ y₁ ≡ f (cond b x y)
+choice-by f true c x y x₁ y₁ e p q = ap (λ (t : Bool). cond t x₁ y₁) e ∙ p refl
+choice-by f false c x y x₁ y₁ e p q = ap (λ (t : Bool). cond t x₁ y₁) e ∙ q refl
+
 pub choice-of {ℓ κ} : {A : Type ℓ} {B : Type κ} (f : A → B) (b c : Bool) (x y : A) (x₁ y₁ : B) → c ≡ b → x₁ ≡ f x → y₁ ≡ f y
     → cond c x₁ y₁ ≡ f (cond b x y)
-choice-of f true c x y x₁ y₁ e p q = ap (λ (t : Bool). cond t x₁ y₁) e ∙ p
-choice-of f false c x y x₁ y₁ e p q = ap (λ (t : Bool). cond t x₁ y₁) e ∙ q
+choice-of f b c x y x₁ y₁ e p q = choice-by f b c x y x₁ y₁ e (λ t. p) (λ t. q)
 
 -- ---- one word
 
