@@ -242,3 +242,41 @@ module _ (m n : ℕ) (more : m ≤ n) (ws scratch : List ℕ) (below : layer ws 
         (choice-by readAs (eqb (header .refusal) 0) (eqb (header .refusal) 0) _ _ _ _ refl
         (λ t. present-as (readSop k src) (eqb-true (header .refusal) 0 t))
         (λ h. rw (h, state-as)))))
+
+-- ---- the theorem
+
+module _ (m n : ℕ) (more : m ≤ n) where
+  measures-alike : MeasuresAlike m n
+  unfolding MeasuresAlike
+  measures-alike ws scratch p k below h =
+      let valid = measure-valid m n more ws scratch below p (λ e. h (measure-gives m n more ws scratch below p k e)) in
+      ap (λ (z : List ℕ). measureWith n z scratch p k) (state-as m n more ws scratch below)
+      ∙ measured m n more ws scratch below p k valid
+
+  writes-alike : WritesAlike m n
+  unfolding WritesAlike
+  writes-alike ws scratch p body k number output below h =
+      let valid = write-valid m n more ws scratch below p body k number output
+      (λ e. h (write-gives m n more ws scratch below p body k number output e)) in
+      ap (λ (z : List ℕ). writeWith n z scratch p body k number output) (state-as m n more ws scratch below)
+      ∙ written m n more ws scratch below p body k number output valid
+
+  reads-alike : ReadsAlike m n
+  unfolding ReadsAlike
+  reads-alike form ws scratch k src reports records below h =
+      let valid = read-valid m n more ws scratch below form k src reports records
+      (λ e. h (read-gives m n more ws scratch below form k src reports records e)) in
+      ap (λ (z : List ℕ). readWith n form z scratch k src reports records) (state-as m n more ws scratch below)
+      ∙ read-as m n more ws scratch below form k src reports records valid
+
+pub fewer-layers : (m n : ℕ) → m ≤ n → AgreeBelow m n
+fewer-layers m n more =
+    record {
+      starts = starts-alike m n more;
+      measures = measures-alike m n more;
+      writes = writes-alike m n more;
+      reads = reads-alike m n more;
+    }
+
+pub as-with-crate-layers : AgreeBelow crateLayers notYetIncluded
+as-with-crate-layers = fewer-layers crateLayers notYetIncluded (omega arith)
