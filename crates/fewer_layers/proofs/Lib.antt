@@ -5,3 +5,4 @@ pub mod BandsStay
 pub mod Ranges
 pub mod Starts
 pub mod Alike
+pub mod Examples
