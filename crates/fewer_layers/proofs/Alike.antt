@@ -1,32 +1,29 @@
--- Below the m-th layer the calls with m layers and with n agree, for m up to n: the theorem of `t800`'s statement, and that of the crate's layers.
+-- Below the m-th layer the calls with m layers and with n agree, for m up to n: the theorem, and what it says of the crate's layers.
 use mathlib.Core.Path.{_≡_, refl, sym, ap, ap₂, _∙_}
 use mathlib.Core.Logic.{_≢_}
-use mathlib.Core.Bool.{Bool, true, false, cond, not, _||_}
-use mathlib.Core.List.{List, [], _∷_}
-use Prim.Native.Nat.{ℕ, _+_, _≤_, _<_}
+use mathlib.Core.Bool.{Bool, true, false, cond, not}
+use mathlib.Core.List.{List, [], _∷_, _++_}
+use Prim.Native.Nat.{ℕ, _+_, _*_, _≤_, _<_}
 use native.Mathlib.Omega.{arith}
-use lib.ListN.{length, set, take, drop}
-use lib.Dec.{ltb, eqb}
-use borrow.Author.Tests.{eqb-true, eqb-false, ne-eqb, not-true}
+use lib.ListN.{length, set, drop}
+use lib.Dec.{eqb}
+use borrow.Author.Tests.{eqb-true, ne-eqb, not-true}
 use Rattle.t800.specs.declared.Band.{Band}
 use Rattle.t800.specs.declared.Bio.{Bio}
 use Rattle.t800.specs.declared.Markers.{Markers}
-use Rattle.t800.specs.Base.{any}
-use Rattle.t800.specs.Refusals.{stateRefusal, spaceRefusal}
-use Rattle.t800.specs.Reports.{RecordForm}
-use Rattle.t800.specs.Segments.{segmentsOf, width, increment}
+use Rattle.t800.specs.Refusals.{Check, check, firstOf, listRefusal, stateRefusal, spaceRefusal}
+use Rattle.t800.specs.Reports.{reportWidth, RecordForm}
 use Rattle.t800.specs.State.{Block, notYetIncluded, writer, reader, layer, bands, blocks}
 use Rattle.t800.specs.Ranges.{validStateWith}
-use Rattle.t800.specs.WriteHeader.{Contribution, codeHeader, lengthBitsBefore, fieldTooWide}
-use Rattle.t800.specs.ReadHeader.{HeaderRead, readHeader}
+use Rattle.t800.specs.WriteHeader.{Contribution, codeHeader, fieldTooWide}
+use Rattle.t800.specs.ReadHeader.{HeaderRead}
 use Rattle.t800.specs.MarkerSegments.{MarkerRead, readSop}
-use Rattle.t800.specs.Packet.{measureRefusalWith, front, MeasureResult, measureWith, packet, writeRefusalWith, WriteResult, writeWith}
-use Rattle.t800.specs.Packet.{readRefusalWith, firstBit, headerOf, ReadResult, readAbsent, readPresent, readWith}
-use Rattle.t800.specs.FewerLayers.{crateLayers, replaced, replacedIfAccepted, StartsAlike, MeasuresAlike, WritesAlike, ReadsAlike, AgreeBelow}
-use Rattle.t800_laws.proofs.Laws.Checks.{on-bool}
+use Rattle.t800.specs.Packet.{stateChecksWith, measureChecksWith, measureRefusalWith, front, MeasureResult, measureWith, packet}
+use Rattle.t800.specs.Packet.{packetChecks, writeRefusalWith, WriteResult, writeWith, readRefusalWith, firstBit, headerOf, ReadResult}
+use Rattle.t800.specs.Packet.{readAbsent, readPresent, readWith}
+use Rattle.t800.specs.FewerLayers.{crateLayers, replaced, replacedIfAccepted, MeasuresAlike, WritesAlike, ReadsAlike, AgreeBelow}
 use Rattle.t800_laws.proofs.Laws.Layout.{layoutOf, AllPlaced, blocks-placed}
 use Rattle.fewer_layers.proofs.Replaced.{choice-by, replacedWords, first-same, bands-same, replaced-as, stays-set, first-stays}
-use Rattle.fewer_layers.proofs.Trees.{replacedCoded}
 use Rattle.fewer_layers.proofs.Headers.{bits-before-same, replacedHeader, header-replaced, header-read-replaced}
 use Rattle.fewer_layers.proofs.BandsStay.{stored-layer, header-coded, header-read}
 use Rattle.fewer_layers.proofs.Ranges.{valid-replaced}
@@ -64,19 +61,15 @@ module _ (m n : ℕ) (more : m ≤ n) (ws scratch : List ℕ) (below : layer ws 
   layer-more : eqb (layer ws) n ≡ false
   layer-more = ne-eqb (layer ws) n (omega arith)
 
-  measure-refusal-same : (p : Contribution) → few-valid writer ≡ true
-      → measureRefusalWith n vs scratch p ≡ measureRefusalWith m ws scratch p
-  unfolding measureRefusalWith
-  measure-refusal-same p v =
-      rw (
-        v,
-        valid-replaced m n more ws below writer (length scratch) v,
-        bands-same m n bs ws,
-        first-same m n bs ws 3 (omega arith),
-        layer-few,
-        layer-more,
-        width-same m n more bs (blocks bs) (p .counts) (p .lengths) (p .marks) ws (blocks-placed bs),
-      )
+  state-checks-same : (role : ℕ) → few-valid role ≡ true
+      → stateChecksWith n role vs (length scratch) ≡ stateChecksWith m role ws (length scratch)
+  state-checks-same role v =
+      rw (v, valid-replaced m n more ws below role (length scratch) v, first-same m n bs ws 3 (omega arith), layer-few, layer-more)
+
+  measure-checks-same : (p : Contribution) → few-valid writer ≡ true → measureChecksWith n vs scratch p ≡ measureChecksWith m ws scratch p
+  measure-checks-same p v =
+      let width = width-same m n more bs (blocks bs) (p .counts) (p .lengths) (p .marks) ws (blocks-placed bs) in
+      ap₂ (λ (cs ds : List Check). cs ++ ds) (state-checks-same writer v) (rw (bands-same m n bs ws, width))
 
   front-same : (p : Contribution) (k : Markers) (number : ℕ) → front vs p k number ≡ front ws p k number
   unfolding front
@@ -98,14 +91,21 @@ module _ (m n : ℕ) (more : m ≤ n) (ws scratch : List ℕ) (below : layer ws 
   unfolding measureWith
   measure-gives p k e = rw e
 
-  measure-valid : (p : Contribution) → measureRefusalWith m ws scratch p ≢ stateRefusal → few-valid writer ≡ true
+  measure-valid : (p : Contribution) (k : Markers) → measureWith m ws scratch p k .answer .refusal ≢ stateRefusal
+      → few-valid writer ≡ true
   unfolding measureRefusalWith
-  measure-valid p h = not-first-refused (few-valid writer) _ h
+  measure-valid p k h = not-first-refused (few-valid writer) _ (λ e. h (measure-gives p k e))
+
+  measure-refusal-same : (p : Contribution) → few-valid writer ≡ true
+      → measureRefusalWith n vs scratch p ≡ measureRefusalWith m ws scratch p
+  unfolding measureRefusalWith
+  measure-refusal-same p v = ap firstOf (measure-checks-same p v)
 
   abbrev measuredAs : MeasureResult → MeasureResult
   measuredAs o = record { answer = o .answer; scratch = replacedIfAccepted m n (o .answer .refusal) (o .scratch) }
 
-  measured : (p : Contribution) (k : Markers) → few-valid writer ≡ true → measureWith n vs scratch p k ≡ measuredAs (measureWith m ws scratch p k)
+  measured : (p : Contribution) (k : Markers) → few-valid writer ≡ true
+      → measureWith n vs scratch p k ≡ measuredAs (measureWith m ws scratch p k)
   unfolding measureWith
   measured p k v =
       let why : ℕ = measureRefusalWith m ws scratch p in
@@ -122,9 +122,9 @@ module _ (m n : ℕ) (more : m ≤ n) (ws scratch : List ℕ) (below : layer ws 
     unfolding writeWith
     write-gives e = rw e
 
-    write-valid : writeRefusalWith m ws scratch p body k number output ≢ stateRefusal → few-valid writer ≡ true
+    write-valid : writeWith m ws scratch p body k number output .answer .refusal ≢ stateRefusal → few-valid writer ≡ true
     unfolding writeRefusalWith
-    write-valid h = not-first-refused (few-valid writer) _ h
+    write-valid h = not-first-refused (few-valid writer) _ (λ e. h (write-gives e))
 
     packet-same : packet vs p body k number ≡ packet ws p body k number
     unfolding packet
@@ -134,16 +134,8 @@ module _ (m n : ℕ) (more : m ≤ n) (ws scratch : List ℕ) (below : layer ws 
         → writeRefusalWith n vs scratch p body k number output ≡ writeRefusalWith m ws scratch p body k number output
     unfolding writeRefusalWith
     write-refusal-same v =
-        rw (
-          v,
-          valid-replaced m n more ws below writer (length scratch) v,
-          bands-same m n bs ws,
-          first-same m n bs ws 3 (omega arith),
-          layer-few,
-          layer-more,
-          width-same m n more bs (blocks bs) (p .counts) (p .lengths) (p .marks) ws (blocks-placed bs),
-          packet-same,
-        )
+        let own : packetChecks vs p body k number output ≡ packetChecks ws p body k number output = rw packet-same in
+        ap₂ (λ (cs ds : List Check). firstOf (cs ++ ds)) (measure-checks-same p v) own
 
     abbrev writtenAs : WriteResult → WriteResult
     writtenAs o = record {
@@ -176,21 +168,17 @@ module _ (m n : ℕ) (more : m ≤ n) (ws scratch : List ℕ) (below : layer ws 
     unfolding readWith
     read-gives e = rw e
 
-    read-valid : readRefusalWith m ws scratch reports ≢ stateRefusal → few-valid reader ≡ true
+    read-valid : few .answer .refusal ≢ stateRefusal → few-valid reader ≡ true
     unfolding readRefusalWith
-    read-valid h = not-first-refused (few-valid reader) _ h
+    read-valid h = not-first-refused (few-valid reader) _ (λ e. h (read-gives e))
+
+    abbrev listChecks : List Band → List Check
+    listChecks given = check listRefusal (not (eqb (length reports) (reportWidth * length (blocks given)))) ∷ []
 
     read-refusal-same : few-valid reader ≡ true → readRefusalWith n vs scratch reports ≡ readRefusalWith m ws scratch reports
     unfolding readRefusalWith
     read-refusal-same v =
-        rw (
-          v,
-          valid-replaced m n more ws below reader (length scratch) v,
-          bands-same m n bs ws,
-          first-same m n bs ws 3 (omega arith),
-          layer-few,
-          layer-more,
-        )
+        ap₂ (λ (cs : List Check) (given : List Band). firstOf (cs ++ listChecks given)) (state-checks-same reader v) (bands-same m n bs ws)
 
     abbrev readAs : ReadResult form → ReadResult form
     readAs o = record {
@@ -249,23 +237,21 @@ module _ (m n : ℕ) (more : m ≤ n) where
   measures-alike : MeasuresAlike m n
   unfolding MeasuresAlike
   measures-alike ws scratch p k below h =
-      let valid = measure-valid m n more ws scratch below p (λ e. h (measure-gives m n more ws scratch below p k e)) in
+      let valid = measure-valid m n more ws scratch below p k h in
       ap (λ (z : List ℕ). measureWith n z scratch p k) (state-as m n more ws scratch below)
       ∙ measured m n more ws scratch below p k valid
 
   writes-alike : WritesAlike m n
   unfolding WritesAlike
   writes-alike ws scratch p body k number output below h =
-      let valid = write-valid m n more ws scratch below p body k number output
-      (λ e. h (write-gives m n more ws scratch below p body k number output e)) in
+      let valid = write-valid m n more ws scratch below p body k number output h in
       ap (λ (z : List ℕ). writeWith n z scratch p body k number output) (state-as m n more ws scratch below)
       ∙ written m n more ws scratch below p body k number output valid
 
   reads-alike : ReadsAlike m n
   unfolding ReadsAlike
   reads-alike form ws scratch k src reports records below h =
-      let valid = read-valid m n more ws scratch below form k src reports records
-      (λ e. h (read-gives m n more ws scratch below form k src reports records e)) in
+      let valid = read-valid m n more ws scratch below form k src reports records h in
       ap (λ (z : List ℕ). readWith n form z scratch k src reports records) (state-as m n more ws scratch below)
       ∙ read-as m n more ws scratch below form k src reports records valid
 

@@ -1,7 +1,7 @@
--- A header below layer m, written or read with n for m in the inclusion trees: the same bits, reports, records and refusals, and n for m in the
--- words after it.
+-- A header below layer m, written or read with n for m in the inclusion trees: the same bits, reports, records and refusals, and n for m
+-- in the words after it.
 use mathlib.Core.Path.{_≡_, refl, sym, ap, _∙_}
-use mathlib.Core.Bool.{Bool, true, true≢false, cond, _&&_}
+use mathlib.Core.Bool.{Bool, true≢false, cond, _&&_}
 use mathlib.Core.List.{List, [], _∷_, reverse}
 use Prim.Native.Nat.{ℕ, zero, suc, _+_, _-_, _*_, _≤_, _<_}
 use native.Mathlib.Omega.{arith}
@@ -14,17 +14,17 @@ use Rattle.t800.specs.Bits.{Decoded, getBit, endsInFF}
 use Rattle.t800.specs.TagTree.{setValue, PathRead, readPath}
 use Rattle.t800.specs.Segments.{Segment, segmentsOf, width}
 use Rattle.t800.specs.State.{Block, notYetPlanes, blocks, bands, layer, passesSoFar, lengthBits}
-use Rattle.t800.specs.WriteHeader.{Contribution, isNew, lengthBitsBefore, setNewBlocks, codeInclusion, codeZeroPlanes, codePasses, codeBlock}
-use Rattle.t800.specs.WriteHeader.{codeBlocks, codeHeader}
-use Rattle.t800.specs.ReadHeader.{HeaderRead, refused, movedTo, opensSegment, currentLimit, currentPasses, passesTaken, readSegment, readSegments}
-use Rattle.t800.specs.ReadHeader.{readZeroPlanesFrom, readZeroPlanes, readIncluded, readNewBlock, readOldBlock, readBlock, readBlocks}
-use Rattle.t800.specs.ReadHeader.{readHeader}
+use Rattle.t800.specs.WriteHeader.{Contribution, isNew, lengthBitsBefore, setNewBlocks, codeInclusion, codeZeroPlanes, codePasses}
+use Rattle.t800.specs.WriteHeader.{codeBlock, codeBlocks, codeHeader}
+use Rattle.t800.specs.ReadHeader.{HeaderRead, refused, movedTo, opensSegment, currentLimit, currentPasses, passesTaken, readSegment}
+use Rattle.t800.specs.ReadHeader.{readSegments, readZeroPlanesFrom, readZeroPlanes, readIncluded, readNewBlock, readOldBlock, readBlock}
+use Rattle.t800.specs.ReadHeader.{readBlocks, readHeader}
 use Rattle.t800.specs.FewerLayers.{replacedFrom}
 use Rattle.t800_laws.proofs.Laws.Paths.{All}
-use Rattle.t800_laws.proofs.Laws.Layout.{Tree, inclusion, zeroPlanes, NodeFrom, layoutOf, Placed, AllPlaced, path-nodes, from-root-nodes}
+use Rattle.t800_laws.proofs.Laws.Layout.{inclusion, zeroPlanes, NodeFrom, layoutOf, Placed, AllPlaced, path-nodes, from-root-nodes}
 use Rattle.t800_laws.proofs.Laws.Layout.{leafToRoot, rootToLeaf, blocks-placed, leaf-node}
-use Rattle.fewer_layers.proofs.Replaced.{choice-of, replacedWords, replacedWord, replaced-get, same-below, valueAt, Stays, stays-get}
-use Rattle.fewer_layers.proofs.Replaced.{stays-set, first-stays, second-stays, third-stays, planes-stay, block-stays, first-same, bands-same}
+use Rattle.fewer_layers.proofs.Replaced.{choice-of, same-below, replacedWords, valueAt, replaced-get, Stays, stays-get, stays-set}
+use Rattle.fewer_layers.proofs.Replaced.{first-stays, second-stays, third-stays, planes-stay, block-stays, first-same, bands-same}
 use Rattle.fewer_layers.proofs.Trees.{UpTo, AllUpTo, leaf-replaced, replacedCoded, path-coded, replacedRead, path-read}
 
 -- ---- a block that stands in the layout

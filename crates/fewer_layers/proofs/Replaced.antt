@@ -1,8 +1,8 @@
--- What n for m in the inclusion trees makes of a word, of a store and of a choice; and which words it leaves as they are: the first thirteen,
--- each node's second and third, the zero-plane trees' and the blocks'.
+-- What n for m in the inclusion trees makes of a word, of a store and of a choice; and which words it leaves as they are: the first
+-- thirteen, each node's second and third, the zero-plane trees' and the blocks'.
 use mathlib.Core.Path.{_≡_, refl, sym, ap, _∙_}
 use mathlib.Core.Logic.{_≢_, inl, inr}
-use mathlib.Core.Bool.{Bool, true, false, cond, _&&_, _||_, true≢false}
+use mathlib.Core.Bool.{Bool, true, false, cond, _&&_, true≢false}
 use mathlib.Core.List.{List, [], _∷_}
 use Prim.Native.Nat.{ℕ, zero, suc, _+_, _-_, _*_, _/_, _%_, _≤_, _<_, min}
 use native.Mathlib.Omega.{arith}
@@ -45,7 +45,7 @@ module _ (m n : ℕ) (q : Bool) (v : ℕ) where
       (λ t. on-eq v m (λ e. rw (t, eq-eqb v m e) (f t e)) (λ e. rw (t, ne-eqb v m e) p))
       (λ t. rw t p)
 
--- n and m are on the same side of every number below m, of every threshold up to m, and of the least of one and the word
+-- n lies above every number below m, as m does; and not below a threshold up to m, so that the less of the two is that threshold
 pub same-above : (m n : ℕ) → m ≤ n → (q : Bool) (v t : ℕ) → (q ≡ true → t < m) → ltb t (replacedWord m n q v) ≡ ltb t v
 same-above m n more q v t f =
     on-word m n q v (λ w. ltb t w ≡ ltb t v) refl

@@ -1,17 +1,16 @@
--- A fresh state of n layers is that of m layers with n for m in its inclusion trees, and so is a state after a start, for any m and n.
+-- A fresh state of n layers is that of m layers with n for m in its inclusion trees, and so is the state that a start fills.
 use mathlib.Core.Path.{_≡_, refl, sym, ap, ap₂, _∙_}
-use mathlib.Core.Logic.{_≢_}
-use mathlib.Core.Bool.{Bool, true, false, _&&_, _||_}
+use mathlib.Core.Bool.{false, or-false}
 use mathlib.Core.List.{List, [], _∷_, _++_}
 use Prim.Native.Nat.{ℕ, zero, suc, _+_, _-_, _*_, _%_, _≤_, _<_}
 use native.Mathlib.Omega.{arith}
 use lib.ListN.{length, take, length-append}
-use lib.Dec.{ltb, leb, eqb}
+use lib.Dec.{eqb}
 use borrow.Author.Tests.{eqb-true, eq-eqb, ne-eqb, lt-ltb, le-ltb, le-leb}
 use Rattle.t800.specs.declared.Band.{Band}
 use Rattle.t800.specs.State.{Block, notYetIncluded, notYetPlanes, bandNodes, blocksIn, bandLength, blocks, bands}
 use Rattle.t800.specs.TagTree.{setValue}
-use Rattle.t800.specs.Start.{freshNodes, freshBlocks, freshBandsWith, bandWords, freshState, freshStateWith, setZeroPlanes, StartResult}
+use Rattle.t800.specs.Start.{freshNodes, freshBlocks, freshBandsWith, bandWords, freshState, freshStateWith, setZeroPlanes}
 use Rattle.t800.specs.Start.{startRefusal, startWith}
 use Rattle.t800.specs.FewerLayers.{isInclusionValue, replacedFrom, replaced, StartsAlike}
 use Rattle.t800_laws.proofs.Laws.Checks.{on-bool}
@@ -33,15 +32,13 @@ before-no-value at bs i h =
     (λ f. f)
 
 module _ (at : ℕ) (b : Band) (bs : List Band) (i : ℕ) where
-  value-here : at ≤ i → i < at + 3 * bandNodes b → (i - at) % 3 ≡ 0 → isInclusionValue at (b ∷ bs) i ≡ true
+  -- in the first band's inclusion tree, and after it
+  value-here : at ≤ i → i < at + 3 * bandNodes b → isInclusionValue at (b ∷ bs) i ≡ eqb ((i - at) % 3) 0
   unfolding isInclusionValue
-  value-here h l z = rw (le-leb at i h, lt-ltb i (at + 3 * bandNodes b) l, eq-eqb ((i - at) % 3) 0 z)
-
-  no-value-here : at ≤ i → i < at + bandLength b → (i - at) % 3 ≢ 0 → isInclusionValue at (b ∷ bs) i ≡ false
-  unfolding isInclusionValue
-  no-value-here h l z = on-bool (ltb i (at + 3 * bandNodes b))
-      (λ t. rw (le-leb at i h, t, ne-eqb ((i - at) % 3) 0 z) (before-no-value (at + bandLength b) bs i l))
-      (λ f. rw (le-leb at i h, f) (before-no-value (at + bandLength b) bs i l))
+  value-here h l =
+      let e = band-length b in
+      rw (le-leb at i h, lt-ltb i (at + 3 * bandNodes b) l, before-no-value (at + bandLength b) bs i (omega arith))
+      (or-false (eqb ((i - at) % 3) 0))
 
   value-later : at + 3 * bandNodes b ≤ i → isInclusionValue at (b ∷ bs) i ≡ isInclusionValue (at + bandLength b) bs i
   unfolding isInclusionValue
@@ -68,23 +65,21 @@ module _ (m n : ℕ) (bs : List Band) where
       rw (f p (omega arith) (omega arith), stay-from (p + 1) xs (λ i h l. f i (omega arith) (omega arith)))
 
   -- the nodes of an inclusion tree
-  nodes-from : (p c : ℕ) → ((j : ℕ) → j < c → (valueAt bs (p + 3 * j) ≡ true) × Stays bs (p + 3 * j + 1) × Stays bs (p + 3 * j + 2))
+  nodes-from : (p c : ℕ) → ((i : ℕ) → p ≤ i → i < p + 3 * c → valueAt bs i ≡ eqb ((i - p) % 3) 0)
       → replacedFrom m n bs p (freshNodes m c) ≡ freshNodes n c
   unfolding replacedFrom freshNodes
   nodes-from p zero f = refl
   nodes-from p (suc c) f =
-      let e₀ : p + 3 * 0 ≡ p = omega arith in
-      let e₁ : p + 3 * 0 + 1 ≡ p + 1 = omega arith in
-      let e₂ : p + 3 * 0 + 2 ≡ p + 1 + 1 = omega arith in
-      let g = f 0 (omega arith) in
-      let v : valueAt bs p ≡ true = ap (valueAt bs) (sym e₀) ∙ g .0 in
-      let l : Stays bs (p + 1) = ap (valueAt bs) (sym e₁) ∙ g .1 in
-      let k : Stays bs (p + 1 + 1) = ap (valueAt bs) (sym e₂) ∙ g .2 in
-      rw (v, l, k, eq-eqb m m refl, nodes-from (p + 1 + 1 + 1) c (λ j h. let r = f (suc j) (omega arith) in
-      let d₀ : p + 1 + 1 + 1 + 3 * j ≡ p + 3 * suc j = omega arith in
-      let d₁ : p + 1 + 1 + 1 + 3 * j + 1 ≡ p + 3 * suc j + 1 = omega arith in
-      let d₂ : p + 1 + 1 + 1 + 3 * j + 2 ≡ p + 3 * suc j + 2 = omega arith in
-      (ap (valueAt bs) d₀ ∙ r .0, ap (valueAt bs) d₁ ∙ r .1, ap (valueAt bs) d₂ ∙ r .2)))
+      let next : (i : ℕ) → p + 1 + 1 + 1 ≤ i → i < p + 1 + 1 + 1 + 3 * c → valueAt bs i ≡ eqb ((i - (p + 1 + 1 + 1)) % 3) 0 =
+      λ i h l. let e : (i - p) % 3 ≡ (i - (p + 1 + 1 + 1)) % 3 = omega arith in
+      f i (omega arith) (omega arith) ∙ ap (λ (z : ℕ). eqb z 0) e in
+      rw (
+        f p (omega arith) (omega arith) ∙ eq-eqb ((p - p) % 3) 0 (omega arith),
+        f (p + 1) (omega arith) (omega arith) ∙ ne-eqb ((p + 1 - p) % 3) 0 (omega arith),
+        f (p + 1 + 1) (omega arith) (omega arith) ∙ ne-eqb ((p + 1 + 1 - p) % 3) 0 (omega arith),
+        eq-eqb m m refl,
+        nodes-from (p + 1 + 1 + 1) c next,
+      )
 
   -- the bands from `at` on
   bands-from : (at : ℕ) (rest : List Band) → ((i : ℕ) → at ≤ i → valueAt bs i ≡ isInclusionValue at rest i)
@@ -113,11 +108,7 @@ module _ (m n : ℕ) (bs : List Band) where
       ∙ ap₂ join
       (append-from at incl planes
       ∙ ap₂ join
-      (nodes-from at c (λ j h. (
-        same (at + 3 * j) (omega arith) ∙ value-here at b rest (at + 3 * j) (omega arith) (omega arith) (omega arith),
-        same (at + 3 * j + 1) (omega arith) ∙ no-value-here at b rest (at + 3 * j + 1) (omega arith) (omega arith) (omega arith),
-        same (at + 3 * j + 2) (omega arith) ∙ no-value-here at b rest (at + 3 * j + 2) (omega arith) (omega arith) (omega arith),
-      )))
+      (nodes-from at c (λ i h l. same i h ∙ value-here at b rest i h l))
       (stay-from (at + length incl) planes (λ i h l. past i (omega arith) (omega arith))))
       (stay-from (at + length (incl ++ planes)) own (λ i h l. past i (omega arith) (omega arith))))
       (ap (λ (z : ℕ). replacedFrom m n bs z later) e
@@ -145,7 +136,8 @@ module _ (r s : ℕ) (bs : List Band) where
   -- as with all layers, for which it is known
   fresh-bands : (m : ℕ) → length bs ≤ 3 → bands (freshStateWith m r s bs) ≡ bs
   fresh-bands m l =
-      ap bands (fresh-replaced notYetIncluded m) ∙ bands-same notYetIncluded m bs (freshState r s bs) ∙ fresh-first-words r s bs l .bands-are
+      ap bands (fresh-replaced notYetIncluded m) ∙ bands-same notYetIncluded m bs (freshState r s bs)
+      ∙ fresh-first-words r s bs l .bands-are
 
 -- ---- a start
 

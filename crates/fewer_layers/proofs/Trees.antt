@@ -1,7 +1,7 @@
 -- Setting, coding and reading a path of a tag tree with n for m in the inclusion trees: the same bits, and n for m in the words after them,
 -- where no threshold lies above m.
 use mathlib.Core.Path.{_≡_, refl, sym, ap, _∙_}
-use mathlib.Core.Bool.{Bool, true, cond}
+use mathlib.Core.Bool.{Bool, true}
 use mathlib.Core.List.{List, [], _∷_}
 use Prim.Native.Nat.{ℕ, zero, suc, _+_, _-_, _*_, _≤_, _<_, max}
 use native.Mathlib.Omega.{arith}
