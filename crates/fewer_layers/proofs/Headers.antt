@@ -23,8 +23,9 @@ use Rattle.t800.specs.FewerLayers.{replacedFrom}
 use Rattle.t800_laws.proofs.Laws.Paths.{All}
 use Rattle.t800_laws.proofs.Laws.Layout.{inclusion, zeroPlanes, NodeFrom, layoutOf, Placed, AllPlaced, path-nodes, from-root-nodes}
 use Rattle.t800_laws.proofs.Laws.Layout.{leafToRoot, rootToLeaf, blocks-placed, leaf-node}
-use Rattle.fewer_layers.proofs.Replaced.{choice-of, same-below, replacedWords, valueAt, replaced-get, Stays, stays-get, stays-set}
-use Rattle.fewer_layers.proofs.Replaced.{first-stays, second-stays, third-stays, planes-stay, block-stays, first-same, bands-same}
+use Rattle.fewer_layers.proofs.Replaced.{choice-of, same-choice, same-below, valueAt, Stays, replacedWords, replaced-get, stays-get}
+use Rattle.fewer_layers.proofs.Replaced.{stays-set, first-stays, second-stays, third-stays, planes-stay, block-stays, first-same}
+use Rattle.fewer_layers.proofs.Replaced.{bands-same}
 use Rattle.fewer_layers.proofs.Trees.{UpTo, AllUpTo, leaf-replaced, replacedCoded, path-coded, replacedRead, path-read}
 
 -- ---- a block that stands in the layout
@@ -143,7 +144,7 @@ module _ (m n : ℕ) (more : m ≤ n) (bs : List Band) where
             planes-replaced after,
             passes-replaced c segments (codeZeroPlanes k after .words),
           )
-          (choice-of (replacedCoded m n bs) (eqb c 0) (eqb c 0) _ _ _ _ refl refl refl)
+          (same-choice (replacedCoded m n bs) (eqb c 0) _ _)
 
     blocks-replaced : (ks : List Block) (cs ls ms ws : List ℕ) → AllPlaced (layoutOf bs) ks
         → codeBlocks now ks cs ls ms (R ws) ≡ replacedCoded m n bs (codeBlocks now ks cs ls ms ws)
@@ -220,8 +221,7 @@ module _ (m n : ℕ) (more : m ≤ n) (bs : List Band) where
             segment-replaced passes r,
             segments-replaced bound (left - passes) a,
           )
-          (choice-of H (eqb (a .refusal) 0 && ltb 0 (left - passes)) (eqb (a .refusal) 0 && ltb 0 (left - passes)) _ _ _ _
-          refl refl refl)
+          (same-choice H (eqb (a .refusal) 0 && ltb 0 (left - passes)) _ _)
 
     thresholds-replaced : (src : List ℕ) (bound t : ℕ) (ws : List ℕ) (b : Bio)
         → readZeroPlanesFrom src k bound t (R ws) b ≡ replacedRead m n bs (readZeroPlanesFrom src k bound t ws b)
@@ -235,7 +235,7 @@ module _ (m n : ℕ) (more : m ≤ n) (bs : List Band) where
           thresholds-replaced src bound (t + 1) (r .words) (r .bio),
           stays-get m n bs (r .words) leaf (planes-stay bs leaf (leaf-node (layoutOf bs) zeroPlanes k P)),
         )
-        (choice-of (replacedRead m n bs) (ltb (getD (r .words) leaf 0) t) (ltb (getD (r .words) leaf 0) t) _ _ _ _ refl refl refl)
+        (same-choice (replacedRead m n bs) (ltb (getD (r .words) leaf 0) t) _ _)
 
     planes-read : (src : List ℕ) (r : HeaderRead) → readZeroPlanes src k (H r) ≡ replacedRead m n bs (readZeroPlanes src k r)
     unfolding readZeroPlanes
@@ -296,7 +296,7 @@ module _ (m n : ℕ) (more : m ≤ n) (bs : List Band) where
   reads-replaced src room now soon i (k ∷ ks) r P =
       let a : HeaderRead = readBlock src room now i k r in
       rw (read-replaced k (P .0 .0) src room i now soon r, reads-replaced src room now soon (i + 1) ks a (P .1))
-      (choice-of H (eqb (a .refusal) 0) (eqb (a .refusal) 0) _ _ _ _ refl refl refl)
+      (same-choice H (eqb (a .refusal) 0) _ _)
 
 -- ---- a state's whole header, below layer m
 

@@ -29,6 +29,9 @@ pub choice-of {ℓ κ} : {A : Type ℓ} {B : Type κ} (f : A → B) (b c : Bool)
     → cond c x₁ y₁ ≡ f (cond b x y)
 choice-of f b c x y x₁ y₁ e p q = choice-by f b c x y x₁ y₁ e (λ t. p) (λ t. q)
 
+pub same-choice {ℓ κ} : {A : Type ℓ} {B : Type κ} (f : A → B) (b : Bool) (x y : A) → cond b (f x) (f y) ≡ f (cond b x y)
+same-choice f b x y = choice-of f b b x y (f x) (f y) refl refl refl
+
 -- ---- one word
 
 -- n for m where the test says so
