@@ -1,20 +1,23 @@
--- Both premises of the calls are needed, by computing on one block: at the crate's last layer its layers give 6, and all layers none; an
--- inclusion value above its "not yet" gives 5 with its layers, and none with all.
-use mathlib.Core.Path.{_≡_, refl}
+-- Both premises of the calls are needed, by computing on one block: after the crate's last layer its layers give 6, and all layers nothing;
+-- an inclusion value above its "not yet" gives 5 with its layers, and nothing with all. A first packet meets both premises.
+use mathlib.Core.Path.{_≡_, refl, ap}
+use mathlib.Core.Logic.{_≢_}
 use mathlib.Core.Bool.{false}
 use mathlib.Core.List.{List, [], _∷_}
-use Prim.Native.Nat.{ℕ, _+_}
+use Prim.Native.Nat.{ℕ, _+_, _<_}
+use native.Mathlib.Omega.{arith}
 use lib.ListN.{replicate, set}
 use Rattle.t800.specs.declared.Band.{Band}
 use Rattle.t800.specs.declared.Markers.{Markers}
 use Rattle.t800.specs.Refusals.{stateRefusal, layersRefusal}
 use Rattle.t800.specs.Reports.{asRecords}
-use Rattle.t800.specs.State.{notYetIncluded, writer, reader}
+use Rattle.t800.specs.State.{notYetIncluded, writer, reader, layer}
 use Rattle.t800.specs.Start.{startWith}
 use Rattle.t800.specs.WriteHeader.{contribution}
-use Rattle.t800.specs.Packet.{measureWith, writeWith, readWith}
-use Rattle.t800.specs.FewerLayers.{crateLayers, isInclusionValue, replacedFrom, replaced}
+use Rattle.t800.specs.Packet.{measureWith, WriteResult, writeWith, readWith}
+use Rattle.t800.specs.FewerLayers.{crateLayers, isInclusionValue, replacedFrom, replaced, WritesAlike}
 use Rattle.t800.proofs.Table.{rowHolds}
+use Rattle.fewer_layers.proofs.Alike.{as-with-crate-layers}
 
 -- one band of one block and 5 planes, style 0
 abbrev given : List Band
@@ -46,13 +49,13 @@ with-all-layers written read =
     refusals notYetIncluded (replaced crateLayers notYetIncluded written) (replaced crateLayers notYetIncluded read)
 
 -- the next layer set to the crate's layers
-at-last-layer :
+after-last-layer :
     let written = set writer-starts 3 crateLayers in
     let read = set reader-starts 3 crateLayers in
     (refusals crateLayers written read ≡ layersRefusal ∷ layersRefusal ∷ layersRefusal ∷ [])
     × (with-all-layers written read ≡ 0 ∷ 0 ∷ 0 ∷ [])
 unfolding replaced replacedFrom isInclusionValue rowHolds
-at-last-layer = (refl, refl)
+after-last-layer = (refl, refl)
 
 -- the inclusion value set above the crate's layers, at layer 0
 value-above :
@@ -62,3 +65,16 @@ value-above :
     × (with-all-layers written read ≡ 0 ∷ 0 ∷ 0 ∷ [])
 unfolding replaced replacedFrom isInclusionValue rowHolds
 value-above = (refl, refl)
+
+-- a first packet, of one pass of 5 bytes
+abbrev firstPacket : (layers : ℕ) (state : List ℕ) → WriteResult
+firstPacket layers state = writeWith layers state lent (contribution (1 ∷ []) (5 ∷ []) (0 ∷ [])) (replicate 5 7) plain 0 (replicate 6 0)
+
+premises-met : (layer writer-starts < crateLayers) × (firstPacket crateLayers writer-starts .answer .refusal ≢ stateRefusal)
+unfolding rowHolds
+premises-met = (omega arith, λ e. absurd (omega (arith, e)))
+
+applies : firstPacket notYetIncluded (replaced crateLayers notYetIncluded writer-starts) .output ≡ firstPacket crateLayers writer-starts .output
+unfolding WritesAlike
+applies = ap (λ (o : WriteResult). o .output)
+    (as-with-crate-layers .writes writer-starts lent _ _ plain 0 (replicate 6 0) (premises-met .0) (premises-met .1))
