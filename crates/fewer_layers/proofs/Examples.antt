@@ -74,7 +74,8 @@ premises-met : (layer writer-starts < crateLayers) × (firstPacket crateLayers w
 unfolding rowHolds
 premises-met = (omega arith, λ e. absurd (omega (arith, e)))
 
-applies : firstPacket notYetIncluded (replaced crateLayers notYetIncluded writer-starts) .output ≡ firstPacket crateLayers writer-starts .output
+applies : firstPacket notYetIncluded (replaced crateLayers notYetIncluded writer-starts) .output
+    ≡ firstPacket crateLayers writer-starts .output
 unfolding WritesAlike
 applies = ap (λ (o : WriteResult). o .output)
     (as-with-crate-layers .writes writer-starts lent _ _ plain 0 (replicate 6 0) (premises-met .0) (premises-met .1))
