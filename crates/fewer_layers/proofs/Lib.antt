@@ -1,0 +1,8 @@
+pub mod Replaced
+pub mod Trees
+pub mod Headers
+pub mod BandsStay
+pub mod Ranges
+pub mod Starts
+pub mod Alike
+pub mod Examples

@@ -1,0 +1,1 @@
+// Below a count of layers, the definitions with that count and with a larger one agree, with no code.
