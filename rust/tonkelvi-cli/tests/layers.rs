@@ -31,7 +31,7 @@ fn codestream(across: u32, down: u32, packets: &[Vec<u8>]) -> Vec<u8> {
 fn packets(layers: u32) -> Vec<Vec<u8>> {
     let mut writer = Writer::new(&[Band { across: 2, down: 1, planes: 9 }], 0, &[9, 7]).unwrap();
     let packet = |layer: u32| {
-        let counts = [u32::from(layer % 100 == 0), u32::from(layer + 1 == layers)];
+        let counts = [u32::from(layer % 100 == 5), u32::from(layer + 1 == layers)];
         let passes = counts[0] + counts[1];
         let contribution = Contribution { counts: &counts, lengths: &vec![3; passes as usize], marks: &vec![0; passes as usize] };
         writer.write(contribution, &vec![7; 3 * passes as usize], Markers::NONE, 0).unwrap()
