@@ -47,7 +47,7 @@ static int starts(void) {
     return 0;
 }
 
-/* A block first included in layer 65,534, with a bit for each layer before, by the role's own state; then there is no layer left. */
+/* A block first included in layer 65,534, with a bit for each layer before, written and read; then there is no layer left. */
 static int last_layer(void) {
     const uint32_t bands[9] = {1, 1, 5, 0, 0, 0, 0, 0, 0}, planes[1] = {5}, counts[1] = {1}, lengths[1] = {5};
     const uint8_t marks[1] = {0}, body[5] = {1, 2, 3, 4, 5};
