@@ -32,7 +32,8 @@ extern "C" {
  * State. A list of 32-bit words that the calls keep between them: role (1 writer, 2 reader), band count, style, next layer; across, down
  * and planes of each of three bands, 0 where unused; then band by band the nodes of the inclusion tree, the nodes of the zero-plane tree
  * (value, low, known each) and the blocks (passes so far, length bits, limit and passes of the current segment). It may be copied, stored
- * and taken up again. Blocks are numbered from 0, band by band, row by row.
+ * and taken up again. In the inclusion tree the value 65,535 says "not yet"; a state that a version before 0.3.0 has stored says so by 999,
+ * and is taken up with 65,535 in its place. Blocks are numbered from 0, band by band, row by row.
  *
  * Scratch. A list as long as the state, with any content. It holds after
  *     measure, 0                  the state after the packet
@@ -52,7 +53,7 @@ enum tonkelvi_refusal {
     TONKELVI_LIST = 3,        /* a list of the wrong length */
     TONKELVI_PLANES = 4,      /* a band above 998 bit-planes, or a block above its band */
     TONKELVI_STATE = 5,       /* wrong role, wrong length of state or scratch, or a word out of range */
-    TONKELVI_LAYERS = 6,      /* next layer is 999 */
+    TONKELVI_LAYERS = 6,      /* next layer is 65,535 */
     TONKELVI_PASSES = 7,      /* a pass count above 164 */
     TONKELVI_LENGTH = 8,      /* a written segment of 2^31 bytes or more */
     TONKELVI_WIDTH = 9,       /* a length field wider than 32 bits */
@@ -71,7 +72,7 @@ static inline const char *tonkelvi_text(uint32_t refusal) {
     case TONKELVI_LIST: return "A list has another length than the call asks.";
     case TONKELVI_PLANES: return "A band has more than 998 bit-planes, or a block has more than its band.";
     case TONKELVI_STATE: return "The state is of the other role, or its length or one of its words is out of range.";
-    case TONKELVI_LAYERS: return "All 999 layers have been coded.";
+    case TONKELVI_LAYERS: return "All 65,535 layers have been coded.";
     case TONKELVI_PASSES: return "A block has more than 164 passes in one layer.";
     case TONKELVI_LENGTH: return "A segment has 2^31 bytes or more.";
     case TONKELVI_WIDTH: return "A length field is wider than 32 bits.";

@@ -156,7 +156,7 @@ impl Trials {
         });
     }
 
-    /// The same in layers from 998 on.
+    /// The same in layers from 997 on.
     pub fn late_states(&mut self, calls: u64) {
         self.until(calls, |t| {
             let shape = inputs::shape(&mut t.random, 3);

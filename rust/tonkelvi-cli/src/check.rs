@@ -7,11 +7,12 @@ use crate::walk::{Note, Opened, Seen, Visitor};
 use std::collections::BTreeMap;
 use std::fmt::Write;
 use std::ops::Range;
-use tonkelvi::{Band, Block, Contribution, Mark, Markers, Packet, Refusal, Writer};
+use tonkelvi::{Band, Contribution, Mark, Markers, Refusal, Segment, Writer};
 
 pub const HEAD: &str = "file,tile,layer,resolution,component,precinct,offset,differs at,message,sentence\n";
 
-/// A packet that is kept until its tile's end, when the planes of all blocks are known.
+/// A packet that is kept until its tile's end, when the planes of all blocks are known. Its segments tell the passes of its blocks; a list
+/// of all blocks for each layer could be many times the file.
 struct Kept {
     precinct: Precinct,
     layer: u16,
@@ -19,7 +20,8 @@ struct Kept {
     markers: Markers,
     bytes: Range<usize>,
     packed: Option<Vec<u8>>,
-    packet: Packet,
+    present: bool,
+    segments: Vec<Segment>,
 }
 
 /// The check of one file: a row for each packet that is not written the same.
@@ -80,10 +82,11 @@ impl<'a> Check<'a> {
 
     /// Writes a precinct's packets again, layer by layer.
     fn precinct(&mut self, tile: u32, opened: &Opened, kept: &[Kept]) {
-        let mut writer = Writer::new(&opened.bands, opened.style, &planes(&opened.bands, opened.reader.state()));
+        let planes = planes(&opened.bands, opened.reader.state());
+        let mut writer = Writer::new(&opened.bands, opened.style, &planes);
         for one in kept {
             let answer = match &mut writer {
-                Ok(writer) => again(writer, one, self.file),
+                Ok(writer) => again(writer, planes.len(), one, self.file),
                 Err(refusal) => Err((Message::Refused(*refusal), None)),
             };
             match answer {
@@ -112,7 +115,8 @@ impl Visitor for Check<'_> {
             markers: used(seen),
             bytes: seen.bytes.clone(),
             packed: seen.packed.map(<[u8]>::to_vec),
-            packet: seen.packet.clone(),
+            present: seen.packet.present,
+            segments: seen.packet.segments.clone(),
         });
     }
 
@@ -137,17 +141,18 @@ fn used(seen: &Seen) -> Markers {
     }
 }
 
-/// Writes a packet again; the error says what is different and from which place of the file on.
-fn again(writer: &mut Writer, kept: &Kept, file: &[u8]) -> Result<(), (Message, Option<usize>)> {
+/// Writes a packet of so many blocks again; the error says what is different and from which place of the file on.
+fn again(writer: &mut Writer, blocks: usize, kept: &Kept, file: &[u8]) -> Result<(), (Message, Option<usize>)> {
     let bytes = &file[kept.bytes.clone()];
-    let (before, body) = bytes.split_at(bytes.len() - kept.packet.body() as usize);
+    let body: usize = kept.segments.iter().map(|segment| segment.bytes as usize).sum();
+    let (before, body) = bytes.split_at(bytes.len() - body);
     let header = kept.packed.as_deref().unwrap_or(before);
-    if !kept.packet.present {
+    if !kept.present {
         *writer = passed_over(writer).map_err(refused)?;
         let first = if kept.markers.sop { header.get(6) } else { header.first() };
         return Err(if first == Some(&0) { (Message::SingleBit, None) } else { (Message::Differs, Some(kept.bytes.start)) });
     }
-    let (counts, lengths, marks) = contribution(&kept.packet);
+    let (counts, lengths, marks) = contribution(blocks, &kept.segments);
     let layer = Contribution { counts: &counts, lengths: &lengths, marks: &marks };
     let mut written = writer.write(layer, body, kept.markers, kept.count).map_err(refused)?;
     written.truncate(written.len() - body.len());
@@ -170,21 +175,18 @@ fn passed_over(writer: &Writer) -> Result<Writer, Refusal> {
 }
 
 /// Passes of each block, then bytes and mark of each pass: a segment's bytes are all given to its last pass.
-fn contribution(packet: &Packet) -> (Vec<u32>, Vec<u32>, Vec<u8>) {
-    let passes = |block: &Block| match *block {
-        Block::Absent => 0,
-        Block::First { passes, .. } | Block::Again { passes } => passes,
-    };
-    let (mut lengths, mut marks) = (Vec::new(), Vec::new());
-    for (number, segment) in packet.segments.iter().enumerate() {
+fn contribution(blocks: usize, segments: &[Segment]) -> (Vec<u32>, Vec<u32>, Vec<u8>) {
+    let (mut counts, mut lengths, mut marks) = (vec![0; blocks], Vec::new(), Vec::new());
+    for (number, segment) in segments.iter().enumerate() {
         let before = segment.passes.saturating_sub(1) as usize;
         lengths.resize(lengths.len() + before, 0);
         marks.resize(marks.len() + before, 0);
-        let goes_on = packet.segments.get(number + 1).is_some_and(|next| next.block == segment.block);
+        let goes_on = segments.get(number + 1).is_some_and(|next| next.block == segment.block);
+        counts[segment.block] += segment.passes;
         lengths.push(segment.bytes);
         marks.push(u8::from(goes_on));
     }
-    (packet.blocks.iter().map(passes).collect(), lengths, marks)
+    (counts, lengths, marks)
 }
 
 /// The value of a tree's node that no packet has told.
@@ -249,7 +251,6 @@ fn json_row(name: &str, fields: &[String; 8], sentence: &str) -> String {
 #[cfg(test)]
 mod tests {
     use super::*;
-    use tonkelvi::Segment;
 
     #[test]
     fn untold_blocks_take_the_node_above() {
@@ -263,14 +264,7 @@ mod tests {
     #[test]
     fn passes_of_segments() {
         let segment = |block, passes, bytes, start| Segment { block, opens: true, passes, bytes, start };
-        let packet = Packet {
-            present: true,
-            taken: 1,
-            sop: Mark::InOrder,
-            eph: Mark::InOrder,
-            blocks: vec![Block::Again { passes: 3 }, Block::Absent, Block::Again { passes: 2 }],
-            segments: vec![segment(0, 2, 7, 0), segment(0, 1, 5, 7), segment(2, 2, 9, 12)],
-        };
-        assert_eq!(contribution(&packet), (vec![3, 0, 2], vec![0, 7, 5, 0, 9], vec![0, 1, 0, 0, 0]));
+        let segments = [segment(0, 2, 7, 0), segment(0, 1, 5, 7), segment(2, 2, 9, 12)];
+        assert_eq!(contribution(3, &segments), (vec![3, 0, 2], vec![0, 7, 5, 0, 9], vec![0, 1, 0, 0, 0]));
     }
 }

@@ -57,7 +57,7 @@ impl Refusal {
             Refusal::List => "A list has another length than the call asks.",
             Refusal::Planes => "A band has more than 998 bit-planes, or a block has more than its band.",
             Refusal::State => "The state is of the other role, or its length or one of its words is out of range.",
-            Refusal::Layers => "All 999 layers have been coded.",
+            Refusal::Layers => "All 65,535 layers have been coded.",
             Refusal::Passes => "A block has more than 164 passes in one layer.",
             Refusal::Length => "A segment has 2^31 bytes or more.",
             Refusal::Width => "A length field is wider than 32 bits.",

@@ -1,5 +1,5 @@
-/* Packets A, with both markers, and K by the calls of include/tonkelvi.h alone, as C and as C++; ends with 0 where every answer is right.
- * With an argument it writes the version and the sentences of all refusals, a line each, instead. */
+/* Packets A, with both markers, and K, and a packet of the last layer, by the calls of include/tonkelvi.h alone, as C and as C++; ends with
+ * 0 where every answer is right. With an argument it writes the version and the sentences of all refusals, a line each, instead. */
 #include "tonkelvi.h"
 
 #include <assert.h>
@@ -44,6 +44,34 @@ static int starts(void) {
            == TONKELVI_RECORDS);
     EXPECT(memcmp(&records[0], &wanted[0], sizeof wiped) == 0 && memcmp(&records[1], &wiped, sizeof wiped) == 0);
     EXPECT(memcmp(&records[2], &wanted[2], sizeof wiped) == 0);
+    return 0;
+}
+
+/* A block first included in layer 65,534, with a bit for each layer before, written and read; then there is no layer left. */
+static int last_layer(void) {
+    const uint32_t bands[9] = {1, 1, 5, 0, 0, 0, 0, 0, 0}, planes[1] = {5}, counts[1] = {1}, lengths[1] = {5};
+    const uint8_t marks[1] = {0}, body[5] = {1, 2, 3, 4, 5};
+    struct tonkelvi_segment record;
+    static uint8_t output[8198];
+    uint32_t state[23], scratch[23], reports[4], work[4];
+    uint64_t answer[5];
+
+    EXPECT(tonkelvi_start_writer(1, bands, 9, 0, planes, 1, state, 23) == 0 && state[13] == 65535 && state[16] == 0);
+    state[3] = 65534;
+    EXPECT(tonkelvi_measure(state, 23, scratch, 23, counts, 1, lengths, 1, marks, 1, false, false, answer, 2) == 0 && answer[0] == 8193);
+    EXPECT(tonkelvi_write(state, 23, scratch, 23, counts, 1, lengths, 1, marks, 1, body, 5, false, false, 0, output, 8198, answer, 1) == 0);
+    EXPECT(answer[0] == 8198 && output[0] == 0x80 && output[8191] == 0x01 && output[8192] == 0x94 && output[8193] == 1);
+    EXPECT(tonkelvi_measure(state, 23, scratch, 23, counts, 1, lengths, 1, marks, 1, false, false, answer, 2) == TONKELVI_LAYERS);
+    EXPECT(state[3] == 65535 && answer[0] == 0);
+
+    EXPECT(tonkelvi_start_reader(1, bands, 9, 0, NULL, 0, state, 23) == 0 && state[13] == 65535 && state[16] == 999);
+    state[3] = 65534;
+    EXPECT(tonkelvi_read(state, 23, scratch, 23, output, 8198, false, false, reports, 4, work, 4, &record, 1, answer, 5) == 0);
+    EXPECT(answer[1] == 8193 && answer[2] == 1 && reports[0] == 1 && record.bytes == 5);
+    EXPECT(tonkelvi_read(state, 23, scratch, 23, output, 8198, false, false, reports, 4, work, 4, &record, 1, answer, 5)
+           == TONKELVI_LAYERS);
+    state[3] = 65536;
+    EXPECT(tonkelvi_describe(state, 23, answer, 3) == TONKELVI_STATE);
     return 0;
 }
 
@@ -97,5 +125,6 @@ int main(int argc, char **argv) {
     EXPECT(tonkelvi_describe(state, n, answer, 3) == 0 && answer[0] == 2 && answer[1] == 2 && answer[2] == 1);
     free(state);
     free(scratch);
-    return starts();
+    int failed = starts();
+    return failed ? failed : last_layer();
 }

@@ -171,7 +171,7 @@ fn refusals_5_6_and_3_change_nothing() {
     let spoils: [(u32, Spoil); 6] = [
         (5, |lent| lent.state[0] = 1),
         (5, |lent| lent.scratch.truncate(38)),
-        (6, |lent| lent.state[3] = 999),
+        (6, |lent| lent.state[3] = 65_535),
         (3, |lent| lent.reports.push(9)),
         (3, |lent| lent.work.truncate(15)),
         (3, |lent| lent.answer.push(9)),
