@@ -32,8 +32,8 @@ extern "C" {
  * State. A list of 32-bit words that the calls keep between them: role (1 writer, 2 reader), band count, style, next layer; across, down
  * and planes of each of three bands, 0 where unused; then band by band the nodes of the inclusion tree, the nodes of the zero-plane tree
  * (value, low, known each) and the blocks (passes so far, length bits, limit and passes of the current segment). It may be copied, stored
- * and taken up again. In the inclusion tree the value 65,535 says "not yet"; a state that a version before 0.3.0 has stored says so by 999,
- * and is taken up with 65,535 in its place. Blocks are numbered from 0, band by band, row by row.
+ * and taken up again. In the inclusion tree the value 65,535 says "not yet", and any other value a layer; in a state that a version before
+ * 0.3.0 has stored 999 says "not yet" there: put 65,535 in its place. Blocks are numbered from 0, band by band, row by row.
  *
  * Scratch. A list as long as the state, with any content. It holds after
  *     measure, 0                  the state after the packet
