@@ -13,7 +13,7 @@ use Rattle.t800.specs.Base.{overwrite}
 use Rattle.t800.specs.Reports.{bodyBytes, asRecords}
 use Rattle.t800.specs.State.{reader}
 use Rattle.t800.specs.ReadHeader.{HeaderRead}
-use Rattle.t800.specs.Packet.{readRefusal, firstBit, headerOf, ReadResult, readAbsent, readPresent, read, readWith}
+use Rattle.t800.specs.Packet.{readRefusal, firstBit, headerOf, ReadResult, readAbsent, readPresent, readWith}
 use Rattle.t800.specs.Starts.{StartsFit, recordsTold, StartsOfReads, StartsOfBook}
 use Rattle.t800_laws.proofs.Laws.Tests.{either, either-by}
 use Rattle.t800_laws.proofs.Laws.StateAfter.{read-in-range}

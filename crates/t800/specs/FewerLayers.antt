@@ -14,7 +14,7 @@ use Rattle.t800.specs.Reports.{RecordForm}
 use Rattle.t800.specs.State.{bandNodes, bandLength, bands, layer}
 use Rattle.t800.specs.Start.{StartResult, startWith}
 use Rattle.t800.specs.WriteHeader.{Contribution}
-use Rattle.t800.specs.Packet.{MeasureResult, measureWith, WriteResult, writeWith, ReadResult, readResult, readWith}
+use Rattle.t800.specs.Packet.{MeasureResult, measureWith, WriteResult, writeWith, readResult, readWith}
 
 -- the crate's, by its "not yet" in both trees
 abbrev pub crateLayers : ℕ
