@@ -23,9 +23,10 @@ use Rattle.t800.specs.Packet.{packetChecks, writeRefusalWith, WriteResult, writ
 use Rattle.t800.specs.Packet.{readAbsent, readPresent, readWith}
 use Rattle.t800.specs.FewerLayers.{crateLayers, replaced, replacedIfAccepted, MeasuresAlike, WritesAlike, ReadsAlike, AgreeBelow}
 use Rattle.t800_laws.proofs.Laws.Layout.{layoutOf, AllPlaced, blocks-placed}
+use Rattle.t800_laws.proofs.Laws.Kept.{Kept, kept, bands-kept-then-layer}
+use Rattle.t800_laws.proofs.Laws.HeaderKept.{header-coded, header-read}
 use Rattle.fewer_layers.proofs.Replaced.{choice-by, replacedWords, first-same, bands-same, replaced-as, stays-set, first-stays}
 use Rattle.fewer_layers.proofs.Headers.{bits-before-same, replacedHeader, header-replaced, header-read-replaced}
-use Rattle.fewer_layers.proofs.BandsStay.{stored-layer, header-coded, header-read}
 use Rattle.fewer_layers.proofs.Ranges.{valid-replaced}
 use Rattle.fewer_layers.proofs.Starts.{starts-alike}
 
@@ -75,11 +76,15 @@ module _ (m n : ℕ) (more : m ≤ n) (ws scratch : List ℕ) (below : layer ws 
   unfolding front
   front-same p k number = rw (header-replaced m n more ws below p)
 
+  bands-after : (p : Contribution) → bands (codeHeader p ws .words) ≡ bs
+  unfolding codeHeader
+  bands-after p = bands-kept-then-layer (layer ws + 1) (header-coded p ws)
+
   -- the words after a header that is written
   after-replaced : (p : Contribution) → codeHeader p vs .words ≡ replaced m n (codeHeader p ws .words)
   after-replaced p =
       rw (header-replaced m n more ws below p)
-      (sym (replaced-as m n bs (codeHeader p ws .words) (header-coded p ws)))
+      (sym (replaced-as m n bs (codeHeader p ws .words) (bands-after p)))
 
   state-as : replaced m n ws ≡ vs
   state-as = replaced-as m n bs ws refl
@@ -195,19 +200,19 @@ module _ (m n : ℕ) (more : m ≤ n) (ws scratch : List ℕ) (below : layer ws 
     header-same : headerOf vs k src (form .room records) ≡ replacedHeader m n bs header
     header-same = header-read-replaced m n more ws below src (form .room records) (firstBit k src .bio)
 
-    -- the next layer is set, in words with the bands of the state
-    layer-set : (us : List ℕ) → bands us ≡ bs
+    -- the next layer is set, in words with the first words of the state
+    layer-set : (us : List ℕ) → Kept 13 ws us
         → set (replacedWords m n bs us) 3 (layer vs + 1) ≡ replaced m n (set us 3 (layer ws + 1))
-    layer-set us e =
+    layer-set us k₁ =
         let t : ℕ = layer ws + 1 in
         ap (λ (z : ℕ). set (replacedWords m n bs us) 3 (z + 1)) (first-same m n bs ws 3 (omega arith))
         ∙ stays-set m n bs us 3 t (first-stays bs 3 (omega arith))
-        ∙ sym (replaced-as m n bs (set us 3 t) (stored-layer us t ∙ e))
+        ∙ sym (replaced-as m n bs (set us 3 t) (bands-kept-then-layer t k₁))
 
     absent-as : (sop : MarkerRead) (b : Bio)
         → readAbsent form vs k src reports records sop b ≡ readAs (readAbsent form ws k src reports records sop b)
     unfolding readAbsent
-    absent-as sop b = rw (layer-set ws refl)
+    absent-as sop b = rw (layer-set ws (kept 13))
 
     present-as : (sop : MarkerRead) → header .refusal ≡ 0
         → readPresent form vs k src records sop (replacedHeader m n bs header) ≡ readAs (readPresent form ws k src records sop header)

@@ -20,7 +20,7 @@ use Rattle.t800.specs.ReadHeader.{HeaderRead, refused, movedTo, opensSegment, c
 use Rattle.t800.specs.ReadHeader.{readSegments, readZeroPlanesFrom, readZeroPlanes, readIncluded, readNewBlock, readOldBlock, readBlock}
 use Rattle.t800.specs.ReadHeader.{readBlocks, readHeader}
 use Rattle.t800.specs.FewerLayers.{replacedFrom}
-use Rattle.t800_laws.proofs.Laws.Paths.{All}
+use Rattle.t800_laws.proofs.Laws.Paths.{all-so}
 use Rattle.t800_laws.proofs.Laws.Layout.{inclusion, zeroPlanes, NodeFrom, layoutOf, Placed, AllPlaced, path-nodes, from-root-nodes}
 use Rattle.t800_laws.proofs.Laws.Layout.{leafToRoot, rootToLeaf, blocks-placed, leaf-node}
 use Rattle.fewer_layers.proofs.Replaced.{choice-of, same-choice, same-below, valueAt, Stays, replacedWords, replaced-get, stays-get}
@@ -29,10 +29,6 @@ use Rattle.fewer_layers.proofs.Replaced.{bands-same}
 use Rattle.fewer_layers.proofs.Trees.{UpTo, AllUpTo, leaf-replaced, replacedCoded, path-coded, replacedRead, path-read}
 
 -- ---- a block that stands in the layout
-
-pub all-of : (P Q : ℕ → Type 0) (xs : List ℕ) → ((a : ℕ) → P a → Q a) → All P xs → All Q xs
-all-of P Q [] f h = tt
-all-of P Q (a ∷ xs) f h = (f a (h .0), all-of P Q xs f (h .1))
 
 planes-up-to : (m : ℕ) (bs : List Band) (t a : ℕ) → NodeFrom zeroPlanes 13 bs a → UpTo m bs t a
 planes-up-to m bs t a v =
@@ -48,18 +44,18 @@ inclusion-up-to m bs t a h v =
 
 module _ (m : ℕ) (bs : List Band) (k : Block) (P : Placed (layoutOf bs) k) where
   pub planes-path : (t : ℕ) → AllUpTo m bs t (k .zeroTree) (k .path)
-  planes-path t = all-of _ (UpTo m bs t) (leafToRoot zeroPlanes k) (planes-up-to m bs t) (path-nodes (layoutOf bs) zeroPlanes k P)
+  planes-path t = all-so _ (UpTo m bs t) (leafToRoot zeroPlanes k) (planes-up-to m bs t) (path-nodes (layoutOf bs) zeroPlanes k P)
 
   planes-from-root : (t : ℕ) → AllUpTo m bs t (k .zeroTree) (reverse (k .path))
-  planes-from-root t = all-of _ (UpTo m bs t) (rootToLeaf zeroPlanes k) (planes-up-to m bs t) (from-root-nodes (layoutOf bs) zeroPlanes k P)
+  planes-from-root t = all-so _ (UpTo m bs t) (rootToLeaf zeroPlanes k) (planes-up-to m bs t) (from-root-nodes (layoutOf bs) zeroPlanes k P)
 
   inclusion-path : (t : ℕ) → t < m → AllUpTo m bs (t + 1) (k .inclTree) (k .path)
   inclusion-path t h =
-      all-of _ (UpTo m bs (t + 1)) (leafToRoot inclusion k) (λ a. inclusion-up-to m bs t a h) (path-nodes (layoutOf bs) inclusion k P)
+      all-so _ (UpTo m bs (t + 1)) (leafToRoot inclusion k) (λ a. inclusion-up-to m bs t a h) (path-nodes (layoutOf bs) inclusion k P)
 
   inclusion-from-root : (t : ℕ) → t < m → AllUpTo m bs (t + 1) (k .inclTree) (reverse (k .path))
   inclusion-from-root t h =
-      all-of _ (UpTo m bs (t + 1)) (rootToLeaf inclusion k) (λ a. inclusion-up-to m bs t a h) (from-root-nodes (layoutOf bs) inclusion k P)
+      all-so _ (UpTo m bs (t + 1)) (rootToLeaf inclusion k) (λ a. inclusion-up-to m bs t a h) (from-root-nodes (layoutOf bs) inclusion k P)
 
 -- its four words
 module _ (bs : List Band) (k : Block) (P : Placed (layoutOf bs) k) where

@@ -1,7 +1,6 @@
 pub mod Replaced
 pub mod Trees
 pub mod Headers
-pub mod BandsStay
 pub mod Ranges
 pub mod Starts
 pub mod Alike

@@ -3,7 +3,7 @@ use mathlib.Core.Path.{_≡_, refl, sym, _∙_}
 use mathlib.Core.Logic.{inl, inr}
 use mathlib.Core.Bool.{Bool, true, not, _&&_}
 use mathlib.Core.List.{List, [], _∷_}
-use Prim.Native.Nat.{ℕ, zero, suc, _+_, _*_, _≤_, _<_}
+use Prim.Native.Nat.{ℕ, _+_, _*_, _≤_, _<_}
 use native.Mathlib.Nat.{le-refl}
 use native.Mathlib.Omega.{arith}
 use lib.ListN.{length, getD}
@@ -17,17 +17,9 @@ use Rattle.t800.specs.Ranges.{bandsInRangeWith, validStateWith}
 use Rattle.t800_laws.proofs.Laws.Tests.{and-left, and-right}
 use Rattle.t800_laws.proofs.Laws.Layout.{Tree, inclusion, zeroPlanes, NodeFrom, BlockFrom}
 use Rattle.t800_laws.proofs.Laws.FirstWords.{same-bands}
+use Rattle.t800_laws.proofs.Laws.StateAfter.{every-stays}
 use Rattle.fewer_layers.proofs.Replaced.{replacedWords, replacedWord, on-word, replaced-get, replaced-length, valueAt, stays-get}
 use Rattle.fewer_layers.proofs.Replaced.{first-same, second-stays, third-stays, planes-stay, block-stays}
-
-every-stays : (c : ℕ) (f g : ℕ → Bool) → ((i : ℕ) → i < c → f i ≡ true → g i ≡ true) → every c f ≡ true → every c g ≡ true
-unfolding every
-every-stays zero f g h e = refl
-every-stays (suc c) f g h e =
-    rw (
-      h c (omega arith) (and-left (f c) (every c f) e),
-      every-stays c f g (λ i l. h i (omega arith)) (and-right (f c) (every c f) e),
-    )
 
 module _ (m n : ℕ) (more : m ≤ n) (ws : List ℕ) (below : layer ws < m) where
   abbrev bs : List Band

@@ -14,14 +14,14 @@ use Rattle.t800.specs.Start.{freshNodes, freshBlocks, freshBandsWith, bandWords
 use Rattle.t800.specs.Start.{startRefusal, startWith}
 use Rattle.t800.specs.FewerLayers.{isInclusionValue, replacedFrom, replaced, StartsAlike}
 use Rattle.t800_laws.proofs.Laws.Checks.{on-bool}
-use Rattle.t800_laws.proofs.Laws.Layout.{inclusion, layoutOf, AllPlaced, blocks-placed, node-between, band-length}
+use Rattle.t800_laws.proofs.Laws.Layout.{inclusion, zeroPlanes, layoutOf, AllPlaced, blocks-placed, AllFrom, node-between, band-length}
+use Rattle.t800_laws.proofs.Laws.Kept.{Kept, kept, kept-then, leaf-set, blocks-from, bands-kept}
 use Rattle.t800_laws.proofs.Laws.FreshState.{length-nodes, length-blocks, fresh-first-words}
 use Rattle.t800_laws.proofs.Laws.Accepted.{start-accepted, few-bands}
 use Rattle.fewer_layers.proofs.Replaced.{replacedWords, replacedWord, valueAt, Stays, value-is-node, first-stays}
 use Rattle.fewer_layers.proofs.Replaced.{bands-same, replaced-as}
 use Rattle.fewer_layers.proofs.Trees.{leaf-replaced}
 use Rattle.fewer_layers.proofs.Headers.{planes-path}
-use Rattle.fewer_layers.proofs.BandsStay.{zero-planes-set}
 
 -- ---- where the inclusion trees' values stand, in bands from `at` on
 
@@ -141,6 +141,14 @@ module _ (r s : ℕ) (bs : List Band) where
 
 -- ---- a start
 
+-- no leaf of a zero-plane tree stands among the first words
+planes-kept : (ks : List Block) (ps ws : List ℕ) → AllFrom 13 ks → Kept 13 ws (setZeroPlanes ks ps ws)
+unfolding setZeroPlanes
+planes-kept [] ps ws f = kept 13
+planes-kept (k ∷ ks) [] ws f = kept 13
+planes-kept (k ∷ ks) (p ∷ ps) ws f =
+    kept-then 13 (leaf-set 13 (k .zeroTree) (k .path) (k .planes - p) ws (f .0 .path zeroPlanes)) (planes-kept ks ps _ (f .1))
+
 module _ (m n : ℕ) (more : m ≤ n) where
   planes-set : (bs : List Band) (ks : List Block) (ps ws : List ℕ) → AllPlaced (layoutOf bs) ks
       → setZeroPlanes ks ps (replacedWords m n bs ws) ≡ replacedWords m n bs (setZeroPlanes ks ps ws)
@@ -159,7 +167,7 @@ module _ (m n : ℕ) (more : m ≤ n) where
       let fresh : List ℕ = freshStateWith m r s bs in
       ap (setZeroPlanes ks ps) (fresh-replaced r s bs m n) ∙ planes-set bs ks ps fresh (blocks-placed bs)
       ∙ sym (replaced-as m n bs (setZeroPlanes ks ps fresh)
-      (zero-planes-set bs ks ps fresh (blocks-placed bs) ∙ fresh-bands r s bs m l))
+      (bands-kept (planes-kept ks ps fresh (blocks-from bs)) ∙ fresh-bands r s bs m l))
 
   pub starts-alike : StartsAlike m n
   unfolding StartsAlike startWith

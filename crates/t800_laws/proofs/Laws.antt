@@ -13,10 +13,11 @@ pub mod SetLeaf
 pub mod Accepted
 pub mod LeastZeroPlanes
 pub mod ReadValues
+pub mod Kept
 pub mod HeaderSteps
 pub mod Starts
 pub mod Book
-pub mod WordCounts
+pub mod HeaderKept
 pub mod StateAfter
 pub mod ManyZeroPlanes
 pub mod Sums

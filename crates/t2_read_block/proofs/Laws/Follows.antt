@@ -23,7 +23,8 @@ use Rattle.t800.specs.ReadHeader.{HeaderRead, refused, movedTo, withReport, ope
 use Rattle.t800.specs.ReadHeader.{readSegment, readSegments, readZeroPlanesFrom, readZeroPlanes, firstReport, againReport}
 use Rattle.t800.specs.ReadHeader.{readIncluded, readNewBlock, readOldBlock, readBlock, readBlocks}
 use Rattle.t800_laws.proofs.Laws.Tests.{if-eq, if-ne, if-lt, if-ge, on-eq, on-lt}
-use Rattle.t800_laws.proofs.Laws.HeaderSteps.{path-read, thresholds-raised}
+use Rattle.t800_laws.proofs.Laws.Kept.{from-0, path-from-0, path-read}
+use Rattle.t800_laws.proofs.Laws.HeaderSteps.{thresholds-raised}
 use Rattle.round_trip.proofs.Trip.Segments.{readSoFar}
 use Rattle.t800_laws.proofs.Laws.Lists.{record-words-length}
 use Rattle.lists.proofs.Laws.Filled.{record-put, report-put}
@@ -334,7 +335,7 @@ module _ (src reports records : List ℕ) (size : ℕ) where
           ∙ (λ j. included ws b reps recs (eq-eqb (getD ws (k .at) 0) 0 new j) (new j)) in
           subst (EndsAt (i + 1) (nextFirst src i k before)) (sym e)
           (passes-end i ws b reps recs (reportOf 1 v ((k .planes + 2 ^ 32 - v) % 2 ^ 32) (readPasses src (z .bio) .value)) q lent k
-          z 0 3 p (thresholds-raised src k (notYetPlanes + 2) 0 ws b ∙ w) (apart .inside))
+          z 0 3 p (thresholds-raised 0 src k (notYetPlanes + 2) 0 ws b (from-0 k) .long ∙ w) (apart .inside))
 
       again-ends : getD ws (k .at) 0 ≢ 0 → EndsAt (i + 1) (nextAgain src i k before) (readIncluded src room i k (readSoFar ws b reps recs))
       unfolding nextAgain passesRead
@@ -362,7 +363,8 @@ module _ (src reports records : List ℕ) (size : ℕ) where
     unfolding nextNew readNewBlock
     new-ends t ws b reps recs new p q w =
         let r : PathRead = readPath src (k .inclTree) (t + 1) (reverse (k .path)) 0 ws b in
-        let l : length (r .words) ≡ size = path-read src (k .inclTree) (t + 1) (reverse (k .path)) 0 ws b ∙ w in
+        let up : List ℕ = reverse (k .path) in
+        let l : length (r .words) ≡ size = path-read 0 src (k .inclTree) (t + 1) up 0 ws b (path-from-0 (k .inclTree) up) .long ∙ w in
         let still : getD (r .words) (k .at) 0
         ≡ 0 = same-word (k .at) (k .at) (r .words) ws
         (path-keeps src (k .at) (k .inclTree) (t + 1) (reverse (k .path)) 0 ws b (apart .incl)) (omega arith) ∙ new in

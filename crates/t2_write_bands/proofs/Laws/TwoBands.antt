@@ -3,7 +3,7 @@
 use mathlib.Core.Path.{_≡_, refl, sym, ap, _∙_, subst}
 use mathlib.Core.Bool.{Bool, true, false, cond, _&&_}
 use mathlib.Core.List.{List, [], _∷_, _++_, reverse}
-use Prim.Native.Nat.{ℕ, zero, _+_, _-_, _*_, _≤_, _<_, max}
+use Prim.Native.Nat.{ℕ, _+_, _-_, _*_, _≤_, _<_, max}
 use native.Mathlib.Nat.{zero-add, suc-add}
 use native.Mathlib.Omega.{arith}
 use lib.Dec.{eqb, ltb}
@@ -14,7 +14,8 @@ use Rattle.t800.specs.PassCount.{passBits}
 use Rattle.t800.specs.State.{Block, notYetPlanes}
 use Rattle.t800.specs.TagTree.{Coded, codePath, setValue, lowAfter, nodeBits, knownAfter}
 use Rattle.t800.specs.WriteHeader.{isNew, lengthBitsBefore, codeInclusion, codeZeroPlanes, codePasses, codeBlock}
-use Rattle.t800_laws.proofs.Laws.WordCounts.{inclusion-coded, planes-coded, block-coded}
+use Rattle.t800_laws.proofs.Laws.Kept.{from-0}
+use Rattle.t800_laws.proofs.Laws.HeaderKept.{inclusion-coded, planes-coded, block-coded}
 use Rattle.t2_write_block.specs.Runs.{Running, afterCoded, codeNext, codeAll}
 use Rattle.t2_write_new_rows.specs.Setting.{setNext, setAll}
 use Rattle.t2_write_bands.specs.Bands.{newSet}
@@ -116,9 +117,10 @@ block-front q k b xs ys m t c segments =
     let all : Coded → Coded → Coded → Coded = λ x y w. record { bits = x .bits ++ y .bits ++ w .bits; words = w .words } in
     let chosen : Coded → Coded → Coded → Coded = λ x y w. cond (eqb c 0) x (all x y w) in
     let e = incl-front q k b xs ys m t c in
-    let f = ap (λ (d : Coded). codeZeroPlanes k (d .words)) e ∙ planes-front q k b (i .words) ys (inclusion-coded t k c xs ∙ m) in
+    let long : length (i .words) ≡ q = inclusion-coded 0 t k (from-0 k) c xs .long ∙ m in
+    let f = ap (λ (d : Coded). codeZeroPlanes k (d .words)) e ∙ planes-front q k b (i .words) ys long in
     let g = ap (λ (d : Coded). codePasses k c segments (d .words)) f
-    ∙ passes-front q k b (z .words) ys (planes-coded k (i .words) ∙ inclusion-coded t k c xs ∙ m) c segments in
+    ∙ passes-front q k b (z .words) ys (planes-coded 0 t k (from-0 k) (i .words) .long ∙ long) c segments in
     (λ j. chosen (e j) (f j) (g j)) ∙ either-onto (eqb c 0) ys i (all i z p)
 
 -- ---- setting in the back part
@@ -194,7 +196,7 @@ parts q t c i k segments cs js xs ys m b a =
     let f : codeBlock t k c segments (xs ++ ys) ≡ onto ys d = block-front q k b xs ys m t c segments in
     ap (codeBlock t k c segments) (back xs m)
     ∙ block-front q k b xs zs m t c segments
-    ∙ (λ j. record { bits = d .bits; words = sym (back (d .words) (block-coded t k c segments xs ∙ m)) j })
+    ∙ (λ j. record { bits = d .bits; words = sym (back (d .words) (block-coded 0 t k (from-0 k) c segments xs .long ∙ m)) j })
     ∙ sym (ap (λ (x : Coded). record { bits = x .bits; words = setAll t cs js i (x .words) }) f)
 
 pub block-then-set : (q t c i : ℕ) (k : Block) (segments : List Segment) (cs : List ℕ) (js : List Block) (ws : List ℕ)
@@ -215,7 +217,7 @@ next-then-set q t i cs ls ms k js s h b a = ap (afterCoded s (getD cs (s .block)
 
 pub next-length : (t : ℕ) (cs ls ms : List ℕ) (k : Block) (s : Running) → length (codeNext t cs ls ms k s .words) ≡ length (s .words)
 unfolding codeNext
-next-length t cs ls ms k s = block-coded t k _ _ (s .words)
+next-length t cs ls ms k s = block-coded 0 t k (from-0 k) _ _ (s .words) .long
 
 -- a band's blocks coded before or after a later band's new blocks are set
 pub code-then-set : (q t i : ℕ) (cs ls ms : List ℕ) (ks js : List Block) (s : Running) → q ≤ length (s .words)

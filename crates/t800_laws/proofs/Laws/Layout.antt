@@ -14,7 +14,8 @@ use Rattle.t800.specs.TagTree.{pathToRoot}
 use Rattle.t800.specs.State.{notYetIncluded, notYetPlanes, Block, blockOf, blocksIn, bandNodes, bandLength, blocksFrom}
 use Rattle.t800.specs.State.{blocksAt, blocks, endOf}
 use Rattle.t800_laws.proofs.Laws.Tests.{if-lt, if-ge}
-use Rattle.t800_laws.proofs.Laws.Paths.{All, NotIn, Rising, rising-from, AllBelow, Ancestors, parentOf, parent-in-tree, LeafPath}
+use Rattle.t800_laws.proofs.Laws.Paths.{All, all-so, NotIn, Rising, rising-from, AllBelow, Ancestors, parentOf, parent-in-tree}
+use Rattle.t800_laws.proofs.Laws.Paths.{LeafPath}
 use Rattle.t800_laws.proofs.Laws.Paths.{leaf-path, addresses, Apart, AllApart, all-addresses, lower-not-in, reversed-apart}
 use Rattle.t800_laws.proofs.Laws.Paths.{address-ancestors, all-reversed}
 
@@ -287,17 +288,17 @@ layoutOf bs = record {
 -- ---- its blocks
 
 -- all words of a block and its leaf's paths lie from m on, or before m
-record From (m : ℕ) (k : Block) : Type 0 where
-  place : m ≤ k .at
-  leaf : (t : Tree) → m ≤ leafOf t k
-  path : (t : Tree) → All (λ a. m ≤ a) (addresses (treeOf t k) (k .path))
+pub record From (m : ℕ) (k : Block) : Type 0 where
+  pub place : m ≤ k .at
+  pub leaf : (t : Tree) → m ≤ leafOf t k
+  pub path : (t : Tree) → All (λ a. m ≤ a) (addresses (treeOf t k) (k .path))
 
 record Before (m : ℕ) (k : Block) : Type 0 where
   place : k .at < m
   leaf : (t : Tree) → leafOf t k < m
   path : (t : Tree) → All (λ a. a < m) (addresses (treeOf t k) (k .path))
 
-abbrev AllFrom : ℕ → List Block → Type 0
+abbrev pub AllFrom : ℕ → List Block → Type 0
 AllFrom m [] = Unit {0}
 AllFrom m (k ∷ ks) = From m k × AllFrom m ks
 
@@ -331,14 +332,10 @@ all-from-less m n (k ∷ ks) h b = (
   record {
     place = le-trans h (b .0 .place);
     leaf = λ t. le-trans h (b .0 .leaf t);
-    path = λ t. more (addresses (treeOf t k) (k .path)) (b .0 .path t);
+    path = λ t. all-so _ (λ a. m ≤ a) (addresses (treeOf t k) (k .path)) (λ a l. le-trans h l) (b .0 .path t);
   },
   all-from-less m n ks h (b .1),
 )
-  where
-    more : (xs : List ℕ) → All (λ a. n ≤ a) xs → All (λ a. m ≤ a) xs
-    more [] g = tt
-    more (a ∷ xs) g = (le-trans h (g .0), more xs (g .1))
 
 all-from-append : (m : ℕ) (ks js : List Block) → AllFrom m ks → AllFrom m js → AllFrom m (ks ++ js)
 all-from-append m [] js a b = b
@@ -424,7 +421,7 @@ unfolding blocksFrom
 band-from at b zero j l = tt
 band-from at b (suc n) j l = (block-from b j (omega arith) at, band-from at b n (j + 1) (omega arith))
 
-bands-from : (at : ℕ) (bs : List Band) → AllFrom at (blocksAt at bs)
+pub bands-from : (at : ℕ) (bs : List Band) → AllFrom at (blocksAt at bs)
 unfolding blocksAt
 bands-from at [] = tt
 bands-from at (b ∷ bs) =

@@ -19,6 +19,10 @@ abbrev pub All : (ℕ → Type 0) → List ℕ → Type 0
 All P [] = Unit {0}
 All P (a ∷ xs) = P a × All P xs
 
+pub all-so : (P Q : ℕ → Type 0) (xs : List ℕ) → ((a : ℕ) → P a → Q a) → All P xs → All Q xs
+all-so P Q [] f h = tt
+all-so P Q (a ∷ xs) f h = (f a (h .0), all-so P Q xs f (h .1))
+
 -- a is none of them
 abbrev pub NotIn : ℕ → List ℕ → Type 0
 NotIn a xs = All (λ b. a ≢ b) xs

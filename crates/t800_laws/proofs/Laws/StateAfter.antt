@@ -30,7 +30,7 @@ use Rattle.t800.specs.Packet.{readResult, refusedAnswer, readPresent, read, rea
 use Rattle.t800_laws.proofs.Laws.Tests.{either, either-by, if-true, if-false, and-left, and-right, not-refused}
 use Rattle.t800_laws.proofs.Laws.Layout.{end-after}
 use Rattle.t800_laws.proofs.Laws.FirstWords.{same-bands}
-use Rattle.t800_laws.proofs.Laws.WordCounts.{blocksCoded, header-coded, header-read}
+use Rattle.t800_laws.proofs.Laws.HeaderKept.{blocksCoded, header-coded, header-read}
 
 -- ---- what a call that gives no 5 says of its state
 
@@ -76,11 +76,14 @@ read-in-range ws scratch reports e =
 
 -- ---- the next layer set to one that is no less: a state in range stays so
 
-every-stays : (n : ℕ) (f g : ℕ → Bool) → ((i : ℕ) → f i ≡ true → g i ≡ true) → every n f ≡ true → every n g ≡ true
+pub every-stays : (n : ℕ) (f g : ℕ → Bool) → ((i : ℕ) → i < n → f i ≡ true → g i ≡ true) → every n f ≡ true → every n g ≡ true
 unfolding every
 every-stays zero f g h e = refl
 every-stays (suc n) f g h e =
-    rw (h n (and-left (f n) (every n f) e), every-stays n f g h (and-right (f n) (every n f) e))
+    rw (
+      h n (omega arith) (and-left (f n) (every n f) e),
+      every-stays n f g (λ i l. h i (omega arith)) (and-right (f n) (every n f) e),
+    )
 
 module _ (ws : List ℕ) (v : ℕ) (long : 13 ≤ length ws) (more : layer ws ≤ v) where
   abbrev moved : List ℕ
@@ -135,11 +138,11 @@ module _ (ws : List ℕ) (v : ℕ) (long : 13 ≤ length ws) (more : layer ws �
       let g₂ = and-left (incl && planes) all g₁ in
       rw (
         every-stays n _ (λ i. nodeInRange moved notYetIncluded (at + 3 * i))
-            (λ i e. node-stays notYetIncluded (at + 3 * i) (omega arith) ∙ e) (and-left incl planes g₂),
+            (λ i l e. node-stays notYetIncluded (at + 3 * i) (omega arith) ∙ e) (and-left incl planes g₂),
         every-stays n _ (λ i. nodeInRange moved notYetPlanes (at + 3 * n + 3 * i))
-            (λ i e. node-stays notYetPlanes (at + 3 * n + 3 * i) (omega arith) ∙ e) (and-right incl planes g₂),
+            (λ i l e. node-stays notYetPlanes (at + 3 * n + 3 * i) (omega arith) ∙ e) (and-right incl planes g₂),
         every-stays (blocksIn b) _ (λ i. blockInRange moved (at + 6 * n + 4 * i))
-            (λ i e. block-stays (at + 6 * n + 4 * i) (omega arith) e) (and-right (incl && planes) all g₁),
+            (λ i l e. block-stays (at + 6 * n + 4 * i) (omega arith) e) (and-right (incl && planes) all g₁),
       )
       (bands-stay (at + bandLength b) bs (omega arith) (and-right (incl && planes && all) rest g))
 
@@ -181,7 +184,7 @@ module _ (ws scratch : List ℕ) (p : Contribution) (body : List ℕ) (m : Marke
       let P : WriteResult → Type 0 = λ o. o .answer .refusal ≡ 0 → layer (o .state) ≡ layer ws + 1 in
       either-by P (eqb why 0) _ _
       (λ t e. let long = has-first-words ws (length scratch) (tested writer ws (length scratch) (writing-in-range (eqb-true why 0 t))) in
-      getD-set-same (blocksCoded p ws) 3 (layer ws + 1) 0 (omega (arith, header-coded p ws)))
+      getD-set-same (blocksCoded p ws) 3 (layer ws + 1) 0 (omega (arith, header-coded p ws .long)))
       (λ f. either P (eqb why 11) _ _ (λ e. absurd (eqb-false why 0 f e)) (λ e. absurd (eqb-false why 0 f e)))
 
   pub refused-write-leaves-state : wrote .answer .refusal ≢ 0 → wrote .state ≡ ws
