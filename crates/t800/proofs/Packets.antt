@@ -890,11 +890,49 @@ layer-rows =
     ∷ [])
     ∷ []
 
+-- ---- trees of several levels: on each, the least zero planes of the blocks below a node
+
+-- nodes of these values, nothing of them coded
+abbrev uncoded : List ℕ → List ℕ
+uncoded [] = []
+uncoded (v ∷ vs) = node v 0 0 ++ uncoded vs
+
+-- a writer that was just started, with one band and these values in its zero-plane tree
+abbrev started : ℕ → ℕ → ℕ → List ℕ → List ℕ
+started w h p values =
+    1 ∷ 1 ∷ 0 ∷ 0 ∷ w ∷ h ∷ p ∷ copies 6 0
+    ++ uncoded (copies (length values) notYetIncluded) ++ uncoded values ++ copies (4 * (w * h)) 0
+
+pub tree-rows : List Row
+tree-rows =
+    -- levels of 7 × 3, 4 × 2, 2 × 1 and 1 × 1 nodes; and the last block written alone, and read
+    record {
+      given = band 7 3 20 ∷ [];
+      planes = 8 ∷ 9 ∷ 10 ∷ 11 ∷ 7 ∷ 6 ∷ 12 ∷ 13 ∷ 5 ∷ 4 ∷ 14 ∷ 15 ∷ 3 ∷ 2 ∷ 16 ∷ 1 ∷ 17 ∷ 5 ∷ 18 ∷ 8 ∷ 19 ∷ [];
+      style = 0;
+      steps = holds-writer
+          (started 7 3 20
+          (12 ∷ 11 ∷ 10 ∷ 9 ∷ 13 ∷ 14 ∷ 8 ∷ 7 ∷ 15 ∷ 16 ∷ 6 ∷ 5 ∷ 17 ∷ 18 ∷ 4 ∷ 19 ∷ 3 ∷ 15 ∷ 2 ∷ 12 ∷ 1 ∷ 7 ∷ 6 ∷ 5 ∷ 8 ∷ 4 ∷ 3 ∷ 2 ∷ 1
+          ∷ 3 ∷ 1 ∷ 1 ∷ []))
+          ∷ puts 289 (copies 20 0 ++ 1 ∷ []) (5 ∷ []) (0 ∷ []) (0xd1 ∷ 0xbc ∷ 0xa0 ∷ [])
+          ∷ get 289 21 (0xd1 ∷ 0xbc ∷ 0xa0 ∷ []) (told 1 3 1) (copies 80 0 ++ 1 ∷ 1 ∷ 19 ∷ 1 ∷ []) (20 ∷ 1 ∷ 1 ∷ 5 ∷ [])
+          ∷ [];
+    }
+    -- seven levels, the most; the last of the blocks has the fewest zero planes
+    ∷ precinct 33 0 (copies 32 4 ++ 5 ∷ [])
+    (holds-writer
+    (started 33 1 5
+    (copies 32 1 ++ 0 ∷ copies 16 1 ++ 0 ∷ copies 8 1 ++ 0 ∷ copies 4 1 ++ 0 ∷ copies 2 1 ++ 0 ∷ 1 ∷ 0 ∷ 0 ∷ []))
+    ∷ [])
+    ∷ []
+
 pub rows : List Row
-rows = a-to-l ++ start-rows ++ write-rows ++ read-rows ++ range-rows ++ marker-rows ++ slip-rows ++ segment-rows ++ layer-rows
+rows =
+    a-to-l ++ start-rows ++ write-rows ++ read-rows ++ range-rows ++ marker-rows ++ slip-rows ++ segment-rows ++ layer-rows ++ tree-rows
 
 -- ---- the statement: no row fails
 
 pub all-rows-hold : failing 0 rows ≡ []
-unfolding rows a-to-l start-rows write-rows read-rows range-rows marker-rows slip-rows segment-rows layer-rows failing rowHolds
+unfolding rows a-to-l start-rows write-rows read-rows range-rows marker-rows slip-rows segment-rows layer-rows tree-rows failing
+    rowHolds
 all-rows-hold = refl

@@ -13,8 +13,8 @@ use Rattle.t800.specs.declared.SegmentRecord.{SegmentRecord}
 use Rattle.t800.specs.Base.{every, any, sum, halvings, floorLog2, overwrite, wiped}
 use Rattle.t800.specs.Bits.{bitsOf, bitsAfter, lastBytes, packFrom, pack, byteIn, heldBit, getBit, readBitsOnto, readBits}
 use Rattle.t800.specs.Bits.{inFF, endsInFF, bytesTaken}
-use Rattle.t800.specs.TagTree.{levelsFrom, levels, nodesIn, nodes, pathFrom, pathToRoot, setValue, lowAfter, nodeBits}
-use Rattle.t800.specs.TagTree.{knownAfter, codePath, readNode, readPath}
+use Rattle.t800.specs.TagTree.{levelsFrom, levels, nodesIn, nodes, parentFrom, parentOf, climbFrom, pathToRoot, setValue}
+use Rattle.t800.specs.TagTree.{lowAfter, nodeBits, knownAfter, codePath, readNode, readPath}
 use Rattle.t800.specs.PassCount.{passBits, readPasses}
 use Rattle.t800.specs.Segments.{termAll, bypass, firstLimit, nextLimit, isLimit, segmentsFrom, segmentsOf, width, bitLength}
 use Rattle.t800.specs.Segments.{increment, commaBits, lengthFields, readOnes, readComma}
@@ -232,16 +232,16 @@ stepsHold style (reads-starts c answer reports records begins ∷ rest) book es 
 unfoldable pub rowHolds : Row → Bool
 unfolding same sumsFrom recordsWith fields startHolds measureHolds writeHolds listsHold wordsHold structsHold asOwed stepsHold every any
     sum halvings floorLog2 overwrite bitsOf bitsAfter lastBytes packFrom pack byteIn heldBit getBit readBitsOnto readBits inFF endsInFF
-    bytesTaken levelsFrom levels nodesIn nodes pathFrom pathToRoot setValue lowAfter nodeBits knownAfter codePath readNode readPath
-    passBits readPasses termAll bypass firstLimit nextLimit isLimit segmentsFrom segmentsOf width bitLength increment commaBits
-    lengthFields readOnes readComma writer reader blocksIn bandNodes bandLength blocksFrom blocksAt endOf blocks stateLength bandAt bands
-    badShape badStyle bandTooDeep blockTooDeep nodeInRange blockInRange bandInRangeWith bandsInRangeWith unusedBandsZero validStateWith
-    freshNodes freshBlocks freshBandsWith bandWords freshStateWith setZeroPlanes startRefusal startWith reportWords recordWords bodyBytes
-    isNew lengthBitsBefore setNewBlocks codeInclusion codeZeroPlanes codePasses codeBlock codeBlocks codeHeader segmentTooLong
-    fieldTooWide opensSegment currentLimit currentPasses passesTaken readSegment readSegments readZeroPlanesFrom readZeroPlanes
-    firstReport againReport readIncluded readNewBlock readOldBlock readBlock readBlocks readHeader sopBytes ephBytes withMarkers
-    readMarker readSop readEph wrongLists measureRefusalWith front measureWith packet writeRefusalWith writeWith readRefusalWith
-    readAbsent readPresent readWith opensAt newEntries newBook reportOf recordsFrom recordsOf entryFrom entry addCounts
+    bytesTaken levelsFrom levels nodesIn nodes parentFrom parentOf climbFrom pathToRoot setValue lowAfter nodeBits knownAfter codePath
+    readNode readPath passBits readPasses termAll bypass firstLimit nextLimit isLimit segmentsFrom segmentsOf width bitLength increment
+    commaBits lengthFields readOnes readComma writer reader blocksIn bandNodes bandLength blocksFrom blocksAt endOf blocks stateLength
+    bandAt bands badShape badStyle bandTooDeep blockTooDeep nodeInRange blockInRange bandInRangeWith bandsInRangeWith unusedBandsZero
+    validStateWith freshNodes freshBlocks freshBandsWith bandWords freshStateWith setZeroPlanes startRefusal startWith reportWords
+    recordWords bodyBytes isNew lengthBitsBefore setNewBlocks codeInclusion codeZeroPlanes codePasses codeBlock codeBlocks codeHeader
+    segmentTooLong fieldTooWide opensSegment currentLimit currentPasses passesTaken readSegment readSegments readZeroPlanesFrom
+    readZeroPlanes firstReport againReport readIncluded readNewBlock readOldBlock readBlock readBlocks readHeader sopBytes ephBytes
+    withMarkers readMarker readSop readEph wrongLists measureRefusalWith front measureWith packet writeRefusalWith writeWith
+    readRefusalWith readAbsent readPresent readWith opensAt newEntries newBook reportOf recordsFrom recordsOf entryFrom entry addCounts
 rowHolds row =
     let bs = row .given in
     let lent = scratchOf (stateLength bs) in

@@ -35,14 +35,34 @@ nodesIn (l ∷ ls) = l .w * l .h + nodesIn ls
 unfoldable pub nodes : (w h : ℕ) → ℕ
 nodes w h = nodesIn (levels w h)
 
--- the nodes from column x, row y of the first level up to the root, that level's nodes being numbered from `first` on
-unfoldable pub pathFrom : List Level → (first x y : ℕ) → List ℕ
-pathFrom [] first x y = []
-pathFrom (l ∷ ls) first x y = (first + y * l .w + x) ∷ pathFrom ls (first + l .w * l .h) (x / 2) (y / 2)
+-- ---- parents
 
--- the nodes from a leaf up to the root
+-- the parent of node n, in levels whose nodes are numbered from `first` on: the node above at half its column and half its row, rounded down;
+-- the root is its own
+unfoldable pub parentFrom : List Level → (first n : ℕ) → ℕ
+parentFrom [] first n = n
+parentFrom (l ∷ []) first n = n
+parentFrom (l ∷ above ∷ ls) first n =
+    let next = first + l .w * l .h in
+    let x = (n - first) % l .w in
+    let y = (n - first) / l .w in
+    cond (ltb n next) (next + y / 2 * above .w + x / 2) (parentFrom (above ∷ ls) next n)
+
+-- in a tree of w by h leaves
+unfoldable pub parentOf : (w h n : ℕ) → ℕ
+parentOf w h n = parentFrom (levels w h) 0 n
+
+-- the nodes that a climb from node n meets, each the parent of the one before, up to the root
+unfoldable pub climbFrom : (bound w h n : ℕ) → List ℕ
+climbFrom zero w h n = []
+climbFrom (suc bound) w h n =
+    let parent = parentOf w h n in
+    let above = climbFrom bound w h parent in
+    n ∷ cond (eqb parent n) [] above
+
+-- from a leaf; a tree has seven levels at most
 unfoldable pub pathToRoot : (w h leaf : ℕ) → List ℕ
-pathToRoot w h leaf = pathFrom (levels w h) 0 (leaf % w) (leaf / w)
+pathToRoot w h leaf = climbFrom 7 w h leaf
 
 -- ---- a node's words, the first at `nodeAt`
 

@@ -2,22 +2,21 @@
 use mathlib.Core.Path.{_≡_, refl, sym, ap, _∙_}
 use mathlib.Core.Bool.{false, cond, _&&_, _||_, not}
 use mathlib.Core.List.{List, [], _∷_, _++_, reverse}
-use Prim.Native.Nat.{ℕ, zero, suc, _+_, _-_, _*_, _/_, _^_, _≤_, _<_, _%_, max}
+use Prim.Native.Nat.{ℕ, zero, suc, _+_, _-_, _*_, _^_, _≤_, _<_, max}
 use native.Mathlib.Nat.{mul-le-mul, le-trans, le-refl}
 use native.Mathlib.Omega.{arith}
 use lib.ListN.{length, getD, set, replicate, take, drop, length-append, length-replicate, length-reverse}
 use lib.Dec.{ltb, leb, eqb}
 use Rattle.t800.specs.declared.Band.{Band}
-use Rattle.t800.specs.declared.Level.{Level}
 use Rattle.t800.specs.Bits.{bitsOf, bitsAfter, lastBytes, packFrom, pack}
-use Rattle.t800.specs.TagTree.{Coded, levels, pathFrom, pathToRoot, setValue, lowAfter, nodeBits, knownAfter, codePath}
+use Rattle.t800.specs.TagTree.{Coded, setValue, lowAfter, nodeBits, knownAfter, codePath}
 use Rattle.t800.specs.PassCount.{passBits}
 use Rattle.t800.specs.Segments.{Segment, segmentsFrom, segmentsOf, width, increment, commaBits, lengthFields}
 use Rattle.t800.specs.State.{Block, notYetIncluded, notYetPlanes, blocksIn, bandLength, blocksFrom, blocksAt, blocks, passesSoFar}
 use Rattle.t800.specs.WriteHeader.{Contribution, isNew, lengthBitsBefore, setNewBlocks, codeInclusion, codeZeroPlanes, codePasses}
 use Rattle.t800.specs.WriteHeader.{codeBlock, codeBlocks}
-use Rattle.t800_laws.proofs.Laws.Levels.{at-most-seven-levels}
 use Rattle.t800_laws.proofs.Laws.Layout.{Layout, inclusion, Placed, AllPlaced}
+use Rattle.t800_laws.proofs.Laws.Paths.{short-path}
 use Rattle.t800_laws.proofs.Laws.Tests.{either, on-eq, if-eq, if-ne}
 use Rattle.round_trip.proofs.Trip.Segments.{tooWide, field-fits}
 use Rattle.round_trip.proofs.Trip.Changes.{ValuesOnly, no-values, values-then, leaf-set, nodes-only, block-stays}
@@ -199,15 +198,6 @@ blocks-up-to L t (k ∷ ks) (c ∷ cs) ls ms ws h f s long d =
       blocks-up-to L t ks cs (drop c ls) (drop c ms) (b .words) h (f .1) (s .1) (o .long ∙ long)
           (still-codable L t ws (b .words) k c ks cs (drop c ls) (drop c ms) o (f .0 .1) (f .1) (d .1)),
     )
-
-path-length : (ls : List Level) (n x y : ℕ) → length (pathFrom ls n x y) ≡ length ls
-unfolding pathFrom
-path-length [] n x y = refl
-path-length (l ∷ ls) n x y = ap suc (path-length ls _ (x / 2) (y / 2))
-
-short-path : (w h leaf : ℕ) → length (pathToRoot w h leaf) ≤ 7
-unfolding pathToRoot
-short-path w h leaf = omega (arith, path-length (levels w h) 0 (leaf % w) (leaf / w), at-most-seven-levels w h)
 
 short-onto : (at : ℕ) (b : Band) (n i : ℕ) (js : List Block) → ShortPaths js → ShortPaths (blocksFrom at b n i ++ js)
 unfolding blocksFrom

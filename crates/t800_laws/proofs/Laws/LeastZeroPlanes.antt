@@ -10,11 +10,12 @@ use lib.ListN.{length, getD, set, take, List·getD-eq-default}
 use lib.Seq.{getD-set-same, getD-set-other}
 use Rattle.t800.specs.declared.Band.{Band}
 use Rattle.t800.specs.declared.Level.{Level}
-use Rattle.t800.specs.TagTree.{levelsFrom, levels, nodesIn, nodes, pathFrom, pathToRoot, value, setValue}
+use Rattle.t800.specs.TagTree.{levelsFrom, levels, nodesIn, nodes, pathToRoot, value, setValue}
 use Rattle.t800.specs.State.{Block, notYetPlanes, writer, blocksIn, bandNodes, bandLength, blockOf, blocksFrom, blocksAt, blocks}
 use Rattle.t800.specs.Start.{freshState, setZeroPlanes, start}
 use Rattle.t800_laws.proofs.Laws.Tests.{on-eq, on-lt}
-use Rattle.t800_laws.proofs.Laws.Paths.{All, Ancestors, size, Halves, levels-halve, row-below, column-below, addresses}
+use Rattle.t800_laws.proofs.Laws.Paths.{All, Ancestors, size, Halves, levels-halve, pathFrom, path-by-place, row-below, column-below}
+use Rattle.t800_laws.proofs.Laws.Paths.{addresses}
 use Rattle.t800_laws.proofs.Laws.Layout.{Tree, zeroPlanes, notYet, Layout, AllPlaced, NodeFrom, layoutOf, blocks-placed}
 use Rattle.t800_laws.proofs.Laws.FreshState.{fresh-length, fresh-node}
 use Rattle.t800_laws.proofs.Laws.SetLeaf.{lowers, ends, length-setValue, every-word, Ordered, setValue-ordered}
@@ -74,16 +75,17 @@ leaf-below-from (l ∷ ls) w h n j v lo hi =
     (2 * x, 2 * y, omega (arith, r .2), omega (arith, r .3), inr (subst₂ (λ (x y : ℕ). In j (pathFrom ls (n + size l) x y)) ex ey (r .4))))
 
 leaf-below : (w h j : ℕ) → j < nodes w h → (leaf : ℕ) × (leaf < w * h) × In j (pathToRoot w h leaf)
-unfolding nodes levels pathToRoot
+unfolding nodes levels
 leaf-below w h j b =
     let r = leaf-below-from (levelsFrom 7 w h) w h 0 j (levels-halve 7 w h) (omega arith) (omega arith) in
     let x : ℕ = r .0 in
     let y : ℕ = r .1 in
     let ex : x ≡ (y * w + x) % w = sym (digits-mod y (r .2)) in
-    let ey : y ≡ (y * w + x) / w = sym (digits-div y (r .2)) in (
+    let ey : y ≡ (y * w + x) / w = sym (digits-div y (r .2)) in
+    let l : y * w + x < w * h = omega (arith, digits-lt (r .3) (r .2), mul-comm h w) in (
       y * w + x,
-      omega (arith, digits-lt (r .3) (r .2), mul-comm h w),
-      subst₂ (λ (x y : ℕ). In j (pathFrom (levelsFrom 7 w h) 0 x y)) ex ey (r .4),
+      l,
+      subst (In j) (sym (path-by-place w h (y * w + x) l)) (subst₂ (λ (x y : ℕ). In j (pathFrom (levelsFrom 7 w h) 0 x y)) ex ey (r .4)),
     )
 
 in-addresses : (base j : ℕ) (js : List ℕ) → In j js → In (base + 3 * j) (addresses base js)

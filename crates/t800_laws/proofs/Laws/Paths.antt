@@ -1,5 +1,5 @@
--- A path from a leaf of a tag tree to the root: its node numbers rise, stay within the tree, and each is the parent of the one before. Then
--- the same of the nodes' addresses in a list of words, three words a node.
+-- The climb from a leaf of a tag tree to the root: its nodes are those over the leaf's column and row on each level; their numbers rise and
+-- stay within the tree. Then the same of the nodes' addresses in a list of words, three words a node.
 use mathlib.Core.Path.{_≡_, refl, sym, ap, _∙_, subst}
 use mathlib.Core.Logic.{_≢_}
 use mathlib.Core.Bool.{cond}
@@ -8,10 +8,12 @@ use Prim.Native.Nat.{ℕ, zero, suc, _+_, _-_, _*_, _/_, _%_, _≤_, _<_}
 use native.Mathlib.Nat.{le-trans, le-of-eq, mul-comm, zero-mul, mod-lt, div-lt-iff-lt-mul, div-add-mod', zero-add}
 use native.Mathlib.Omega.{arith}
 use lib.Arith.{digits-lt, digits-div, digits-mod}
-use lib.Dec.{ltb, leb}
+use lib.Dec.{ltb, leb, eqb}
+use lib.ListN.{length}
 use Rattle.t800.specs.declared.Level.{Level}
-use Rattle.t800.specs.TagTree.{levelsFrom, levels, nodesIn, nodes, pathFrom, pathToRoot}
-use Rattle.t800_laws.proofs.Laws.Tests.{if-lt, if-ge, either, on-lt}
+use Rattle.t800.specs.TagTree.{levelsFrom, levels, nodesIn, nodes, parentFrom, parentOf, climbFrom, pathToRoot}
+use Rattle.t800_laws.proofs.Laws.Levels.{at-most-seven-levels}
+use Rattle.t800_laws.proofs.Laws.Tests.{if-eq, if-ne, if-lt, if-ge, either, on-lt}
 
 -- ---- lists of numbers
 
@@ -60,6 +62,11 @@ levels-halve zero w h = tt
 levels-halve (suc f) w h =
     (refl, refl, either (Halves ((w + 1) / 2) ((h + 1) / 2)) (leb (w * h) 1) _ _ tt (levels-halve f ((w + 1) / 2) ((h + 1) / 2)))
 
+-- the nodes over column x, row y of the first level, from level and place, that level's nodes being numbered from `first` on
+unfoldable pub pathFrom : List Level → (first x y : ℕ) → List ℕ
+pathFrom [] first x y = []
+pathFrom (l ∷ ls) first x y = (first + y * l .w + x) ∷ pathFrom ls (first + size l) (x / 2) (y / 2)
+
 -- column x, row y of a level whose nodes are numbered from n on
 number-in : (n w h x y : ℕ) → x < w → y < h → n + y * w + x < n + w * h
 number-in n w h x y hx hy = omega (arith, digits-lt hy hx, mul-comm h w)
@@ -88,14 +95,6 @@ path-below (l ∷ ls) w h n x y m v hx hy b =
     )
 
 -- ---- parents
-
--- the parent of node j in levels numbered from n on; the root is its own
-unfoldable pub parentFrom : List Level → ℕ → ℕ → ℕ
-parentFrom [] n j = j
-parentFrom (l ∷ []) n j = j
-parentFrom (l ∷ k ∷ ks) n j =
-    let above = parentFrom (k ∷ ks) (n + size l) j in
-    cond (ltb j (n + size l)) (n + size l + (j - n) / l .w / 2 * k .w + (j - n) % l .w / 2) above
 
 parent-here : (l k : Level) (ks : List Level) (n x y : ℕ) → x < l .w → y < l .h
     → parentFrom (l ∷ k ∷ ks) n (n + y * l .w + x) ≡ n + size l + y / 2 * k .w + x / 2
@@ -160,10 +159,7 @@ parent-below (l ∷ k ∷ ks) w h n j v lo hi =
     (λ b. rw (if-ge j (n + size l) _ _ b)
     (omega (arith, parent-below (k ∷ ks) ((w + 1) / 2) ((h + 1) / 2) (n + size l) j (v .2) b (omega arith))))
 
--- ---- the path from a leaf of a tree of w by h leaves
-
-unfoldable pub parentOf : ℕ → ℕ → ℕ → ℕ
-parentOf w h j = parentFrom (levels w h) 0 j
+-- ---- the climb from a leaf of a tree of w by h leaves
 
 pub parent-in-tree : (w h j : ℕ) → j < nodes w h → parentOf w h j < nodes w h
 unfolding parentOf nodes levels
@@ -172,9 +168,40 @@ parent-in-tree w h j l =
     (le-trans l (le-of-eq (sym (zero-add (nodesIn (levelsFrom 7 w h)))))))
     (le-of-eq (zero-add (nodesIn (levelsFrom 7 w h))))
 
+-- ancestors, each higher than the one before, are what a climb meets
+climb-meets : (bound w h j : ℕ) (js : List ℕ) → Ancestors (parentOf w h) j js → Rising (j + 1) js → length js < bound
+    → climbFrom bound w h j ≡ j ∷ js
+unfolding climbFrom
+climb-meets zero w h j js a r l = absurd (omega arith)
+climb-meets (suc bound) w h j [] a r l = ap (λ (ks : List ℕ). j ∷ ks) (if-eq (parentOf w h j) j _ _ a)
+climb-meets (suc bound) w h j (k ∷ ks) a r l =
+    ap (λ (is : List ℕ). j ∷ is)
+    (if-ne (parentOf w h j) j _ _ (λ e. omega (arith, a .0, r .0, e))
+    ∙ ap (climbFrom bound w h) (sym (a .0))
+    ∙ climb-meets bound w h k ks (a .1) (r .1) (omega arith))
+
+climb-short : (bound w h n : ℕ) → length (climbFrom bound w h n) ≤ bound
+unfolding climbFrom
+climb-short zero w h n = omega arith
+climb-short (suc bound) w h n = go (climb-short bound w h (parentOf w h n))
+  where
+    go : length (climbFrom bound w h (parentOf w h n)) ≤ bound
+        → suc (length (cond (eqb (parentOf w h n) n) [] (climbFrom bound w h (parentOf w h n)))) ≤ suc bound
+    go r = either (λ (js : List ℕ). suc (length js) ≤ suc bound) (eqb (parentOf w h n) n) _ _ (omega arith) (omega arith)
+
+pub short-path : (w h leaf : ℕ) → length (pathToRoot w h leaf) ≤ 7
+unfolding pathToRoot
+short-path w h leaf = climb-short 7 w h leaf
+
+path-length : (ls : List Level) (n x y : ℕ) → length (pathFrom ls n x y) ≡ length ls
+unfolding pathFrom
+path-length [] n x y = refl
+path-length (l ∷ ls) n x y = ap suc (path-length ls (n + size l) (x / 2) (y / 2))
+
 pub record LeafPath (w h leaf : ℕ) : Type 0 where
   pub above : List ℕ
   pub is : pathToRoot w h leaf ≡ leaf ∷ above
+  pub by-place : leaf ∷ above ≡ pathFrom (levels w h) 0 (leaf % w) (leaf / w)
   pub rising : Rising (w * h) above
   pub below : AllBelow (nodes w h) (leaf ∷ above)
   pub ancestors : Ancestors (parentOf w h) leaf above
@@ -191,16 +218,26 @@ leaf-path w h leaf b =
     let v : Halves w h (l ∷ ls) = levels-halve 7 w h in
     let e : 0 + y * w + x ≡ leaf = omega (arith, div-add-mod' leaf w) in
     let above : List ℕ = pathFrom ls (0 + w * h) (x / 2) (y / 2) in
+    let rising : Rising (w * h) above = rising-from (w * h) (0 + w * h) above (omega arith)
+        (path-rising ls ((w + 1) / 2) ((h + 1) / 2) (0 + w * h) (x / 2) (y / 2) (v .2) (half-below x w hx) (half-below y h hy)) in
     let below : AllBelow (nodesIn (l ∷ ls)) ((0 + y * w + x) ∷ above) =
     path-below (l ∷ ls) w h 0 x y (nodesIn (l ∷ ls)) v hx hy (omega arith) in
+    let ancestors : Ancestors (parentFrom (l ∷ ls) 0) leaf above =
+    subst (λ (z : ℕ). Ancestors (parentFrom (l ∷ ls) 0) z above) e (path-ancestors l ls w h 0 x y v hx hy) in
+    let few : length (l ∷ ls) ≤ 7 = at-most-seven-levels w h in
     record {
       above = above;
-      is = ap (λ (z : ℕ). z ∷ above) e;
-      rising = rising-from (w * h) (0 + w * h) above (omega arith)
-          (path-rising ls ((w + 1) / 2) ((h + 1) / 2) (0 + w * h) (x / 2) (y / 2) (v .2) (half-below x w hx) (half-below y h hy));
+      is = climb-meets 7 w h leaf above ancestors (rising-from (leaf + 1) (w * h) above (omega arith) rising)
+          (omega (arith, path-length ls (0 + w * h) (x / 2) (y / 2)));
+      by-place = ap (λ (z : ℕ). z ∷ above) (sym e);
+      rising = rising;
       below = (subst (λ (z : ℕ). z < nodesIn (l ∷ ls)) e (below .0), below .1);
-      ancestors = subst (λ (z : ℕ). Ancestors (parentFrom (l ∷ ls) 0) z above) e (path-ancestors l ls w h 0 x y v hx hy);
+      ancestors = ancestors;
     }
+
+-- the climb's nodes from level and place
+pub path-by-place : (w h leaf : ℕ) → leaf < w * h → pathToRoot w h leaf ≡ pathFrom (levels w h) 0 (leaf % w) (leaf / w)
+path-by-place w h leaf b = let p = leaf-path w h leaf b in p .is ∙ p .by-place
 
 -- ---- addresses: node j of the tree at `base` is the three words from base + 3 j on
 
