@@ -1,6 +1,5 @@
--- The nodes over a leaf, worked out from levels and place, are t800's path from the leaf to the root: those that a climb from parent to
--- parent meets.
-use mathlib.Core.Path.{_≡_, refl, sym, ap, _∙_, subst}
+-- The nodes over a leaf, worked out from levels and place, are those that t800's climb from the leaf meets.
+use mathlib.Core.Path.{_≡_, refl, sym, ap, _∙_, subst, subst₂}
 use mathlib.Core.List.{List, [], _∷_, _++_, reverse, reverse-append}
 use Prim.Native.Nat.{ℕ, zero, suc, _+_, _-_, _*_, _/_, _%_, _^_, _≤_, _<_}
 use native.Mathlib.Omega.{arith}
@@ -9,9 +8,9 @@ use lib.ListN.{length, getD, take, drop, replicate, length-append, length-replic
 use lib.Pow.{shr-shr}
 use lib.Seq.{length-take-le, drop-cons, getD-take, take-at, take-append-seam}
 use Rattle.t800.specs.declared.Level.{Level}
-use Rattle.t800.specs.TagTree.{noLevel, levels, nodes, pathFrom, pathToRoot}
+use Rattle.t800.specs.TagTree.{noLevel, levels, nodes, pathToRoot}
 use Rattle.t800_laws.proofs.Laws.Levels.{at-most-seven-levels}
-use Rattle.t800_laws.proofs.Laws.Paths.{All, AllBelow, Halves, levels-halve, LeafPath, leaf-path}
+use Rattle.t800_laws.proofs.Laws.Paths.{All, AllBelow, Halves, levels-halve, pathFrom, LeafPath, leaf-path, path-by-place}
 use Rattle.tgt.specs.Path.{rowFrom, rowOver, nodesOver, pathOver, leafWord, PathIn, SmallLevels}
 
 -- ---- one node more, from the leaf up and from the root down
@@ -54,7 +53,7 @@ unfolding rowFrom
 row-length [] n y = refl
 row-length (l ∷ ls) n y = ap suc (row-length ls (n + l .w * l .h) (y / 2))
 
-nodes-are : (ls : List Level) (n x y : ℕ) → nodesOver (rowFrom ls n y) x ≡ pathFrom ls n x y
+pub nodes-are : (ls : List Level) (n x y : ℕ) → nodesOver (rowFrom ls n y) x ≡ pathFrom ls n x y
 unfolding rowFrom nodesOver pathFrom
 nodes-are [] n x y = refl
 nodes-are (l ∷ ls) n x y = ap (λ (js : List ℕ). (n + y * l .w + x) ∷ js) (nodes-are ls (n + l .w * l .h) (x / 2) (y / 2))
@@ -112,9 +111,8 @@ module _ (w h : ℕ) (ls : List Level) (depth : ℕ) (t : TreeLevels w h ls dept
   path-at x y = ap (λ (ns : List ℕ). nodesOver ns x) (row-is y) ∙ nodes-are (levels w h) 0 x y
 
   -- of a leaf by its number
-  pub path-is : (leaf : ℕ) → pathOver (rowOver ls depth (leaf / w)) depth (leaf % w) ≡ pathToRoot w h leaf
-  unfolding pathToRoot
-  path-is leaf = path-at (leaf % w) (leaf / w)
+  pub path-is : (leaf : ℕ) → leaf < w * h → pathOver (rowOver ls depth (leaf / w)) depth (leaf % w) ≡ pathToRoot w h leaf
+  path-is leaf l = path-at (leaf % w) (leaf / w) ∙ sym (path-by-place w h leaf l)
 
   -- `opj_tgt_row` asks this of the levels
   pub small-levels : w ≤ 64 → h ≤ 64 → SmallLevels ls depth
@@ -129,12 +127,12 @@ module _ (w h : ℕ) (ls : List Level) (depth : ℕ) (t : TreeLevels w h ls dept
   -- ---- in column x, row y
 
   module _ (x y : ℕ) (in-row : x < w) (in-column : y < h) where
-    pub path-of-leaf : pathOver (rowOver ls depth y) depth x ≡ pathToRoot w h (y * w + x)
-    unfolding pathToRoot
-    path-of-leaf = path-at x y ∙ sym (rw (digits-div y in-row, digits-mod y in-row))
-
     leaf-in : y * w + x < w * h
     leaf-in = omega (arith, digits-lt in-column in-row)
+
+    pub path-of-leaf : pathOver (rowOver ls depth y) depth x ≡ pathToRoot w h (y * w + x)
+    path-of-leaf = subst₂ (λ (i j : ℕ). pathOver (rowOver ls depth j) depth i ≡ pathToRoot w h (y * w + x))
+        (digits-mod y in-row) (digits-div y in-row) (path-is (y * w + x) leaf-in)
 
     -- the nodes that a climb meets from the leaf, each the parent of the one before
     pub climb : LeafPath w h (y * w + x)
