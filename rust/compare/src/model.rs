@@ -15,7 +15,6 @@ const FIRST_WORDS: usize = 13;
 // ---- where the words of a band stand
 
 pub struct Place {
-    across: usize,
     planes: u32,
     pub blocks: usize,
     pub nodes: usize,
@@ -26,7 +25,8 @@ pub struct Place {
     first_block: usize,
 }
 
-fn levels(across: usize, down: usize) -> Vec<(usize, usize)> {
+/// The sides of each level of a tree, halved and rounded up, from the leaves' to the root's.
+pub fn levels(across: usize, down: usize) -> Vec<(usize, usize)> {
     let mut all = Vec::new();
     if across * down > 0 {
         all.push((across, down));
@@ -38,6 +38,21 @@ fn levels(across: usize, down: usize) -> Vec<(usize, usize)> {
     all
 }
 
+/// The parent of a node: its column and row halved, on the level above; the root has none.
+pub fn parent(levels: &[(usize, usize)], node: usize) -> Option<usize> {
+    let mut first = 0;
+    for pair in levels.windows(2) {
+        let ((w, h), (above, _)) = (pair[0], pair[1]);
+        let next = first + w * h;
+        if node < next {
+            let (x, y) = ((node - first) % w, (node - first) / w);
+            return Some(next + y / 2 * above + x / 2);
+        }
+        first = next;
+    }
+    None
+}
+
 /// The bands' places, the state's length and the number of blocks.
 pub fn layout(bands: &[[u32; 3]]) -> (Vec<Place>, usize, usize) {
     let (mut places, mut at, mut first_block) = (Vec::new(), FIRST_WORDS, 0);
@@ -47,7 +62,7 @@ pub fn layout(bands: &[[u32; 3]]) -> (Vec<Place>, usize, usize) {
         let nodes: usize = levels.iter().map(|(w, h)| w * h).sum();
         let blocks = across * down;
         let (inclusion, zero_planes, block_words) = (at, at + 3 * nodes, at + 6 * nodes);
-        places.push(Place { across, planes: band[2], blocks, nodes, levels, inclusion, zero_planes, block_words, first_block });
+        places.push(Place { planes: band[2], blocks, nodes, levels, inclusion, zero_planes, block_words, first_block });
         at = block_words + 4 * blocks;
         first_block += blocks;
     }
@@ -59,16 +74,9 @@ pub fn bands_of(state: &[u32]) -> Vec<[u32; 3]> {
 }
 
 impl Place {
-    /// The nodes from a leaf up to the root.
+    /// The nodes that a climb from a leaf to the root meets.
     fn path(&self, leaf: usize) -> Vec<usize> {
-        let (mut x, mut y, mut base) = (leaf % self.across, leaf / self.across, 0);
-        let mut nodes = Vec::new();
-        for (w, h) in &self.levels {
-            nodes.push(base + y * w + x);
-            base += w * h;
-            (x, y) = (x / 2, y / 2);
-        }
-        nodes
+        std::iter::successors(Some(leaf), |node| parent(&self.levels, *node)).collect()
     }
 }
 

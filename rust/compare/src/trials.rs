@@ -432,6 +432,20 @@ impl Trials {
         }
     }
 
+    /// Shapes of one band up to 64 × 64, each, or one in `step`: started, and a packet written and read back.
+    pub fn shapes(&mut self, step: usize) {
+        for n in (0..64 * 64).step_by(step) {
+            let bands = [[n % 64 + 1, n / 64 + 1, 20], [0; 3], [0; 3]];
+            let blocks = bands[0][0] * bands[0][1];
+            let planes = (0..blocks).map(|_| self.random.between(0, 20) as u32).collect();
+            let shape = Shape { count: 1, bands, style: self.random.pick(&[0, 1, 4]), planes };
+            let (mut writer, mut reader) = (self.start(true, &shape), self.start(false, &shape));
+            let layer = inputs::layer(&mut self.random, &writer, 3, 5);
+            let packet = self.written(&mut writer, &layer, Markers::default(), 0).expect("accepted");
+            self.read(&mut reader, &packet, Markers::default(), layer.lengths.len());
+        }
+    }
+
     /// All layers of a small precinct that the crate has, and some more.
     pub fn first_layers(&mut self) {
         let (mut writer, mut reader) = self.small_precinct();

@@ -100,6 +100,11 @@ fn largest() {
 }
 
 #[test]
+fn shapes() {
+    trial(&[0], |t| t.shapes(61));
+}
+
+#[test]
 fn ranges() {
     trial(&[0, 5, 6], |t| t.ranges());
 }

@@ -24,6 +24,7 @@ fn main() {
     part("first layers", &|t| (0..share(1) / 20_000 + 1).for_each(|_| t.first_layers()));
     part("all layers", &|t| (0..share(1) / 100_000 + 1).for_each(|_| t.all_layers()));
     part("largest", &|t| t.largest(share(1) as u32 / 20_000 + 2));
+    part("shapes", &|t| t.shapes(if calls < 4_000_000 { 61 } else { 1 }));
     part("counts and lengths", &|t| t.counts_and_lengths(1));
     part("wide fields", &|t| t.wide_fields());
     part("long bodies", &|t| t.long_bodies(share(2)));

@@ -76,6 +76,20 @@ fn nodes<'a>(tree: *mut opj_tgt_tree_t) -> &'a mut [opj_tgt_node_t] {
     }
 }
 
+/// Each node's parent, as the crate links the nodes of a tree.
+pub fn parents(across: u32, down: u32) -> Vec<Option<usize>> {
+    let tree = opj_tgt_create(across, down, &mut opj_event_mgr::default());
+    let first: *const opj_tgt_node_t = nodes(tree).as_ptr();
+    let number = |parent: *mut opj_tgt_node_t| match parent.is_null() {
+        true => None,
+        // SAFETY: a parent is a node of the same tree.
+        false => Some(unsafe { parent.cast_const().offset_from(first) } as usize),
+    };
+    let all = nodes(tree).iter().map(|node| number(node.parent)).collect();
+    opj_tgt_destroy(tree);
+    all
+}
+
 fn empty_block() -> opj_tcd_cblk_dec_t {
     opj_tcd_cblk_dec_t {
         segs: core::ptr::null_mut(),
