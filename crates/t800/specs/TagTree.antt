@@ -37,8 +37,8 @@ nodes w h = nodesIn (levels w h)
 
 -- ---- parents
 
--- the parent of node n, in levels whose nodes are numbered from `first` on: the node above at half its column and half its row, rounded down;
--- the root is its own
+-- the parent of node n, in levels whose nodes are numbered from `first` on: at half its column and half its row, rounded down, on the level
+-- above; the root is its own
 unfoldable pub parentFrom : List Level → (first n : ℕ) → ℕ
 parentFrom [] first n = n
 parentFrom (l ∷ []) first n = n
