@@ -905,7 +905,7 @@ started w h p values =
 
 pub tree-rows : List Row
 tree-rows =
-    -- levels of 7 × 3, 4 × 2, 2 × 1 and 1 × 1 nodes; and the last block written alone, and read
+    -- levels of 7 × 3, 4 × 2, 2 × 1 and 1 × 1 nodes
     record {
       given = band 7 3 20 ∷ [];
       planes = 8 ∷ 9 ∷ 10 ∷ 11 ∷ 7 ∷ 6 ∷ 12 ∷ 13 ∷ 5 ∷ 4 ∷ 14 ∷ 15 ∷ 3 ∷ 2 ∷ 16 ∷ 1 ∷ 17 ∷ 5 ∷ 18 ∷ 8 ∷ 19 ∷ [];
@@ -914,8 +914,6 @@ tree-rows =
           (started 7 3 20
           (12 ∷ 11 ∷ 10 ∷ 9 ∷ 13 ∷ 14 ∷ 8 ∷ 7 ∷ 15 ∷ 16 ∷ 6 ∷ 5 ∷ 17 ∷ 18 ∷ 4 ∷ 19 ∷ 3 ∷ 15 ∷ 2 ∷ 12 ∷ 1 ∷ 7 ∷ 6 ∷ 5 ∷ 8 ∷ 4 ∷ 3 ∷ 2 ∷ 1
           ∷ 3 ∷ 1 ∷ 1 ∷ []))
-          ∷ puts 289 (copies 20 0 ++ 1 ∷ []) (5 ∷ []) (0 ∷ []) (0xd1 ∷ 0xbc ∷ 0xa0 ∷ [])
-          ∷ get 289 21 (0xd1 ∷ 0xbc ∷ 0xa0 ∷ []) (told 1 3 1) (copies 80 0 ++ 1 ∷ 1 ∷ 19 ∷ 1 ∷ []) (20 ∷ 1 ∷ 1 ∷ 5 ∷ [])
           ∷ [];
     }
     -- seven levels, the most; the last of the blocks has the fewest zero planes

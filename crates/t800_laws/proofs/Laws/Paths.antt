@@ -8,7 +8,7 @@ use Prim.Native.Nat.{ℕ, zero, suc, _+_, _-_, _*_, _/_, _%_, _≤_, _<_}
 use native.Mathlib.Nat.{le-trans, le-of-eq, mul-comm, zero-mul, mod-lt, div-lt-iff-lt-mul, div-add-mod', zero-add}
 use native.Mathlib.Omega.{arith}
 use lib.Arith.{digits-lt, digits-div, digits-mod}
-use lib.Dec.{ltb, leb, eqb}
+use lib.Dec.{leb, eqb}
 use lib.ListN.{length}
 use Rattle.t800.specs.declared.Level.{Level}
 use Rattle.t800.specs.TagTree.{levelsFrom, levels, nodesIn, nodes, parentFrom, parentOf, climbFrom, pathToRoot}
@@ -219,7 +219,7 @@ leaf-path w h leaf b =
     let e : 0 + y * w + x ≡ leaf = omega (arith, div-add-mod' leaf w) in
     let above : List ℕ = pathFrom ls (0 + w * h) (x / 2) (y / 2) in
     let rising : Rising (w * h) above = rising-from (w * h) (0 + w * h) above (omega arith)
-        (path-rising ls ((w + 1) / 2) ((h + 1) / 2) (0 + w * h) (x / 2) (y / 2) (v .2) (half-below x w hx) (half-below y h hy)) in
+    (path-rising ls ((w + 1) / 2) ((h + 1) / 2) (0 + w * h) (x / 2) (y / 2) (v .2) (half-below x w hx) (half-below y h hy)) in
     let below : AllBelow (nodesIn (l ∷ ls)) ((0 + y * w + x) ∷ above) =
     path-below (l ∷ ls) w h 0 x y (nodesIn (l ∷ ls)) v hx hy (omega arith) in
     let ancestors : Ancestors (parentFrom (l ∷ ls) 0) leaf above =

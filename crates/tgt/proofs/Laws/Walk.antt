@@ -11,7 +11,7 @@ use Rattle.t800.specs.TagTree.{noLevel, nodesIn, levels, nodes, pathToRoot}
 use Rattle.t800_laws.proofs.Laws.Levels.{EndsInOneNode, levels-end-in-one-node}
 use Rattle.t800_laws.proofs.Laws.Paths.{size, Halves, levels-halve, row-below, column-below, pathFrom, path-by-place}
 use Rattle.tgt.specs.Path.{rowFrom, nodesOver}
-use Rattle.tgt.specs.Walk.{nodeOn, walkFrom, walkDown, pathInCode, WalkIsClimb, EveryWalkIsClimb}
+use Rattle.tgt.specs.Walk.{nodeOn, walkFrom, walkDown, EveryWalkIsClimb}
 use Rattle.tgt.proofs.Laws.Path.{node-down, row-length, nodes-are, tree-levels, path-is}
 
 -- ---- the walk is the climb reversed
