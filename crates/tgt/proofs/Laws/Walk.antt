@@ -29,26 +29,26 @@ row-at (l ∷ ls) n y (suc i) h =
     ∙ ap (λ (z : ℕ). n + size l + nodesIn (take i ls) + z * getD ls i noLevel .w) e
     ∙ omega arith
 
-walk-reversed : (ls : List Level) (n x y : ℕ) → n ≤ length ls → walkFrom ls n x y ≡ reverse (nodesOver (take n (rowFrom ls 0 y)) x)
+walk-is-nodes-reversed : (ls : List Level) (n x y : ℕ) → n ≤ length ls → walkFrom ls n x y ≡ reverse (nodesOver (take n (rowFrom ls 0 y)) x)
 unfolding walkFrom nodeOn nodesOver
-walk-reversed ls zero x y h = refl
-walk-reversed ls (suc n) x y h =
+walk-is-nodes-reversed ls zero x y h = refl
+walk-is-nodes-reversed ls (suc n) x y h =
     let row : List ℕ = rowFrom ls 0 y in
     let e : suc n - 1 ≡ n = omega arith in
     let here : nodeOn ls n x y ≡ getD row n 0 + x / 2 ^ n = omega (arith, row-at ls 0 y n (omega arith)) in
     let on = node-down row (suc n) x (omega arith) (omega (arith, row-length ls 0 y)) in
-    ap₂ (λ (j : ℕ) (js : List ℕ). j ∷ js) here (walk-reversed ls n x y (omega arith))
+    ap₂ (λ (j : ℕ) (js : List ℕ). j ∷ js) here (walk-is-nodes-reversed ls n x y (omega arith))
     ∙ ap (λ (i : ℕ). (getD row i 0 + x / 2 ^ i) ∷ reverse (nodesOver (take i row) x)) (sym e)
     ∙ sym on
 
-walk-is : (w h leaf : ℕ) → leaf < w * h → walkDown w h leaf ≡ reverse (pathToRoot w h leaf)
+walk-is-climb-reversed : (w h leaf : ℕ) → leaf < w * h → walkDown w h leaf ≡ reverse (pathToRoot w h leaf)
 unfolding walkDown
-walk-is w h leaf l =
+walk-is-climb-reversed w h leaf l =
     let ls : List Level = levels w h in
     let x : ℕ = leaf % w in
     let y : ℕ = leaf / w in
     let row : List ℕ = rowFrom ls 0 y in
-    walk-reversed ls (length ls) x y (omega arith)
+    walk-is-nodes-reversed ls (length ls) x y (omega arith)
     ∙ ap (λ (d : ℕ). reverse (nodesOver (take d row) x)) (sym (row-length ls 0 y))
     ∙ ap (λ (js : List ℕ). reverse (nodesOver js x)) (take-length row)
     ∙ ap reverse (nodes-are ls 0 x y)
@@ -56,22 +56,23 @@ walk-is w h leaf l =
 
 -- ---- it begins at the root
 
--- a path through levels that end in one node ends there
+-- a path, and its last node, the last of all
 record Ends (ls : List Level) (n x y : ℕ) : Type 0 where
   front : List ℕ
   last : ℕ
   are : pathFrom ls n x y ≡ front ++ (last ∷ [])
   isLast : last + 1 ≡ n + nodesIn ls
 
-path-ends : (ls : List Level) (w h n x y : ℕ) → Halves w h ls → EndsInOneNode ls → x < w → y < h → Ends ls n x y
+-- where the last level has one node
+path-ends-at-root : (ls : List Level) (w h n x y : ℕ) → Halves w h ls → EndsInOneNode ls → x < w → y < h → Ends ls n x y
 unfolding pathFrom nodesIn
-path-ends [] w h n x y v e hx hy = absurd e
-path-ends (l ∷ []) w h n x y v e hx hy =
+path-ends-at-root [] w h n x y v e hx hy = absurd e
+path-ends-at-root (l ∷ []) w h n x y v e hx hy =
     let one : l .w * l .h ≡ 1 = rw (e .0, e .1) refl in
     let first : y ≡ 0 = omega (arith, v .1, e .1) in
     record { front = []; last = n + y * l .w + x; are = refl; isLast = rw first (omega (arith, v .0, e .0)) }
-path-ends (l ∷ k ∷ ks) w h n x y v e hx hy =
-    let r = path-ends (k ∷ ks) ((w + 1) / 2) ((h + 1) / 2) (n + size l) (x / 2) (y / 2) (v .2) e (omega arith) (omega arith) in
+path-ends-at-root (l ∷ k ∷ ks) w h n x y v e hx hy =
+    let r = path-ends-at-root (k ∷ ks) ((w + 1) / 2) ((h + 1) / 2) (n + size l) (x / 2) (y / 2) (v .2) e (omega arith) (omega arith) in
     record {
       front = (n + y * l .w + x) ∷ r .front;
       last = r .last;
@@ -79,14 +80,16 @@ path-ends (l ∷ k ∷ ks) w h n x y v e hx hy =
       isLast = omega (arith, r .isLast);
     }
 
-walk-begins : (w h leaf : ℕ) → w ≤ 64 → h ≤ 64 → leaf < w * h → take 1 (walkDown w h leaf) ≡ (nodes w h - 1) ∷ []
+walk-begins-at-root : (w h leaf : ℕ) → w ≤ 64 → h ≤ 64 → leaf < w * h → take 1 (walkDown w h leaf) ≡ (nodes w h - 1) ∷ []
 unfolding nodes levels
-walk-begins w h leaf a b l =
+walk-begins-at-root w h leaf a b l =
     let hx = column-below leaf w h l in
     let hy = row-below leaf w h l in
     let one = levels-end-in-one-node w h (omega arith) a (omega arith) b in
-    let r = path-ends (levels w h) w h 0 (leaf % w) (leaf / w) (levels-halve 7 w h) one hx hy in
-    ap (take 1) (walk-is w h leaf l ∙ ap reverse (path-by-place w h leaf l ∙ r .are) ∙ reverse-append (r .front) (r .last ∷ []))
+    let r = path-ends-at-root (levels w h) w h 0 (leaf % w) (leaf / w) (levels-halve 7 w h) one hx hy in
+    ap (take 1) (walk-is-climb-reversed w h leaf l)
+    ∙ ap (λ (js : List ℕ). take 1 (reverse js)) (path-by-place w h leaf l ∙ r .are)
+    ∙ ap (take 1) (reverse-append (r .front) (r .last ∷ []))
     ∙ ap (λ (j : ℕ). j ∷ []) (omega (arith, r .isLast))
 
 -- ---- all of it
@@ -95,8 +98,8 @@ pub every-walk-is-climb : EveryWalkIsClimb
 every-walk-is-climb w h leaf others a b l =
     let met = path-is w h (levels w h ++ others) (length (levels w h)) (tree-levels w h others) leaf l in
     record {
-      lastFirst = walk-is w h leaf l;
-      root = walk-begins w h leaf a b l;
-      coded = ap reverse met ∙ sym (walk-is w h leaf l);
+      lastFirst = walk-is-climb-reversed w h leaf l;
+      root = walk-begins-at-root w h leaf a b l;
+      coded = ap reverse met ∙ sym (walk-is-climb-reversed w h leaf l);
       set = met;
     }
