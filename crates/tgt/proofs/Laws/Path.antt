@@ -27,6 +27,9 @@ module _ (row : List ℕ) (depth x i : ℕ) (long : depth ≤ length row) (here 
       ∙ ap (λ (z : ℕ). (getD row i 0 + x / 2 ^ i) ∷ nodesOver (drop (suc i) (take depth row)) z) (shr-shr x i 1)
       ∙ ap (λ (j : ℕ). (getD row i 0 + x / 2 ^ i) ∷ nodesOver (drop j (take depth row)) (x / 2 ^ (i + 1))) e
 
+pub halved-before : (x i : ℕ) → x / 2 / 2 ^ i ≡ x / 2 ^ suc i
+halved-before x i = shr-shr x 1 i ∙ ap (λ (z : ℕ). x / 2 ^ z) (omega arith)
+
 -- the last of i + 1
 last-node : (row : List ℕ) (i x : ℕ) → i < length row → nodesOver (take (suc i) row) x
     ≡ nodesOver (take i row) x ++ ((getD row i 0 + x / 2 ^ i) ∷ [])
@@ -34,9 +37,8 @@ unfolding nodesOver
 last-node [] i x h = absurd (omega arith)
 last-node (n ∷ ns) zero x h = ap (λ (z : ℕ). (n + z) ∷ []) (omega arith)
 last-node (n ∷ ns) (suc i) x h =
-    let e : x / 2 / 2 ^ i ≡ x / 2 ^ suc i = shr-shr x 1 i ∙ ap (λ (z : ℕ). x / 2 ^ z) (omega arith) in
     ap (λ (js : List ℕ). (n + x) ∷ js)
-    (last-node ns i (x / 2) (omega arith) ∙ ap (λ (z : ℕ). nodesOver (take i ns) (x / 2) ++ ((getD ns i 0 + z) ∷ [])) e)
+    (last-node ns i (x / 2) (omega arith) ∙ ap (λ (z : ℕ). nodesOver (take i ns) (x / 2) ++ ((getD ns i 0 + z) ∷ [])) (halved-before x i))
 
 pub node-down : (row : List ℕ) (i x : ℕ) → 0 < i → i ≤ length row
     → reverse (nodesOver (take i row) x) ≡ (getD row (i - 1) 0 + x / 2 ^ (i - 1)) ∷ reverse (nodesOver (take (i - 1) row) x)
@@ -75,8 +77,7 @@ all-at P [] depth x i h l a = absurd (omega arith)
 all-at P (n ∷ ns) zero x i h l a = absurd (omega arith)
 all-at P (n ∷ ns) (suc d) x zero h l a = subst (λ (z : ℕ). P (n + z)) (omega arith) (a .0)
 all-at P (n ∷ ns) (suc d) x (suc i) h l a =
-    subst (λ (z : ℕ). P (getD ns i 0 + z)) (shr-shr x 1 i ∙ ap (λ (z : ℕ). x / 2 ^ z) (omega arith))
-    (all-at P ns d (x / 2) i (omega arith) (omega arith) (a .1))
+    subst (λ (z : ℕ). P (getD ns i 0 + z)) (halved-before x i) (all-at P ns d (x / 2) i (omega arith) (omega arith) (a .1))
 
 -- and the first is the leaf
 first-node : (row : List ℕ) (depth x j : ℕ) (js : List ℕ) → depth ≤ length row → nodesOver (take depth row) x ≡ j ∷ js → (0 < depth)

@@ -4,7 +4,6 @@ use mathlib.Core.List.{List, [], _∷_, _++_, reverse, reverse-append}
 use Prim.Native.Nat.{ℕ, zero, suc, _+_, _-_, _*_, _/_, _%_, _^_, _≤_, _<_}
 use native.Mathlib.Omega.{arith}
 use lib.ListN.{length, getD, take}
-use lib.Pow.{shr-shr}
 use lib.Seq.{take-length}
 use Rattle.t800.specs.declared.Level.{Level}
 use Rattle.t800.specs.TagTree.{noLevel, nodesIn, levels, nodes, pathToRoot}
@@ -12,7 +11,7 @@ use Rattle.t800_laws.proofs.Laws.Levels.{EndsInOneNode, levels-end-in-one-node}
 use Rattle.t800_laws.proofs.Laws.Paths.{size, Halves, levels-halve, row-below, column-below, pathFrom, path-by-place}
 use Rattle.tgt.specs.Path.{rowFrom, nodesOver}
 use Rattle.tgt.specs.Walk.{nodeOn, walkFrom, walkDown, EveryWalkIsClimb}
-use Rattle.tgt.proofs.Laws.Path.{node-down, row-length, nodes-are, tree-levels, path-is}
+use Rattle.tgt.proofs.Laws.Path.{halved-before, node-down, row-length, nodes-are, tree-levels, path-is}
 
 -- ---- the walk is the climb reversed
 
@@ -24,9 +23,8 @@ row-at (l ∷ ls) n y zero h =
     let e : y ≡ y / 2 ^ 0 = omega arith in
     ap (λ (z : ℕ). n + z * l .w) e ∙ omega arith
 row-at (l ∷ ls) n y (suc i) h =
-    let e : y / 2 / 2 ^ i ≡ y / 2 ^ suc i = shr-shr y 1 i ∙ ap (λ (z : ℕ). y / 2 ^ z) (omega arith) in
     row-at ls (n + size l) (y / 2) i (omega arith)
-    ∙ ap (λ (z : ℕ). n + size l + nodesIn (take i ls) + z * getD ls i noLevel .w) e
+    ∙ ap (λ (z : ℕ). n + size l + nodesIn (take i ls) + z * getD ls i noLevel .w) (halved-before y i)
     ∙ omega arith
 
 walk-is-nodes-reversed : (ls : List Level) (n x y : ℕ) → n ≤ length ls → walkFrom ls n x y ≡ reverse (nodesOver (take n (rowFrom ls 0 y)) x)
