@@ -13,15 +13,17 @@ use Rattle.t800.specs.declared.Bio.{Bio}
 use Rattle.t800.specs.declared.Markers.{Markers}
 use Rattle.t800.specs.Refusals.{Check, check, firstOf, listRefusal, stateRefusal, spaceRefusal}
 use Rattle.t800.specs.Reports.{reportWidth, RecordForm}
+use Rattle.t800.specs.TagTree.{Coded}
 use Rattle.t800.specs.State.{Block, notYetIncluded, writer, reader, layer, bands, blocks}
 use Rattle.t800.specs.Ranges.{validStateWith}
-use Rattle.t800.specs.WriteHeader.{Contribution, codeHeader, fieldTooWide}
+use Rattle.t800.specs.WriteHeader.{Contribution, contributes, codePresent, codeAbsent, codeHeader, fieldTooWide}
 use Rattle.t800.specs.ReadHeader.{HeaderRead}
 use Rattle.t800.specs.MarkerSegments.{MarkerRead, readSop}
 use Rattle.t800.specs.Packet.{stateChecksWith, measureChecksWith, measureRefusalWith, front, MeasureResult, measureWith, packet}
 use Rattle.t800.specs.Packet.{packetChecks, writeRefusalWith, WriteResult, writeWith, readRefusalWith, firstBit, headerOf, ReadResult}
 use Rattle.t800.specs.Packet.{readAbsent, readPresent, readWith}
 use Rattle.t800.specs.FewerLayers.{crateLayers, replaced, replacedIfAccepted, MeasuresAlike, WritesAlike, ReadsAlike, AgreeBelow}
+use Rattle.t800_laws.proofs.Laws.Tests.{either}
 use Rattle.t800_laws.proofs.Laws.Layout.{layoutOf, AllPlaced, blocks-placed}
 use Rattle.t800_laws.proofs.Laws.Kept.{Kept, kept, bands-kept-then-layer}
 use Rattle.t800_laws.proofs.Laws.HeaderKept.{header-coded, header-read}
@@ -77,8 +79,10 @@ module _ (m n : ℕ) (more : m ≤ n) (ws scratch : List ℕ) (below : layer ws 
   front-same p k number = rw (header-replaced m n more ws below p)
 
   bands-after : (p : Contribution) → bands (codeHeader p ws .words) ≡ bs
-  unfolding codeHeader
-  bands-after p = bands-kept-then-layer (layer ws + 1) (header-coded p ws)
+  unfolding codeHeader codePresent codeAbsent
+  bands-after p =
+      either (λ (x : Coded). bands (x .words) ≡ bs) (contributes p) _ _ (bands-kept-then-layer (layer ws + 1) (header-coded p ws))
+      (bands-kept-then-layer (layer ws + 1) (kept 13))
 
   -- the words after a header that is written
   after-replaced : (p : Contribution) → codeHeader p vs .words ≡ replaced m n (codeHeader p ws .words)

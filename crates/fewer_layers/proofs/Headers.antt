@@ -15,7 +15,7 @@ use Rattle.t800.specs.TagTree.{setValue, PathRead, readPath}
 use Rattle.t800.specs.Segments.{Segment, segmentsOf, width}
 use Rattle.t800.specs.State.{Block, notYetPlanes, blocks, bands, layer, passesSoFar, lengthBits}
 use Rattle.t800.specs.WriteHeader.{Contribution, isNew, lengthBitsBefore, setNewBlocks, codeInclusion, codeZeroPlanes, codePasses}
-use Rattle.t800.specs.WriteHeader.{codeBlock, codeBlocks, codeHeader}
+use Rattle.t800.specs.WriteHeader.{codeBlock, codeBlocks, contributes, codePresent, codeAbsent, codeHeader}
 use Rattle.t800.specs.ReadHeader.{HeaderRead, refused, movedTo, opensSegment, currentLimit, currentPasses, passesTaken, readSegment}
 use Rattle.t800.specs.ReadHeader.{readSegments, readZeroPlanesFrom, readZeroPlanes, readIncluded, readNewBlock, readOldBlock, readBlock}
 use Rattle.t800.specs.ReadHeader.{readBlocks, readHeader}
@@ -303,9 +303,9 @@ module _ (m n : ℕ) (more : m ≤ n) (ws : List ℕ) (below : layer ws < m) whe
   abbrev vs : List ℕ
   vs = replacedWords m n bs ws
 
-  pub header-replaced : (p : Contribution) → codeHeader p vs ≡ replacedCoded m n bs (codeHeader p ws)
-  unfolding codeHeader
-  header-replaced p =
+  present-replaced : (p : Contribution) → codePresent p vs ≡ replacedCoded m n bs (codePresent p ws)
+  unfolding codePresent
+  present-replaced p =
       let now : ℕ = layer ws in
       let ks : List Block = blocks bs in
       let after : List ℕ = setNewBlocks now ks (p .counts) ws in
@@ -316,6 +316,15 @@ module _ (m n : ℕ) (more : m ≤ n) (ws : List ℕ) (below : layer ws < m) whe
         blocks-replaced m n more bs now below ks (p .counts) (p .lengths) (p .marks) after (blocks-placed bs),
         stays-set m n bs (codeBlocks now ks (p .counts) (p .lengths) (p .marks) after .words) 3 (now + 1) (first-stays bs 3 (omega arith)),
       )
+
+  absent-replaced : codeAbsent vs ≡ replacedCoded m n bs (codeAbsent ws)
+  unfolding codeAbsent
+  absent-replaced = rw (first-same m n bs ws 3 (omega arith), stays-set m n bs ws 3 (layer ws + 1) (first-stays bs 3 (omega arith)))
+
+  pub header-replaced : (p : Contribution) → codeHeader p vs ≡ replacedCoded m n bs (codeHeader p ws)
+  unfolding codeHeader
+  header-replaced p =
+      choice-of (replacedCoded m n bs) (contributes p) (contributes p) _ _ _ _ refl (present-replaced p) absent-replaced
 
   pub header-read-replaced : (src : List ℕ) (room : ℕ) (b : Bio)
       → readHeader src room vs b ≡ replacedHeader m n bs (readHeader src room ws b)

@@ -19,6 +19,7 @@ pub mod ValidStates
 pub mod Header
 pub mod FewerRecords
 pub mod Packet
+pub mod AbsentPacket
 pub mod Lists
 pub mod Calls
 pub mod Start

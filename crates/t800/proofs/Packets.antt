@@ -47,6 +47,10 @@ put n cs ls ms room why bytes =
 abbrev puts : ℕ → List ℕ → List ℕ → List ℕ → List ℕ → Step
 puts n cs ls ms bytes = put n cs ls ms (length bytes + sum ls) 0 bytes
 
+-- k blocks without passes
+abbrev puts-none : ℕ → ℕ → Step
+puts-none n k = puts n (copies k 0) [] [] (0x00 ∷ [])
+
 -- a read of k blocks with n scratch words and five records
 abbrev get : ℕ → ℕ → List ℕ → List ℕ → List ℕ → List ℕ → Step
 get n k src answer reports records =
@@ -55,6 +59,10 @@ get n k src answer reports records =
 -- the answer of a packet without markers: present, bytes taken, segments
 abbrev told : ℕ → ℕ → ℕ → List ℕ
 told present taken segments = 0 ∷ present ∷ taken ∷ segments ∷ 0 ∷ 0 ∷ []
+
+-- k blocks of an absent packet
+abbrev gets-none : ℕ → ℕ → Step
+gets-none n k = get n k (0x00 ∷ []) (told 0 1 0) (copies (4 * k) 0) []
 
 abbrev no : ℕ → List ℕ
 no why = why ∷ 0 ∷ 0 ∷ 0 ∷ 0 ∷ 0 ∷ []
@@ -114,11 +122,11 @@ a-to-l =
     ∷ one (get 23 1 (0xfe ∷ 0xad ∷ 0xff ∷ []) (no 12) [] [] ∷ [])
     -- F, G, H
     ∷ one
-    (puts 23 (0 ∷ []) [] [] (0x80 ∷ []) ∷ holds-writer (words 1 0 1 (node notYetIncluded 1 0) (node 0 0 0) (block 0 0 0 0))
-    ∷ get 23 1 (0x80 ∷ []) (told 1 1 0) (copies 4 0) [] ∷ holds-reader (words 2 0 1 (node notYetIncluded 1 0) fresh-planes (block 0 0 0 0))
+    (puts-none 23 1 ∷ holds-writer (words 1 0 1 fresh-included (node 0 0 0) (block 0 0 0 0))
+    ∷ gets-none 23 1 ∷ holds-reader (unread 1)
     ∷ [])
     ∷ one (get 23 1 [] (told 0 0 0) (copies 4 0) [] ∷ holds-reader (unread 1) ∷ [])
-    ∷ one (get 23 1 (0x00 ∷ []) (told 0 1 0) (copies 4 0) [] ∷ holds-reader (unread 1) ∷ [])
+    ∷ one (gets-none 23 1 ∷ holds-reader (unread 1) ∷ [])
     -- I: A with both markers, number 65,537
     ∷ one
     (writes
@@ -143,11 +151,11 @@ a-to-l =
     ∷ [])
     -- J: absent in layer 0, then 1 pass of 5, then 1 pass of 3
     ∷ one
-    (puts 23 (0 ∷ []) [] [] (0x80 ∷ [])
-    ∷ puts 23 (1 ∷ []) (5 ∷ []) (0 ∷ []) (0xe5 ∷ [])
+    (puts-none 23 1
+    ∷ puts 23 (1 ∷ []) (5 ∷ []) (0 ∷ []) (0xb2 ∷ 0x80 ∷ [])
     ∷ puts 23 (1 ∷ []) (3 ∷ []) (0 ∷ []) (0xc6 ∷ [])
-    ∷ get 23 1 (0x80 ∷ []) (told 1 1 0) (copies 4 0) []
-    ∷ get 23 1 (0xe5 ∷ []) (told 1 1 1) (1 ∷ 0 ∷ 5 ∷ 1 ∷ []) (0 ∷ 1 ∷ 1 ∷ 5 ∷ [])
+    ∷ gets-none 23 1
+    ∷ get 23 1 (0xb2 ∷ 0x80 ∷ []) (told 1 2 1) (1 ∷ 0 ∷ 5 ∷ 1 ∷ []) (0 ∷ 1 ∷ 1 ∷ 5 ∷ [])
     ∷ get 23 1 (0xc6 ∷ []) (told 1 1 1) (2 ∷ 0 ∷ 0 ∷ 1 ∷ []) (0 ∷ 0 ∷ 1 ∷ 3 ∷ [])
     ∷ [])
     -- K: two blocks across, zero planes 0 and 1
@@ -336,7 +344,7 @@ read-rows =
 -- ---- the ranges of refusal 5: each state has one word out of range and is looked at by a call that has nothing else wrong
 
 -- a state of n blocks by the role of a reader, 2, or a writer, 1: a read of the packet 80, which is present and in which no block is
--- included, or a write of it, gives 5
+-- included, or a write of a packet without passes, gives 5
 abbrev looks : ℕ → ℕ → List ℕ → List Step
 looks role n ws =
     let reads5 : List Step = loads-reader ws ∷ reading (length ws) (4 * n) 0 (0x80 ∷ []) 5 ∷ [] in
@@ -347,7 +355,7 @@ looks role n ws =
 abbrev accepts : ℕ → ℕ → List ℕ → List Step
 accepts role n ws =
     let got : List Step = loads-reader ws ∷ get (length ws) n (0x80 ∷ []) (told 1 1 0) (copies (4 * n) 0) [] ∷ [] in
-    let made : List Step = loads-writer ws ∷ puts (length ws) (copies n 0) [] [] (0x80 ∷ []) ∷ [] in
+    let made : List Step = loads-writer ws ∷ puts-none (length ws) n ∷ [] in
     cond (eqb role 2) got made
 
 abbrev steps-of : (List ℕ → List Step) → List (List ℕ) → List Step
@@ -546,10 +554,10 @@ marker-rows =
       style = 0;
       steps =
           -- no, one or both markers; the low 16 bits of the number
-          stamps plain 0x12345678 (0x80 ∷ [])
-          ∷ stamps sop-only 0x12345678 (0xff ∷ 0x91 ∷ 0x00 ∷ 0x04 ∷ 0x56 ∷ 0x78 ∷ 0x80 ∷ [])
-          ∷ stamps eph-only 0x12345678 (0x80 ∷ 0xff ∷ 0x92 ∷ [])
-          ∷ stamps marked 0x12345678 (0xff ∷ 0x91 ∷ 0x00 ∷ 0x04 ∷ 0x56 ∷ 0x78 ∷ 0x80 ∷ 0xff ∷ 0x92 ∷ [])
+          stamps plain 0x12345678 (0x00 ∷ [])
+          ∷ stamps sop-only 0x12345678 (0xff ∷ 0x91 ∷ 0x00 ∷ 0x04 ∷ 0x56 ∷ 0x78 ∷ 0x00 ∷ [])
+          ∷ stamps eph-only 0x12345678 (0x00 ∷ 0xff ∷ 0x92 ∷ [])
+          ∷ stamps marked 0x12345678 (0xff ∷ 0x91 ∷ 0x00 ∷ 0x04 ∷ 0x56 ∷ 0x78 ∷ 0x00 ∷ 0xff ∷ 0x92 ∷ [])
           ∷ [];
     }
     ∷ record {
@@ -744,7 +752,7 @@ slip-rows =
       given = band 0 0 5 ∷ [];
       planes = [];
       style = 0;
-      steps = puts 13 [] [] [] (0x80 ∷ []) ∷ get 13 0 (0x80 ∷ []) (told 1 1 0) [] [] ∷ [];
+      steps = puts-none 13 0 ∷ gets-none 13 0 ∷ get 13 0 (0x80 ∷ []) (told 1 1 0) [] [] ∷ [];
     }
     ∷ []
 
@@ -828,10 +836,32 @@ to-write t from = words 1 0 t (node 65535 from 0) (node 0 0 0) (block 0 0 0 0)
 abbrev to-read : ℕ → ℕ → List ℕ
 to-read t from = words 2 0 t (node 65535 from 0) (node 999 0 0) (block 0 0 0 0)
 
--- a packet of the layer t in which the block is not included: one 0
-abbrev absent-at : ℕ → List Step
-absent-at t =
-    loads-writer (to-write t t) ∷ puts 23 (0 ∷ []) [] [] (0x80 ∷ []) ∷ holds-writer (to-write (t + 1) (t + 1))
+-- that block in one band, whose inclusion node this is, and in another a block with so many passes in earlier layers
+abbrev with-another : ℕ → ℕ → List ℕ → List ℕ → List ℕ → List ℕ
+with-another role t incl zero other =
+    role ∷ 2 ∷ 0 ∷ t ∷ 1 ∷ 1 ∷ 5 ∷ 1 ∷ 1 ∷ 5 ∷ copies 3 0 ++ incl ++ zero ++ block 0 0 0 0 ++ node 0 0 1 ++ node 0 0 1 ++ other
+
+-- the writer's, and the other block's next pass, of 5 bytes, behind what that node puts
+abbrev writer-at : ℕ → List ℕ → ℕ → List ℕ
+writer-at t incl passes = with-another 1 t incl (node 0 0 0) (block passes 3 0 0)
+
+abbrev puts-other : List ℕ → Step
+puts-other bytes = puts 33 (0 ∷ 1 ∷ []) (5 ∷ []) (0 ∷ []) bytes
+
+-- a packet of the layer t in which the block is not included: one 0, or a single bit where nothing is
+abbrev written-absent : ℕ → List Step
+written-absent t =
+    loads-writer (writer-at t (node 65535 t 0) 1) ∷ puts-other (0xa5 ∷ []) ∷ holds-writer (writer-at (t + 1) (node 65535 (t + 1) 0) 2)
+    ∷ loads-writer (to-write t t) ∷ puts-none 23 1 ∷ holds-writer (to-write (t + 1) t)
+    ∷ []
+
+-- read, and where nothing is included that 0 behind a 1 too
+abbrev read-absent : ℕ → List Step
+read-absent t =
+    loads-reader (with-another 2 t (node 65535 t 0) (node 999 0 0) (block 1 3 109 1))
+    ∷ get 33 2 (0xa5 ∷ []) (told 1 1 1) (0 ∷ 0 ∷ 0 ∷ 0 ∷ 2 ∷ 0 ∷ 0 ∷ 1 ∷ []) (1 ∷ 0 ∷ 1 ∷ 5 ∷ [])
+    ∷ holds-reader (with-another 2 (t + 1) (node 65535 (t + 1) 0) (node 999 0 0) (block 2 3 109 2))
+    ∷ loads-reader (to-read t t) ∷ gets-none 23 1 ∷ holds-reader (to-read (t + 1) t)
     ∷ loads-reader (to-read t t) ∷ get 23 1 (0x80 ∷ []) (told 1 1 0) (copies 4 0) [] ∷ holds-reader (to-read (t + 1) (t + 1))
     ∷ []
 
@@ -847,9 +877,7 @@ included-at t =
 -- a node's value is the layer v, in the layer t: written for a block without passes, and what holds then
 abbrev value-at : ℕ → ℕ → ℕ → List ℕ → List ℕ → List Step
 value-at v t from bytes after =
-    loads-writer (words 1 0 t (node v from 0) (node 0 0 0) (block 0 0 0 0)) ∷ puts 23 (0 ∷ []) [] [] bytes
-    ∷ holds-writer (words 1 0 (t + 1) after (node 0 0 0) (block 0 0 0 0))
-    ∷ []
+    loads-writer (writer-at t (node v from 0) 1) ∷ puts-other bytes ∷ holds-writer (writer-at (t + 1) after 2) ∷ []
 
 -- a write and a read of the one block that have nothing else wrong
 abbrev puts-no : ℕ → Step
@@ -864,20 +892,21 @@ a-thousand = 0x80 ∷ copies 124 0 ++ 0x65 ∷ []
 
 pub layer-rows : List Row
 layer-rows =
-    one (absent-at 998 ++ absent-at 999 ++ absent-at 1000 ++ absent-at 65533)
+    one (written-absent 998 ++ written-absent 999 ++ written-absent 1000 ++ written-absent 65533)
+    ∷ one (read-absent 998 ++ read-absent 999 ++ read-absent 1000 ++ read-absent 65533)
     ∷ one (included-at 998)
     ∷ one (included-at 999)
     ∷ one (included-at 1000)
     ∷ one (included-at 65534)
     -- the last layer absent; after it 6, and one more is out of range
     ∷ one
-    (absent-at 65534
+    (read-absent 65534 ++ written-absent 65534
     ++ puts-no 6 ∷ gets-no 6 ∷ loads-writer (to-write 65536 65535) ∷ puts-no 5 ∷ loads-reader (to-read 65536 65535) ∷ gets-no 5 ∷ [])
     -- values between 998 and 65535 are layers: up to theirs a 0, and in theirs a 1
-    ∷ one (value-at 998 998 998 (0xc0 ∷ []) (node 998 998 1) ++ value-at 999 998 998 (0x80 ∷ []) (node 999 999 0))
-    ∷ one (value-at 999 999 999 (0xc0 ∷ []) (node 999 999 1) ++ value-at 1000 999 999 (0x80 ∷ []) (node 1000 1000 0))
-    ∷ one (value-at 1000 1000 999 (0xa0 ∷ []) (node 1000 1000 1) ++ value-at 65534 65533 65533 (0x80 ∷ []) (node 65534 65534 0))
-    ∷ one (value-at 65534 65534 65534 (0xc0 ∷ []) (node 65534 65534 1) ++ value-at 65535 65534 65535 (0x80 ∷ []) (node 65535 65535 0))
+    ∷ one (value-at 998 998 998 (0xe5 ∷ []) (node 998 998 1) ++ value-at 999 998 998 (0xa5 ∷ []) (node 999 999 0))
+    ∷ one (value-at 999 999 999 (0xe5 ∷ []) (node 999 999 1) ++ value-at 1000 999 999 (0xa5 ∷ []) (node 1000 1000 0))
+    ∷ one (value-at 1000 1000 999 (0xb2 ∷ 0x80 ∷ []) (node 1000 1000 1) ++ value-at 65534 65533 65533 (0xa5 ∷ []) (node 65534 65534 0))
+    ∷ one (value-at 65534 65534 65534 (0xe5 ∷ []) (node 65534 65534 1) ++ value-at 65535 65534 65535 (0xca ∷ []) (node 65535 65535 0))
     -- a reader's node of value 999 in that layer: the block is included and no bit of the inclusion tree is read
     ∷ one
     (loads-reader (words 2 0 999 (node 999 999 0) (node 0 0 0) (block 0 0 0 0))
@@ -924,13 +953,74 @@ tree-rows =
     ∷ [])
     ∷ []
 
+-- ---- packets without passes: a single 0, and only the next layer moves
+
+-- a packet of the one block with both markers
+abbrev stamped : ℕ → List ℕ → List ℕ
+stamped number header = 0xff ∷ 0x91 ∷ 0x00 ∷ 0x04 ∷ 0x00 ∷ number ∷ header ++ 0xff ∷ 0x92 ∷ []
+
+abbrev puts-stamped : ℕ → List ℕ → List ℕ → List ℕ → Step
+puts-stamped number cs ls header =
+    writes
+    (record {
+      contribution = contribution cs ls (copies (sum cs) 0);
+      markers = marked;
+      number = number;
+      scratch = 23;
+      body = sum ls;
+      output = 8 + length header + sum ls;
+    }) 0
+    (stamped number header)
+
+abbrev gets-stamped : ℕ → List ℕ → ℕ → List ℕ → List ℕ → Step
+gets-stamped number header present reports records =
+    reads (record { markers = marked; input = stamped number header; scratch = 23; reports = 4; records = 4 })
+    (told present (8 + length header) present) reports records
+
+-- a writer of two blocks in a row with zero planes 0 and 1, of which nothing was coded
+abbrev two-uncoded : ℕ → List ℕ
+two-uncoded t =
+    1 ∷ 1 ∷ 0 ∷ t ∷ 2 ∷ 1 ∷ 5 ∷ copies 6 0 ++ uncoded (copies 3 notYetIncluded) ++ uncoded (0 ∷ 1 ∷ 0 ∷ []) ++ copies 8 0
+
+pub empty-rows : List Row
+empty-rows =
+    -- J with both markers
+    one
+    (puts-stamped 0 (0 ∷ []) [] (0x00 ∷ [])
+    ∷ puts-stamped 1 (1 ∷ []) (5 ∷ []) (0xb2 ∷ 0x80 ∷ [])
+    ∷ puts-stamped 2 (1 ∷ []) (3 ∷ []) (0xc6 ∷ [])
+    ∷ gets-stamped 0 (0x00 ∷ []) 0 (copies 4 0) []
+    ∷ gets-stamped 1 (0xb2 ∷ 0x80 ∷ []) 1 (1 ∷ 0 ∷ 5 ∷ 1 ∷ []) (0 ∷ 1 ∷ 1 ∷ 5 ∷ [])
+    ∷ gets-stamped 2 (0xc6 ∷ []) 1 (2 ∷ 0 ∷ 0 ∷ 1 ∷ []) (0 ∷ 0 ∷ 1 ∷ 3 ∷ [])
+    ∷ [])
+    -- 11 without a byte of output; behind passes, the block's words and nodes stay
+    ∷ one
+    (put 23 (0 ∷ []) [] [] 0 11 []
+    ∷ loads-writer (wrote 1 4) ∷ puts-none 23 1 ∷ holds-writer (wrote 2 4)
+    ∷ [])
+    -- two of two blocks; then the first block comes, then the second
+    ∷ precinct 2 0 (5 ∷ 4 ∷ [])
+    (puts-none 39 2 ∷ holds-writer (two-uncoded 1) ∷ puts-none 39 2 ∷ holds-writer (two-uncoded 2)
+    ∷ puts 39 (1 ∷ 0 ∷ []) (5 ∷ []) (0 ∷ []) (0x9e ∷ 0x50 ∷ [])
+    ∷ puts 39 (0 ∷ 1 ∷ []) (5 ∷ []) (0 ∷ []) (0xa9 ∷ 0x40 ∷ [])
+    ∷ gets-none 39 2 ∷ gets-none 39 2
+    ∷ get 39 2 (0x9e ∷ 0x50 ∷ []) (told 1 2 1) (1 ∷ 0 ∷ 5 ∷ 1 ∷ copies 4 0) (0 ∷ 1 ∷ 1 ∷ 5 ∷ [])
+    ∷ get 39 2 (0xa9 ∷ 0x40 ∷ []) (told 1 2 1) (copies 4 0 ++ 1 ∷ 1 ∷ 4 ∷ 1 ∷ []) (1 ∷ 1 ∷ 1 ∷ 5 ∷ [])
+    ∷ [])
+    -- coded block by block it is read too: a 1 and one 0
+    ∷ one
+    (get 23 1 (0x80 ∷ []) (told 1 1 0) (copies 4 0) [] ∷ holds-reader (words 2 0 1 (node notYetIncluded 1 0) fresh-planes (block 0 0 0 0))
+    ∷ [])
+    ∷ []
+
 pub rows : List Row
 rows =
     a-to-l ++ start-rows ++ write-rows ++ read-rows ++ range-rows ++ marker-rows ++ slip-rows ++ segment-rows ++ layer-rows ++ tree-rows
+    ++ empty-rows
 
 -- ---- the statement: no row fails
 
 pub all-rows-hold : failing 0 rows ≡ []
-unfolding rows a-to-l start-rows write-rows read-rows range-rows marker-rows slip-rows segment-rows layer-rows tree-rows failing
-    rowHolds
+unfolding rows a-to-l start-rows write-rows read-rows range-rows marker-rows slip-rows segment-rows layer-rows tree-rows
+    empty-rows failing rowHolds
 all-rows-hold = refl

@@ -26,7 +26,8 @@ use Rattle.t800.specs.Start.{freshNodes, freshBlocks, freshBandsWith, ba
 use Rattle.t800.specs.Start.{startWith}
 use Rattle.t800.specs.Reports.{recordWidth, reportWords, recordWords, bodyBytes, RecordForm, asRecords, asWords}
 use Rattle.t800.specs.WriteHeader.{Contribution, isNew, lengthBitsBefore, setNewBlocks, codeInclusion, codeZeroPlanes}
-use Rattle.t800.specs.WriteHeader.{codePasses, codeBlock, codeBlocks, codeHeader, segmentTooLong, fieldTooWide}
+use Rattle.t800.specs.WriteHeader.{codePasses, codeBlock, codeBlocks, contributes, codePresent, codeAbsent, codeHeader}
+use Rattle.t800.specs.WriteHeader.{segmentTooLong, fieldTooWide}
 use Rattle.t800.specs.ReadHeader.{opensSegment, currentLimit, currentPasses, passesTaken, readSegment, readSegments}
 use Rattle.t800.specs.ReadHeader.{readZeroPlanesFrom, readZeroPlanes, firstReport, againReport, readIncluded, readNewBlock}
 use Rattle.t800.specs.ReadHeader.{readOldBlock, readBlock, readBlocks, readHeader}
@@ -237,8 +238,8 @@ unfolding same sumsFrom recordsWith fields startHolds measureHolds writeHolds li
     commaBits lengthFields readOnes readComma writer reader blocksIn bandNodes bandLength blocksFrom blocksAt endOf blocks stateLength
     bandAt bands badShape badStyle bandTooDeep blockTooDeep nodeInRange blockInRange bandInRangeWith bandsInRangeWith unusedBandsZero
     validStateWith freshNodes freshBlocks freshBandsWith bandWords freshStateWith setZeroPlanes startRefusal startWith reportWords
-    recordWords bodyBytes isNew lengthBitsBefore setNewBlocks codeInclusion codeZeroPlanes codePasses codeBlock codeBlocks codeHeader
-    segmentTooLong fieldTooWide opensSegment currentLimit currentPasses passesTaken readSegment readSegments readZeroPlanesFrom
+    recordWords bodyBytes isNew lengthBitsBefore setNewBlocks codeInclusion codeZeroPlanes codePasses codeBlock codeBlocks contributes
+    codePresent codeAbsent codeHeader segmentTooLong fieldTooWide opensSegment currentLimit currentPasses passesTaken readSegment readSegments readZeroPlanesFrom
     readZeroPlanes firstReport againReport readIncluded readNewBlock readOldBlock readBlock readBlocks readHeader sopBytes ephBytes
     withMarkers readMarker readSop readEph wrongLists measureRefusalWith front measureWith packet writeRefusalWith writeWith
     readRefusalWith readAbsent readPresent readWith opensAt newEntries newBook reportOf recordsFrom recordsOf entryFrom entry addCounts

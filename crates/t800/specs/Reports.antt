@@ -1,4 +1,5 @@
 -- What a read tells of a packet (SCOPE S7), and how it lies in the lent lists.
+use mathlib.Core.Path.{_≡_, refl}
 use Prim.Native.Nat.{ℕ, _+_, _/_}
 use mathlib.Core.List.{List, [], _∷_}
 use lib.ListN.{length, replicate}
@@ -43,7 +44,16 @@ pub record RecordForm : Type 1 where
   pub Lent : Type 0
   pub room : Lent → ℕ
   pub stored : Lent → List SegmentRecord → Lent
+  pub none-stored : (lent : Lent) → stored lent [] ≡ lent
   pub cleared : Lent → Lent
+
+pub none-over {ℓ} : {A : Type ℓ} (lent : List A) → overwrite lent [] ≡ lent
+unfolding overwrite
+none-over lent = refl
+
+pub no-words-over : (lent : Words) → overwrite lent (recordWords []) ≡ lent
+unfolding overwrite recordWords
+no-words-over lent = refl
 
 -- a record of zeros
 abbrev pub noRecord : SegmentRecord
@@ -55,6 +65,7 @@ asRecords = record {
   Lent = List SegmentRecord;
   room = λ lent. length lent;
   stored = λ lent rs. overwrite lent rs;
+  none-stored = none-over;
   cleared = λ lent. replicate (length lent) noRecord;
 }
 
@@ -64,5 +75,6 @@ asWords = record {
   Lent = Words;
   room = λ lent. length lent / recordWidth;
   stored = λ lent rs. overwrite lent (recordWords rs);
+  none-stored = no-words-over;
   cleared = λ lent. wiped lent;
 }

@@ -11,16 +11,18 @@ use Rattle.t800.specs.Base.{Words, Bytes, sum}
 use Rattle.t800.specs.Reports.{reportWidth, reportWords, RecordForm}
 use Rattle.t800.specs.State.{writer, reader}
 use Rattle.t800.specs.Ranges.{validState}
+use Rattle.t800.specs.WriteHeader.{contributes}
 use Rattle.t800.specs.Packet.{WriteResult, ReadResult}
 use Rattle.t800.specs.Interface.{WriteCall, ReadCall, Interface}
 use Rattle.t800.specs.Book.{BlockEntry, Entry, newBook, entry, addCounts, terminatedAsStyle}
 
 -- ---- one packet
 
--- what is owed for an accepted packet: its bytes less the body, its marker settings, and the book's entry
+-- what is owed for an accepted packet: its bytes less the body, its marker settings, whether it is present, and the book's entry
 pub record Owed : Type 0 where
   pub front : Bytes
   pub markers : Markers
+  pub present : ℕ
   pub entry : Entry
 
 -- of a writing call and what it left
@@ -28,6 +30,7 @@ abbrev pub owedFor : (style : ℕ) (book : List BlockEntry) → WriteCall → Wr
 owedFor style book c r = record {
   front = take (r .answer .bytes - sum (c .contribution .lengths)) (r .output);
   markers = c .markers;
+  present = cond (contributes (c .contribution)) 1 0;
   entry = entry style book (c .contribution .counts) (c .contribution .lengths);
 }
 
@@ -43,7 +46,7 @@ pub record ReadsPacket (form : RecordForm) (state : Words) (o : Owed) (c : ReadC
 -- the answer and the lists are the book's entry
 pub record GivesEntry (form : RecordForm) (o : Owed) (c : ReadCall form) (r : ReadResult form) : Type 0 where
   pub accepts : r .answer .refusal ≡ 0
-  pub present : r .answer .present ≡ 1
+  pub present : r .answer .present ≡ o .present
   pub taken : r .answer .taken ≡ length (o .front)
   pub segments : r .answer .segments ≡ length (o .entry .records)
   pub sop-mark : r .answer .sop ≡ 0

@@ -76,13 +76,26 @@ codeBlocks layerNow (k ∷ ks) (c ∷ cs) lens marks state =
     let r = codeBlocks layerNow ks cs (drop c lens) (drop c marks) (b .words) in
     record { bits = b .bits ++ r .bits; words = r .words }
 
--- the header's bits, the first always 1, and the state after the packet
-unfoldable pub codeHeader : Contribution → (state : Words) → Coded
-codeHeader p state =
+-- ---- the header's bits, and the state after the packet
+
+-- whether any block has passes, be they of no bytes
+unfoldable pub contributes : Contribution → Bool
+contributes p = any (λ c. ltb 0 c) (p .counts)
+
+-- a first bit 1, and each block
+unfoldable pub codePresent : Contribution → (state : Words) → Coded
+codePresent p state =
     let layerNow = layer state in
     let ks = blocks (bands state) in
     let r = codeBlocks layerNow ks (p .counts) (p .lengths) (p .marks) (setNewBlocks layerNow ks (p .counts) state) in
     record { bits = 1 ∷ r .bits; words = set (r .words) 3 (layerNow + 1) }
+
+-- a first bit 0 alone, and only the next layer moves
+unfoldable pub codeAbsent : (state : Words) → Coded
+codeAbsent state = record { bits = 0 ∷ []; words = set state 3 (layer state + 1) }
+
+unfoldable pub codeHeader : Contribution → (state : Words) → Coded
+codeHeader p state = cond (contributes p) (codePresent p state) (codeAbsent state)
 
 -- ---- refusals 8 and 9, over all blocks
 

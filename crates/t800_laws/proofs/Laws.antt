@@ -18,6 +18,7 @@ pub mod HeaderSteps
 pub mod Starts
 pub mod Book
 pub mod HeaderKept
+pub mod Contributes
 pub mod StateAfter
 pub mod ManyZeroPlanes
 pub mod Sums

@@ -67,6 +67,41 @@ eph-read : (m : Markers) (src : List ℕ) (p : ℕ) (t : List ℕ) → drop p sr
 unfolding readEph ephBytes
 eph-read m src p t e = marker-read (m .eph) 2 0x92 [] src p t refl e
 
+-- the input begins with a header and its markers: where the header's bytes begin, what follows them, and where EPH ends
+pub record Around (m : Markers) (number : ℕ) (src header : List ℕ) : Type 0 where
+  pub before : ℕ
+  pub sop-is : readSop m src ≡ found before
+  pub tail : List ℕ
+  pub at-header : drop before src ≡ header ++ tail
+  pub after : ℕ
+  pub eph-is : readEph m src (before + length header) ≡ found after
+  pub all : before + length header + after ≡ length (withMarkers m number header)
+
+pub around : (m : Markers) (number : ℕ) (src header : List ℕ) → take (length (withMarkers m number header)) src
+    ≡ withMarkers m number header → Around m number src header
+unfolding withMarkers
+around m number src header e =
+    let A : List ℕ = cond (m .sop) (sopBytes number) [] in
+    let C : List ℕ = cond (m .eph) ephBytes [] in
+    let fr : List ℕ = A ++ header ++ C in
+    let tail : List ℕ = drop (length fr) src in
+    let whole : src ≡ A ++ header ++ C ++ tail = sym (take-append-drop (length fr) src) ∙ ap (λ (z : List ℕ). z ++ tail) e in
+    let from-header : src ≡ A ++ (header ++ (C ++ tail)) = whole ∙ append-assoc (A ++ header) C tail
+    ∙ append-assoc A header (C ++ tail) in
+    let from-eph : src ≡ A ++ header ++ (C ++ tail) = whole ∙ append-assoc (A ++ header) C tail in
+    let at-eph : drop (length A + length header) src
+    ≡ C ++ tail = ap₂ (λ (n : ℕ) (z : List ℕ). drop n z) (sym (length-append A header)) from-eph
+    ∙ drop-append-seam (A ++ header) (C ++ tail) in
+    record {
+      before = length A;
+      sop-is = sop-read m number src (header ++ (C ++ tail)) from-header;
+      tail = C ++ tail;
+      at-header = ap (drop (length A)) from-header ∙ drop-append-seam A (header ++ (C ++ tail));
+      after = length C;
+      eph-is = eph-read m src (length A + length header) tail at-eph;
+      all = sym (length-append (A ++ header) C ∙ ap (λ (z : ℕ). z + length C) (length-append A header));
+    }
+
 -- ---- the call
 
 header-is : (src : List ℕ) (room : ℕ) (rs : List ℕ) (h : Bio) (t : ℕ) (ks : List Block) (us : List ℕ) (end : Bio)
@@ -112,42 +147,21 @@ module _ (L : Layout) (s t : ℕ) (ks : List Block) (f : AllPlaced L ks) (ht : t
 
   -- the input begins with header and markers, and `room` records are lent
   pub record FrontRead (room : ℕ) : Type 0 where
-    pub before : ℕ
-    pub sop-is : readSop m src ≡ found before
-    pub back : HeaderReadBack L s t src room before (length header) ws rs (headerBlocks t ks c ws .words) ks es c
-    pub header-back : readHeader src room rs (bioAfter src (bioAt before))
+    pub place : Around m number src header
+    pub back : HeaderReadBack L s t src room (place .before) (length header) ws rs (headerBlocks t ks c ws .words) ks es c
+    pub header-back : readHeader src room rs (bioAfter src (bioAt (place .before)))
         ≡ readSoFar (back .words) (back .end) (owedEntry .reports) (owedEntry .records)
-    pub after : ℕ
-    pub eph-is : readEph m src (before + length header) ≡ found after
-    pub all : before + length header + after ≡ length (withMarkers m number header)
 
   pub front-read : (room : ℕ) → length (owedEntry .records) ≤ room → take (length (withMarkers m number header)) src
       ≡ withMarkers m number header → FrontRead room
-  unfolding withMarkers
   front-read room enough e =
-      let A : List ℕ = cond (m .sop) (sopBytes number) [] in
-      let C : List ℕ = cond (m .eph) ephBytes [] in
-      let fr : List ℕ = A ++ header ++ C in
-      let tail : List ℕ = drop (length fr) src in
-      let whole : src ≡ A ++ header ++ C ++ tail = sym (take-append-drop (length fr) src) ∙ ap (λ (z : List ℕ). z ++ tail) e in
-      let from-header : src ≡ A ++ (header ++ (C ++ tail)) = whole ∙ append-assoc (A ++ header) C tail
-      ∙ append-assoc A header (C ++ tail) in
-      let from-eph : src ≡ A ++ header ++ (C ++ tail) = whole ∙ append-assoc (A ++ header) C tail in
-      let at-header : drop (length A) src ≡ header ++ (C ++ tail) = ap (drop (length A)) from-header
-      ∙ drop-append-seam A (header ++ (C ++ tail)) in
-      let at-eph : drop (length A + length header) src
-      ≡ C ++ tail = ap₂ (λ (n : ℕ) (z : List ℕ). drop n z) (sym (length-append A header)) from-eph
-      ∙ drop-append-seam (A ++ header) (C ++ tail) in
-      let h = header-read L s t ks f ht src (C ++ tail) room (length A) ws rs es c W y booked q term enough at-header in
+      let a = around m number src header e in
+      let h = header-read L s t ks f ht src (a .tail) room (a .before) ws rs es c W y booked q term enough (a .at-header) in
       record {
-        before = length A;
-        sop-is = sop-read m number src (header ++ (C ++ tail)) from-header;
+        place = a;
         back = h;
-        header-back = header-is src room rs (bioAfter src (bioAt (length A))) t ks (h .words) (h .end) (owedEntry .reports)
+        header-back = header-is src room rs (bioAfter src (bioAt (a .before))) t ks (h .words) (h .end) (owedEntry .reports)
             (owedEntry .records) l kb (h .is) (h .whole);
-        after = length C;
-        eph-is = eph-read m src (length A + length header) tail at-eph;
-        all = sym (length-append (A ++ header) C ∙ ap (λ (z : ℕ). z + length C) (length-append A header));
       }
 
   pub record PacketRead (form : RecordForm) (records : form .Lent) (r : ReadResult form) : Type 0 where
@@ -175,15 +189,16 @@ module _ (L : Layout) (s t : ℕ) (ks : List Block) (f : AllPlaced L ks) (ht : t
   packet-read form scratch reports records why enough e =
       let F = front-read (form .room records) enough e in
       let h = F .back in
-      let is = read-is form rs scratch m src reports records (F .before) (h .words) (h .end) (owedEntry .reports) (owedEntry .records)
-      why (F .sop-is) (h .first-bit) (F .header-back)
-      ∙ present-is form rs t m src records (F .before) (h .words) (h .end) (owedEntry .reports) (owedEntry .records)
-      (F .before + length header) (F .after) l (h .taken) (F .eph-is) in
+      let a = F .place in
+      let is = read-is form rs scratch m src reports records (a .before) (h .words) (h .end) (owedEntry .reports) (owedEntry .records)
+      why (a .sop-is) (h .first-bit) (F .header-back)
+      ∙ present-is form rs t m src records (a .before) (h .words) (h .end) (owedEntry .reports) (owedEntry .records)
+      (a .before + length header) (a .after) l (h .taken) (a .eph-is) in
       record {
         words = h .words;
         answer = ap (λ (r : ReadResult form). r .answer) is
             ∙ ap (λ (z : ℕ). record { refusal = 0; present = 1; taken = z; segments = length (owedEntry .records); sop = 0; eph = 0 })
-            (F .all);
+            (a .all);
         reports = ap (λ (r : ReadResult form). r .reports) is;
         records-are = ap (λ (r : ReadResult form). r .records) is;
         state = ap (λ (r : ReadResult form). r .state) is;
@@ -200,14 +215,14 @@ module _ (L : Layout) (s t : ℕ) (ks : List Block) (f : AllPlaced L ks) (ht : t
   header-refusal room e =
       on-lt room n
       (λ h. let F = front-read n (le-refl n) e in (
-        F .before,
-        F .sop-is,
+        F .place .before,
+        F .place .sop-is,
         F .back .first-bit,
-        fewer h (F .before) (ap (λ (x : HeaderRead). x .refusal) (F .header-back))
-            (fewer-records src room n (omega arith) rs (bioAfter src (bioAt (F .before)))),
+        fewer h (F .place .before) (ap (λ (x : HeaderRead). x .refusal) (F .header-back))
+            (fewer-records src room n (omega arith) rs (bioAfter src (bioAt (F .place .before)))),
       ))
       (λ h. let F = front-read room h e in
-      (F .before, F .sop-is, F .back .first-bit, inl (ap (λ (x : HeaderRead). x .refusal) (F .header-back))))
+      (F .place .before, F .place .sop-is, F .back .first-bit, inl (ap (λ (x : HeaderRead). x .refusal) (F .header-back))))
     where
       n : ℕ
       n = length (owedEntry .records)

@@ -14,16 +14,18 @@ use Rattle.t800.specs.TagTree.{Coded}
 use Rattle.t800.specs.State.{Block, notYetIncluded, blocks, bands, layer, stateLength, endOf, writer}
 use Rattle.t800.specs.Ranges.{validState}
 use Rattle.t800.specs.Start.{start}
-use Rattle.t800.specs.WriteHeader.{Contribution, setNewBlocks, codeHeader}
+use Rattle.t800.specs.WriteHeader.{Contribution, setNewBlocks, contributes, codePresent, codeAbsent, codeHeader}
 use Rattle.t800.specs.Interface.{WriteCall, writeOf}
 use Rattle.round_trip.proofs.Trip.Lists.{WriterCall, measuring, writing, accepted, stateAfter}
 use Rattle.t800_laws.proofs.Laws.Layout.{inclusion, Layout, layoutOf, blocks-placed, end-after}
 use Rattle.t800_laws.proofs.Laws.FirstWords.{FirstWords, next-layer}
 use Rattle.round_trip.proofs.Trip.Changes.{nodes-only, first-stays, blocks-coded}
 use Rattle.round_trip.proofs.Trip.SetLeaves.{new-blocks-set}
-use Rattle.round_trip.proofs.Trip.WriterState.{WriterState, Acceptable, headerBlocks, layer-in-range, layer-word}
+use Rattle.round_trip.proofs.Trip.WriterState.{WriterState, later, Acceptable, headerBlocks, layer-in-range, layer-word}
 use Rattle.round_trip.proofs.Trip.ValidStates.{Startable, writer-valid}
 use Rattle.round_trip.proofs.Trip.Calls.{Accepted, is-accepted, refused-keeps}
+use Rattle.t800_laws.proofs.Laws.Checks.{on-bool}
+use Rattle.t800_laws.proofs.Laws.Contributes.{present-header, absent-header}
 use Rattle.t800_laws.proofs.Laws.Accepted.{start-accepted, few-bands}
 use Rattle.round_trip.proofs.Trip.Start.{started-writer, started-first-words, startable}
 
@@ -50,10 +52,16 @@ writer-after-start n given s planes lent e =
 
 -- ---- an accepted call
 
-pub header-coded : (c : Contribution) (ws : List ℕ) (t : ℕ) (ks : List Block) → layer ws ≡ t → blocks (bands ws) ≡ ks
+pub present-coded : (c : Contribution) (ws : List ℕ) (t : ℕ) (ks : List Block) → layer ws ≡ t → blocks (bands ws) ≡ ks
+    → contributes c ≡ true
     → codeHeader c ws ≡ record { bits = 1 ∷ headerBlocks t ks c ws .bits; words = set (headerBlocks t ks c ws .words) 3 (t + 1) }
-unfolding codeHeader
-header-coded c ws t ks l k = rw (l, k)
+unfolding codePresent
+present-coded c ws t ks l k n = present-header c ws n ∙ (rw (l, k))
+
+pub absent-coded : (c : Contribution) (ws : List ℕ) (t : ℕ) → layer ws ≡ t → contributes c ≡ false
+    → codeHeader c ws ≡ record { bits = 0 ∷ []; words = set ws 3 (t + 1) }
+unfolding codeAbsent
+absent-coded c ws t l n = absent-header c ws n ∙ (rw l)
 
 below : (t : ℕ) → t ≤ notYetIncluded → t ≢ notYetIncluded → t < notYetIncluded
 below t h e = omega arith
@@ -80,11 +88,26 @@ module _ (bs : List Band) (s t : ℕ) (ws : List ℕ) (w : WriteCall) (y : Write
   pub acceptable : Acceptable ws ks c
   acceptable = subst (λ (z : List Block). Acceptable ws z c) blocks-are (call .acceptable)
 
-  pub state-is : writeOf ws w .state ≡ set vs 3 (t + 1)
-  state-is = call .state ∙ ap (λ (x : Coded). x .words) (header-coded c ws t ks (y .first-words .layer-is) blocks-are)
+  pub state-present : contributes c ≡ true → writeOf ws w .state ≡ set vs 3 (t + 1)
+  state-present n = call .state ∙ ap (λ (x : Coded). x .words) (present-coded c ws t ks (y .first-words .layer-is) blocks-are n)
 
-  pub writer-after : WriterInvariant bs s (t + 1) (writeOf ws w .state)
-  writer-after =
+  pub state-absent : contributes c ≡ false → writeOf ws w .state ≡ set ws 3 (t + 1)
+  state-absent n = call .state ∙ ap (λ (x : Coded). x .words) (absent-coded c ws t (y .first-words .layer-is) n)
+
+  writer-after-absent : contributes c ≡ false → WriterInvariant bs s (t + 1) (writeOf ws w .state)
+  writer-after-absent n =
+      let L : Layout = layoutOf bs in
+      let l : 13 ≤ length ws = le-trans (end-after 13 bs) (le-of-eq (sym (y .state .long))) in
+      subst (WriterInvariant bs s (t + 1)) (sym (state-absent n))
+      (record {
+        startable = y .startable;
+        state = layer-word L (t + 1) (t + 1) ws (later L t ws (y .state));
+        first-words = next-layer 1 bs s t (t + 1) ws ws l (λ j h. refl) (y .first-words);
+        layers = omega (arith, layer-left);
+      })
+
+  writer-after-present : contributes c ≡ true → WriterInvariant bs s (t + 1) (writeOf ws w .state)
+  writer-after-present n =
       let L : Layout = layoutOf bs in
       let f = blocks-placed bs in
       let us : List ℕ = setNewBlocks t ks (c .counts) ws in
@@ -92,7 +115,7 @@ module _ (bs : List Band) (s t : ℕ) (ws : List ℕ) (w : WriteCall) (y : Write
       let coded = blocks-coded L t ks (c .counts) (c .lengths) (c .marks) us f (o .long ∙ y .state .long) in
       let W = layer-in-range L t ks c ws f (y .state) acceptable in
       let l : 13 ≤ length vs = le-trans (end-after 13 bs) (le-of-eq (sym (W .long))) in
-      subst (WriterInvariant bs s (t + 1)) (sym state-is)
+      subst (WriterInvariant bs s (t + 1)) (sym (state-present n))
       (record {
         startable = y .startable;
         state = layer-word L (t + 1) (t + 1) vs W;
@@ -100,6 +123,9 @@ module _ (bs : List Band) (s t : ℕ) (ws : List ℕ) (w : WriteCall) (y : Write
             (λ j h. coded .first j h ∙ first-stays L ws us (nodes-only L inclusion ws us o) j h) (y .first-words);
         layers = omega (arith, layer-left);
       })
+
+  pub writer-after : WriterInvariant bs s (t + 1) (writeOf ws w .state)
+  writer-after = on-bool (contributes c) writer-after-present writer-after-absent
 
 -- ---- any list of calls
 

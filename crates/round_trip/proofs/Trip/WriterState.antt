@@ -70,7 +70,7 @@ low-bound-up t inclusion = omega arith
 low-bound-up t zeroPlanes = le-refl notYetPlanes
 
 -- the next layer moves
-later : (L : Layout) (t : ℕ) (ws : List ℕ) → WriterState L t ws → WriterState L (t + 1) ws
+pub later : (L : Layout) (t : ℕ) (ws : List ℕ) → WriterState L t ws → WriterState L (t + 1) ws
 later L t ws y =
     record {
       long = y .long;
