@@ -1,1 +1,3 @@
+pub mod Settled
+pub mod NewBlocks
 pub mod Between
