@@ -1,10 +1,10 @@
 -- The inclusion trees between packets: each node is told or open, whatever packets came, and the values are in order.
 use mathlib.Core.Path.{_≡_, refl, sym, ap, _∙_, subst}
 use mathlib.Core.Logic.{_≢_, _⊎_, inl, inr}
-use mathlib.Core.Bool.{Bool, true, false, cond, not}
+use mathlib.Core.Bool.{not}
 use mathlib.Core.List.{List, [], _∷_}
-use Prim.Native.Nat.{ℕ, zero, suc, _+_, _≤_, _<_}
-use native.Mathlib.Nat.{le-trans, le-of-eq, add-zero}
+use Prim.Native.Nat.{ℕ, _+_, _≤_, _<_}
+use native.Mathlib.Nat.{le-trans, le-of-eq}
 use native.Mathlib.Omega.{arith}
 use lib.ListN.{length, getD, set, take, drop, length-set}
 use lib.Seq.{getD-set-other}
@@ -20,7 +20,7 @@ use Rattle.t800.specs.WriteHeader.{Contribution, setNewBlocks, codeBlock, codeB
 use Rattle.t800.specs.Packet.{wrongLists, measureRefusal, measureRefusalWith}
 use Rattle.t800_laws.proofs.Laws.Tests.{not-refused, if-lt, if-ge, either}
 use Rattle.t800_laws.proofs.Laws.Lists.{lists-right}
-use Rattle.t800_laws.proofs.Laws.Layout.{Tree, inclusion, zeroPlanes, Layout, AllPlaced, layoutOf, blocks-placed, end-after}
+use Rattle.t800_laws.proofs.Laws.Layout.{inclusion, zeroPlanes, Layout, AllPlaced, layoutOf, blocks-placed, end-after}
 use Rattle.t800_laws.proofs.Laws.FirstWords.{FirstWords, next-layer}
 use Rattle.t800_laws.proofs.Laws.FreshState.{fresh-length, fresh-node}
 use Rattle.t800_laws.proofs.Laws.SetLeaf.{Ordered}
@@ -187,3 +187,119 @@ between-coded L t ks p ws f e l y =
     let d = during-blocks L t ks (p .counts) (p .lengths) (p .marks) (setNewBlocks t ks (p .counts) ws) f e l
     (during-set L t ks (p .counts) ws f l y) in
     record { long = d .tidied .long; order = d .tidied .order; nodes = λ a n. d .done a n tt }
+
+-- ---- a started writer
+
+pub between-started : (bs : List Band) (s : ℕ) (planes : List ℕ)
+    → Between (layoutOf bs) 0 (setZeroPlanes (blocks bs) planes (freshState 1 s bs))
+between-started bs s planes =
+    let L : Layout = layoutOf bs in
+    let ws : List ℕ = freshState 1 s bs in
+    let vs : List ℕ = setZeroPlanes (blocks bs) planes ws in
+    let o = planes-set L (blocks bs) planes ws (blocks-placed bs) (fresh-length 1 s bs)
+    (λ a n. le-of-eq (fresh-node 1 s bs zeroPlanes a n .1)) .0 .only in
+    record {
+      long = o .long ∙ fresh-length 1 s bs;
+      order = started-in-step bs s planes .order;
+      nodes = λ a n. let f = fresh-node 1 s bs inclusion a n in
+          inr (record {
+            no-value = o .off a (λ b m. L .other-tree a b n m) ∙ f .0;
+            not-known = known-stays L zeroPlanes ws vs o inclusion a n ∙ f .2;
+            low-in = le-of-eq (low-stays L zeroPlanes ws vs o inclusion a n ∙ f .1);
+          });
+    }
+
+-- ---- a writer's state with bands bs, style s and next layer t, behind any packets
+
+pub record Reached (bs : List Band) (s t : ℕ) (ws : List ℕ) : Type 0 where
+  pub first-words : FirstWords 1 bs s t ws
+  pub layers : t ≤ notYetIncluded
+  pub between : Between (layoutOf bs) t ws
+
+pub reached-started : (count : ℕ) (given : List Band) (style : ℕ) (planes lent : List ℕ) → Started count given style planes lent
+    → Reached (take count given) style 0 (startedState count given style planes lent)
+unfolding writer
+reached-started count given style planes lent e =
+    let y = writer-after-start count given style planes lent e in
+    record {
+      first-words = y .first-words;
+      layers = y .layers;
+      between = subst (Between (layoutOf (take count given)) 0) (sym (start-accepted writer count given style planes lent e .state))
+          (between-started (take count given) style planes);
+    }
+
+module _ (bs : List Band) (s t : ℕ) (ws : List ℕ) (y : Reached bs s t ws) where
+  pub reached-blocks : blocks (bands ws) ≡ blocks bs
+  reached-blocks = ap blocks (y .first-words .bands-are)
+
+  long-enough : (vs : List ℕ) → Between (layoutOf bs) (t + 1) vs → 13 ≤ length vs
+  long-enough vs b = le-trans (end-after 13 bs) (le-of-eq (sym (b .long)))
+
+  -- the layer's word is set
+  next : (vs : List ℕ) → t < notYetIncluded → ((j : ℕ) → j < 13 → getD vs j 0 ≡ getD ws j 0) → Between (layoutOf bs) (t + 1) vs
+      → Reached bs s (t + 1) (set vs 3 (t + 1))
+  next vs l e b =
+      record {
+        first-words = next-layer 1 bs s t (t + 1) ws vs (long-enough vs b) e (y .first-words);
+        layers = omega (arith, l);
+        between = between-layer-word (layoutOf bs) (t + 1) (t + 1) vs b;
+      }
+
+  pub absent-is : codeAbsent ws .words ≡ set ws 3 (t + 1)
+  unfolding codeAbsent
+  absent-is = ap (λ (z : ℕ). set ws 3 (z + 1)) (y .first-words .layer-is)
+
+  pub reached-absent : t < notYetIncluded → Reached bs s (t + 1) (codeAbsent ws .words)
+  reached-absent l =
+      subst (Reached bs s (t + 1)) (sym absent-is) (next ws l (λ j h. refl) (between-later (layoutOf bs) t ws (y .between)))
+
+  pub present-is : (p : Contribution) → codePresent p ws .words ≡ set (headerBlocks t (blocks bs) p ws .words) 3 (t + 1)
+  unfolding codePresent
+  present-is p = rw (y .first-words .layer-is, reached-blocks)
+
+  -- the first words stay
+  pub first-words-stay : (p : Contribution) (j : ℕ) → j < 13 → getD (headerBlocks t (blocks bs) p ws .words) j 0 ≡ getD ws j 0
+  first-words-stay p j h =
+      let L : Layout = layoutOf bs in
+      let f = blocks-placed bs in
+      let us : List ℕ = setNewBlocks t (blocks bs) (p .counts) ws in
+      let o = new-blocks-set L t (blocks bs) (p .counts) ws f (y .between .long)
+      (λ a n. low-in-layer t (nodeAt ws a) (y .between .nodes a n)) .0 .only in
+      blocks-coded L t (blocks bs) (p .counts) (p .lengths) (p .marks) us f (o .long ∙ y .between .long) .first j h
+      ∙ first-stays L ws us (nodes-only L inclusion ws us o) j h
+
+  pub reached-present : (p : Contribution) → length (p .counts) ≡ length (blocks bs) → t < notYetIncluded
+      → Reached bs s (t + 1) (codePresent p ws .words)
+  reached-present p e l =
+      subst (Reached bs s (t + 1)) (sym (present-is p))
+      (next (headerBlocks t (blocks bs) p ws .words) l (first-words-stay p)
+      (between-coded (layoutOf bs) t (blocks bs) p ws (blocks-placed bs) e l (y .between)))
+
+  pub reached-header : (p : Contribution) → length (p .counts) ≡ length (blocks bs) → t < notYetIncluded
+      → Reached bs s (t + 1) (codeHeader p ws .words)
+  unfolding codeHeader
+  reached-header p e l =
+      either (λ (x : Coded). Reached bs s (t + 1) (x .words)) (contributes p) _ _ (reached-present p e l) (reached-absent l)
+
+  below : layer ws ≢ notYetIncluded → t < notYetIncluded
+  below e = let n : t ≢ notYetIncluded = λ z. e (y .first-words .layer-is ∙ z) in omega (arith, y .layers)
+
+  -- a packet that nothing refuses has a count for each block, and a layer is left for it
+  pub accepted-here : (p : Contribution) → measureRefusal ws ws p ≡ 0 → (length (p .counts) ≡ length (blocks bs)) × (t < notYetIncluded)
+  unfolding measureRefusalWith
+  accepted-here p e =
+      let ks : List Block = blocks (bands ws) in
+      let c₁ = not-refused (not (validState writer ws (length ws))) 5 _ (omega arith) e in
+      let c₂ = not-refused (eqb (layer ws) notYetIncluded) 6 _ (omega arith) (c₁ .1) in
+      let c₃ = not-refused (wrongLists p (length ks)) 3 _ (omega arith) (c₂ .1) in
+      (lists-right p (length ks) (c₃ .0) .0 ∙ ap length reached-blocks, below (eqb-false (layer ws) notYetIncluded (c₂ .0)))
+
+-- each packet moves the layer by one
+pub reached-list : (bs : List Band) (s t : ℕ) (ws : List ℕ) (ps : List Contribution) → Reached bs s t ws → Accepted ws ps
+    → Reached bs s (t + length ps) (stateBehind ws ps)
+unfolding Accepted stateBehind
+reached-list bs s t ws [] y a = subst (λ (n : ℕ). Reached bs s n ws) (omega arith) y
+reached-list bs s t ws (p ∷ ps) y a =
+    let h = accepted-here bs s t ws y p (a .0) in
+    subst (λ (n : ℕ). Reached bs s n (stateBehind (codeHeader p ws .words) ps)) (omega arith)
+    (reached-list bs s (t + 1) (codeHeader p ws .words) ps (reached-header bs s t ws y p (h .0) (h .1)) (a .1))

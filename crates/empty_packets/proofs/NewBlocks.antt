@@ -1,19 +1,17 @@
 -- Blocks that are new, without passes so far: what holds on their inclusion paths, and which values setting them in layer t changes.
-use mathlib.Core.Path.{_≡_, refl, sym, ap, _∙_}
+use mathlib.Core.Path.{_≡_, refl, sym, _∙_}
 use mathlib.Core.Logic.{_≢_}
-use mathlib.Core.Bool.{Bool, true, false, cond, _&&_}
-use mathlib.Core.List.{List, [], _∷_, reverse, reverseAux}
-use Prim.Native.Nat.{ℕ, _+_, _*_, _≤_, _<_}
-use native.Mathlib.Nat.{le-trans}
-use native.Mathlib.Omega.{arith}
-use lib.ListN.{length, getD}
-use lib.Dec.{ltb, eqb}
+use mathlib.Core.Bool.{true, cond, _&&_}
+use mathlib.Core.List.{List, [], _∷_, reverseAux}
+use Prim.Native.Nat.{ℕ, _<_}
+use lib.ListN.{getD}
+use lib.Dec.{ltb}
 use borrow.Author.Tests.{eqb-true}
-use Rattle.t800.specs.TagTree.{value, setValue}
+use Rattle.t800.specs.TagTree.{setValue}
 use Rattle.t800.specs.State.{Block, passesSoFar}
 use Rattle.t800.specs.WriteHeader.{isNew, setNewBlocks}
 use Rattle.t800_laws.proofs.Laws.Tests.{either, either-by, and-left}
-use Rattle.t800_laws.proofs.Laws.Paths.{All, NotIn, addresses}
+use Rattle.t800_laws.proofs.Laws.Paths.{All, addresses}
 use Rattle.t800_laws.proofs.Laws.Layout.{inclusion, Layout, Placed, SeparateFromAll, AllPlaced, rootToLeaf, leafToRoot}
 use Rattle.t800_laws.proofs.Laws.SetLeaf.{off-path-stays, every-word}
 use Rattle.round_trip.proofs.Trip.Trees.{NodesOnly}

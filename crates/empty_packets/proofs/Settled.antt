@@ -1,12 +1,11 @@
 -- A path of an inclusion tree coded in layer t: each of its nodes ends as its value alone says, and no other node of these trees changes.
-use mathlib.Core.Path.{_≡_, refl, sym, ap, ap₂, _∙_, subst}
-use mathlib.Core.Logic.{_≢_}
-use mathlib.Core.Bool.{Bool, true, false, cond}
+use mathlib.Core.Path.{_≡_, refl, sym, ap₂, _∙_, subst}
+use mathlib.Core.Bool.{cond}
 use mathlib.Core.List.{List, [], _∷_, reverse, reverseAux}
 use Prim.Native.Nat.{ℕ, _+_, _*_, _≤_, _<_, max, min, zero-le}
 use native.Mathlib.Nat.{le-trans, le-of-eq}
 use native.Mathlib.Omega.{arith}
-use lib.ListN.{length, getD, set, take, drop}
+use lib.ListN.{length, getD, take, drop}
 use lib.Dec.{ltb, eqb}
 use borrow.Author.Tests.{eqb-true, eqb-false}
 use Rattle.t800.specs.TagTree.{Coded, value, codePath}
@@ -15,7 +14,7 @@ use Rattle.t800.specs.State.{Block, notYetPlanes, passesSoFar}
 use Rattle.t800.specs.WriteHeader.{isNew, lengthBitsBefore, codeInclusion, codeZeroPlanes, codePasses, codeBlock, codeBlocks}
 use Rattle.t800_laws.proofs.Laws.Tests.{on-eq, on-lt, if-eq, if-ne, if-lt, if-ge, either, either-by}
 use Rattle.t800_laws.proofs.Laws.Paths.{All, NotIn, Ancestors, ApartFromAll, addresses}
-use Rattle.t800_laws.proofs.Laws.Layout.{Tree, inclusion, zeroPlanes, treeOf, Layout, Placed, AllPlaced, rootToLeaf, from-root-nodes}
+use Rattle.t800_laws.proofs.Laws.Layout.{Tree, inclusion, zeroPlanes, Layout, Placed, AllPlaced, rootToLeaf, from-root-nodes}
 use Rattle.t800_laws.proofs.Laws.SetLeaf.{Ordered}
 use Rattle.round_trip.proofs.Trip.Nodes.{Node, node, lowOut, nodeAfter, nodesAfter, Increasing}
 use Rattle.round_trip.proofs.Trip.NodeWords.{nodeAt, nodesAt}
