@@ -3,3 +3,4 @@ pub mod NewBlocks
 pub mod Between
 pub mod Alike
 pub mod Behind
+pub mod Examples
