@@ -1,0 +1,1 @@
+// What a packet without passes changes in the packets behind it, and the state behind the next one with passes, with no code.
