@@ -16,6 +16,7 @@ use Rattle.t800.specs.TagTree.{Coded, value, lowAfter, codePath}
 use Rattle.t800.specs.Segments.{Segment, segmentsOf}
 use Rattle.t800.specs.State.{Block, notYetIncluded, blocks, passesSoFar}
 use Rattle.t800.specs.WriteHeader.{Contribution, isNew, setNewBlocks, codeInclusion, codeZeroPlanes, codeBlock, codeBlocks}
+use Rattle.t800.specs.WriteHeader.{contributes, codePresent, codeHeader}
 use Rattle.t800_laws.proofs.Laws.Tests.{on-eq, if-eq, if-ne, if-false, or-left, or-right}
 use Rattle.t800_laws.proofs.Laws.Paths.{All, all-so, addresses}
 use Rattle.t800_laws.proofs.Laws.Layout.{inclusion, Layout, Placed, AllPlaced, rootToLeaf, from-root-nodes, layoutOf, blocks-placed}
@@ -24,13 +25,13 @@ use Rattle.round_trip.proofs.Trip.NodeWords.{nodeAt}
 use Rattle.round_trip.proofs.Trip.Trees.{path-coded}
 use Rattle.round_trip.proofs.Trip.Changes.{block-coded, blocks-coded}
 use Rattle.round_trip.proofs.Trip.WriterState.{headerBlocks}
-use Rattle.empty_packets.specs.Rule.{contributes, codePresent, codeHeader}
+use Rattle.t800_laws.proofs.Laws.Contributes.{present-header, absent-header}
 use Rattle.empty_packets.specs.LaterPackets.{Accepted, stateBehind, stateBehindPresent, startedState, StateAsIfPresent}
 use Rattle.empty_packets.proofs.Settled.{settled, Tidied, path-settled, block-tidied}
 use Rattle.empty_packets.proofs.NewBlocks.{AllOnNew, SamePasses, on-new-after, on-new-before}
 use Rattle.empty_packets.proofs.NewBlocks.{coding-keeps-passes, setting-keeps-passes}
 use Rattle.empty_packets.proofs.Between.{new-blocks-tidied, Reached, reached-started, absent-is, present-is, reached-present}
-use Rattle.empty_packets.proofs.Between.{reached-header, accepted-here, header-with-passes, header-without-passes}
+use Rattle.empty_packets.proofs.Between.{reached-header, accepted-here}
 use Rattle.empty_packets.proofs.Alike.{Alike, set-alike, OffLow, NoLow, value-no-low, passes-same, planes-alike}
 use Rattle.empty_packets.proofs.Alike.{passes-alike, new-blocks-alike}
 
@@ -187,7 +188,7 @@ module _ (bs : List Band) (s t : ℕ) (ws vs : List ℕ) (y : Ahead bs s t ws vs
       present-is bs s t ws (y .rule) p ∙ ap (λ (z : List ℕ). set z 3 (t + 1)) header-same ∙ sym (present-is bs s t vs (y .present) p)
 
   with-passes : contributes p ≡ true → codeHeader p ws .words ≡ codePresent p vs .words
-  with-passes h = ap (λ (x : Coded). x .words) (header-with-passes p ws h) ∙ present-same
+  with-passes h = ap (λ (x : Coded). x .words) (present-header p ws h) ∙ present-same
 
 -- ---- a packet without passes
 
@@ -279,7 +280,7 @@ module _ (bs : List Band) (s t : ℕ) (ws vs : List ℕ) (y : Ahead bs s t ws vs
           record { long = ap length q; words = λ i o. ap (λ (z : List ℕ). getD z i 0) q }
       go false h =
           let q : codeHeader p ws .words ≡ set ws 3 (t + 1) =
-          ap (λ (x : Coded). x .words) (header-without-passes p ws h) ∙ absent-is bs s t ws (y .rule) in
+          ap (λ (x : Coded). x .words) (absent-header p ws h) ∙ absent-is bs s t ws (y .rule) in
           subst (λ (z : List ℕ). Alike (OffNewLows z (blocks bs)) z (codePresent p vs .words)) (sym q) (without-passes h)
 
   next-ahead : Ahead bs s (t + 1) (codeHeader p ws .words) (codePresent p vs .words)

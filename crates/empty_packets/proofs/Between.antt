@@ -16,7 +16,7 @@ use Rattle.t800.specs.Segments.{Segment, segmentsOf}
 use Rattle.t800.specs.State.{Block, notYetIncluded, writer, blocks, bands, layer}
 use Rattle.t800.specs.Ranges.{validState}
 use Rattle.t800.specs.Start.{freshState, setZeroPlanes}
-use Rattle.t800.specs.WriteHeader.{Contribution, setNewBlocks, codeBlock, codeBlocks}
+use Rattle.t800.specs.WriteHeader.{Contribution, setNewBlocks, codeBlock, codeBlocks, contributes, codePresent, codeAbsent, codeHeader}
 use Rattle.t800.specs.Packet.{wrongLists, measureRefusal, measureRefusalWith}
 use Rattle.t800_laws.proofs.Laws.Tests.{not-refused, if-true, if-false, if-lt, if-ge, either}
 use Rattle.t800_laws.proofs.Laws.Lists.{lists-right}
@@ -32,7 +32,6 @@ use Rattle.round_trip.proofs.Trip.SetLeaves.{new-blocks-set, planes-set}
 use Rattle.round_trip.proofs.Trip.WriterState.{headerBlocks}
 use Rattle.round_trip.proofs.Trip.WriterInRange.{writer-after-start}
 use Rattle.round_trip.proofs.Trip.Start.{started-in-step}
-use Rattle.empty_packets.specs.Rule.{contributes, codePresent, codeAbsent, codeHeader}
 use Rattle.empty_packets.specs.LaterPackets.{Accepted, stateBehind, Started, startedState}
 use Rattle.empty_packets.proofs.Settled.{Tidy, settled, Tidied, settled-or-same, block-tidied}
 use Rattle.empty_packets.proofs.NewBlocks.{AllOnNew, on-new-before, coding-keeps-passes, new-blocks-only}
@@ -231,14 +230,6 @@ reached-started count given style planes lent e =
       between = subst (Between (layoutOf (take count given)) 0) (sym (start-accepted writer count given style planes lent e .state))
           (between-started (take count given) style planes);
     }
-
-pub header-with-passes : (p : Contribution) (ws : List ℕ) → contributes p ≡ true → codeHeader p ws ≡ codePresent p ws
-unfolding codeHeader
-header-with-passes p ws h = if-true (contributes p) (codePresent p ws) (codeAbsent ws) h
-
-pub header-without-passes : (p : Contribution) (ws : List ℕ) → contributes p ≡ false → codeHeader p ws ≡ codeAbsent ws
-unfolding codeHeader
-header-without-passes p ws h = if-false (contributes p) (codePresent p ws) (codeAbsent ws) h
 
 module _ (bs : List Band) (s t : ℕ) (ws : List ℕ) (y : Reached bs s t ws) where
   pub reached-blocks : blocks (bands ws) ≡ blocks bs

@@ -8,9 +8,8 @@ use Prim.Native.Nat.{ℕ}
 use native.Mathlib.Omega.{arith}
 use lib.ListN.{getD, replicate}
 use Rattle.t800.specs.declared.Band.{Band}
-use Rattle.t800.specs.WriteHeader.{Contribution, contribution}
+use Rattle.t800.specs.WriteHeader.{Contribution, contribution, contributes}
 use Rattle.t800.proofs.Table.{rowHolds}
-use Rattle.empty_packets.specs.Rule.{contributes, codePresent, codeAbsent, codeHeader}
 use Rattle.empty_packets.specs.LaterPackets.{Accepted, stateBehind, stateBehindPresent, Started, startedState}
 use Rattle.empty_packets.proofs.Behind.{state-as-if-present}
 
@@ -36,12 +35,12 @@ abbrev with : Contribution
 with = contribution (1 ∷ []) (5 ∷ []) (0 ∷ [])
 
 premises-met : Accepted state (without ∷ with ∷ []) × (contributes with ≡ true) × (contributes without ≡ false)
-unfolding Accepted contributes codePresent codeAbsent codeHeader rowHolds
+unfolding Accepted rowHolds
 premises-met = ((refl, (refl, tt)), refl, refl)
 
 -- the low of the inclusion tree's only node stays 0 by the rule, and is 1 if the packet is coded block by block
 states-differ : stateBehind state (without ∷ []) ≢ stateBehindPresent state (without ∷ [])
-unfolding stateBehind stateBehindPresent contributes codePresent codeAbsent codeHeader rowHolds
+unfolding stateBehind stateBehindPresent rowHolds
 states-differ e = let z : _≡_ {A = ℕ} 0 1 = ap (λ (ws : List ℕ). getD ws 14 0) e in absurd (omega arith)
 
 applies : stateBehind state (without ∷ with ∷ []) ≡ stateBehindPresent state (without ∷ with ∷ [])
@@ -51,5 +50,5 @@ applies = state-as-if-present 1 given 0 (5 ∷ []) lent started (without ∷ [])
 computed : (stateBehind state (without ∷ with ∷ []) ≡ stateBehindPresent state (without ∷ with ∷ []))
     × (stateBehind state (without ∷ with ∷ [])
     ≡ 1 ∷ 1 ∷ 0 ∷ 2 ∷ 1 ∷ 1 ∷ 5 ∷ 0 ∷ 0 ∷ 0 ∷ 0 ∷ 0 ∷ 0 ∷ 1 ∷ 1 ∷ 1 ∷ 0 ∷ 0 ∷ 1 ∷ 1 ∷ 3 ∷ 0 ∷ 0 ∷ [])
-unfolding stateBehind stateBehindPresent contributes codePresent codeAbsent codeHeader rowHolds
+unfolding stateBehind stateBehindPresent rowHolds
 computed = (refl, refl)

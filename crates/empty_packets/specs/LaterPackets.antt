@@ -11,9 +11,8 @@ use Rattle.t800.specs.TagTree.{Coded}
 use Rattle.t800.specs.Segments.{segmentsOf}
 use Rattle.t800.specs.State.{Block, writer, blocks, bands, layer}
 use Rattle.t800.specs.Start.{start}
-use Rattle.t800.specs.WriteHeader.{Contribution, isNew, setNewBlocks, codeInclusion, codeBlock}
+use Rattle.t800.specs.WriteHeader.{Contribution, isNew, setNewBlocks, codeInclusion, codeBlock, contributes, codePresent, codeHeader}
 use Rattle.t800.specs.Packet.{measureRefusal}
-use Rattle.empty_packets.specs.Rule.{contributes, codePresent, codeHeader}
 
 -- ---- lists of contributions, each in the state that the one before it left
 

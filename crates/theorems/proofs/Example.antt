@@ -89,6 +89,7 @@ abbrev packet : Owed
 packet = record {
   front = 0xe5 ∷ [];
   markers = plain;
+  present = 1;
   entry = record {
     reports = record { inclusion = 1; zeroPlanes = 0; planes = 5; passes = 1 } ∷ [];
     records = record { block = 0; opens = 1; passes = 1; bytes = 5; start = 0 } ∷ [];
