@@ -1,3 +1,5 @@
+pub mod Settled
+pub mod NewBlocks
 pub mod Between
 pub mod ShiftedNodes
 pub mod ShiftedStates
