@@ -20,8 +20,10 @@ use Rattle.t800_laws.proofs.Laws.SetLeaf.{lowers, ends, Ordered, setValue-order
 use Rattle.round_trip.proofs.Trip.Nodes.{Node, Increasing}
 use Rattle.round_trip.proofs.Trip.NodeWords.{nodeAt, nodesAt}
 use Rattle.round_trip.proofs.Trip.Trees.{all-apart, path-coded, coding-keeps}
-use Rattle.round_trip.proofs.Trip.Changes.{block-stays, first-stays, first-words-stay, BlockOnly, node-stays, value-stays, other-block-stays, stored}
+use Rattle.round_trip.proofs.Trip.Changes.{block-stays, first-stays, first-words-stay, BlockOnly, node-stays, value-stays}
+use Rattle.round_trip.proofs.Trip.Changes.{other-block-stays, stored}
 use Rattle.round_trip.proofs.Trip.Changes.{stored-passes, stored-others, stored-length, leaf-set, nodes-only, low-stays, known-stays}
+use Rattle.empty_packets.proofs.Settled.{same-order}
 use Rattle.empty_packets.proofs.ShiftedNodes.{Later, one-more, neither, Shifted, same, fresh, later, Lows, equal, may-be-fresh}
 use Rattle.empty_packets.proofs.ShiftedNodes.{AllShifted, nil, cons, path-after, path-bits}
 
@@ -158,10 +160,6 @@ stepped L t ws vs ws′ vs′ s l l′ o g k p f =
       passes = p;
       first = f;
     }
-
-same-order : (L : Layout) (ws vs : List ℕ) → ((t : Tree) (a : ℕ) → L .Node t a → value vs a ≡ value ws a) → Ordered L ws → Ordered L vs
-same-order L ws vs e o t a n =
-    le-trans (le-of-eq (e t (L .parent a) (L .parent-node t a n))) (le-trans (o t a n) (le-of-eq (sym (e t a n))))
 
 kept-by : (L : Layout) (t : ℕ) (ws vs ws′ vs′ : List ℕ) → ((a : ℕ) → L .Node inclusion a → nodeAt ws′ a ≡ nodeAt ws a)
     → ((a : ℕ) → L .Node inclusion a → nodeAt vs′ a ≡ nodeAt vs a) → NodesKept L t ws vs ws′ vs′
@@ -339,7 +337,8 @@ module _ (L : Layout) (t : ℕ) (k : Block) (P : Placed L k) (ws vs : List ℕ) 
   planes-alike u = path-alike L (k .zeroTree) u (reverse (k .path)) 0 ws vs (s .other-long ∙ sym (s .long))
       (all-so _ (SharedNode L) (rootToLeaf zeroPlanes k) (planes-shared L) (from-root-nodes L zeroPlanes k P)) (s .agree)
 
-  pub planes-bits : (u : ℕ) → codePath (k .zeroTree) u (reverse (k .path)) 0 vs .bits ≡ codePath (k .zeroTree) u (reverse (k .path)) 0 ws .bits
+  pub planes-bits : (u : ℕ) → codePath (k .zeroTree) u (reverse (k .path)) 0 vs .bits
+      ≡ codePath (k .zeroTree) u (reverse (k .path)) 0 ws .bits
   planes-bits u = planes-alike u .0
 
   pub planes-step : (u : ℕ) → Step L t ws vs (codePath (k .zeroTree) u (reverse (k .path)) 0 ws .words)
