@@ -3,3 +3,4 @@ pub mod NewBlocks
 pub mod Between
 pub mod ShiftedNodes
 pub mod ShiftedStates
+pub mod ShiftedBlocks

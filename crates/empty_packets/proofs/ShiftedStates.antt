@@ -126,19 +126,14 @@ abbrev NodesKept : Layout → (t : ℕ) (ws vs ws′ vs′ : List ℕ) → Type 
 NodesKept L t ws vs ws′ vs′ = (may : Bool) (a : ℕ) → L .Node inclusion a → Shifted t may (nodeAt ws a) (nodeAt vs a)
     → Shifted t may (nodeAt ws′ a) (nodeAt vs′ a)
 
--- the first words but the layer stay
-abbrev pub FirstStay : List ℕ → List ℕ → Type 0
-FirstStay ws vs = (i : ℕ) → i < 13 → i ≢ 3 → getD vs i 0 ≡ getD ws i 0
-
 -- a change on both sides: no block that is new after it was not new before
 pub record Step (L : Layout) (t : ℕ) (ws vs ws′ vs′ : List ℕ) : Type 0 where
   pub shift : Shift L t ws′ vs′
   pub nodes : NodesKept L t ws vs ws′ vs′
   pub passes : (q : ℕ) → L .BlockAt q → passesSoFar ws′ q ≡ 0 → passesSoFar ws q ≡ 0
-  pub first : FirstStay ws ws′
 
 pub no-step : (L : Layout) (t : ℕ) (ws vs : List ℕ) → Shift L t ws vs → Step L t ws vs ws vs
-no-step L t ws vs s = record { shift = s; nodes = λ may a n h. h; passes = λ q b e. e; first = λ i h e. refl }
+no-step L t ws vs s = record { shift = s; nodes = λ may a n h. h; passes = λ q b e. e }
 
 pub step-then : (L : Layout) (t : ℕ) (ws vs ws′ vs′ ws″ vs″ : List ℕ) → Step L t ws vs ws′ vs′ → Step L t ws′ vs′ ws″ vs″
     → Step L t ws vs ws″ vs″
@@ -147,18 +142,16 @@ step-then L t ws vs ws′ vs′ ws″ vs″ x y =
       shift = y .shift;
       nodes = λ may a n h. y .nodes may a n (x .nodes may a n h);
       passes = λ q b e. x .passes q b (y .passes q b e);
-      first = λ i h e. y .first i h e ∙ x .first i h e;
     }
 
 stepped : (L : Layout) (t : ℕ) (ws vs ws′ vs′ : List ℕ) → Shift L t ws vs → length ws′ ≡ L .size → length vs′ ≡ L .size → Ordered L ws′
     → Agree L ws′ vs′ → NodesKept L t ws vs ws′ vs′ → ((q : ℕ) → L .BlockAt q → passesSoFar ws′ q ≡ 0 → passesSoFar ws q ≡ 0)
-    → FirstStay ws ws′ → Step L t ws vs ws′ vs′
-stepped L t ws vs ws′ vs′ s l l′ o g k p f =
+    → Step L t ws vs ws′ vs′
+stepped L t ws vs ws′ vs′ s l l′ o g k p =
     record {
       shift = record { long = l; other-long = l′; order = o; agree = g; nodes = λ a n. k true a n (s .nodes a n) };
       nodes = k;
       passes = p;
-      first = f;
     }
 
 kept-by : (L : Layout) (t : ℕ) (ws vs ws′ vs′ : List ℕ) → ((a : ℕ) → L .Node inclusion a → nodeAt ws′ a ≡ nodeAt ws a)
@@ -244,7 +237,6 @@ module _ (L : Layout) (t now : ℕ) (from : t ≤ now) (soon : now + 1 < notYetI
       (λ i h. y .off i (λ a n. omega (arith, h .1 a n)) ∙ s .agree i h ∙ sym (x .off i (λ a n. omega (arith, h .1 a n))))
       (climb-kept (k .inclTree) (k .path) ws vs (s .long) (s .other-long) (path-nodes L inclusion k P) (s .nodes))
       (λ q b e. sym (block-stays L ws ws′ (nodes-only L inclusion ws ws′ x) q b .0) ∙ e)
-      (λ i h e. first-stays L ws ws′ (nodes-only L inclusion ws ws′ x) i h)
 
 -- ---- coding a block's inclusion path, with threshold u without the packet and with u + 1 with it
 
@@ -328,7 +320,6 @@ module _ (L : Layout) (t u : ℕ) (from : t < u) (soon : u < notYetIncluded) (k 
       (λ may a n h. on-or-apart L t may a ws′ vs′ xs n (from-root-nodes L inclusion k P) path-settled
       (λ o. subst₂ (Shifted t may) (sym (c .words .off a o)) (sym (d .words .off a o)) h))
       (λ q b e. sym (block-stays L ws ws′ (x .off) q b .0) ∙ e)
-      (λ i h e. first-stays L ws ws′ (x .off) i h)
 
 -- ---- its zero-plane path, its passes, and the layer
 
@@ -356,7 +347,6 @@ module _ (L : Layout) (t : ℕ) (k : Block) (P : Placed L k) (ws vs : List ℕ) 
       (planes-alike u .1)
       (kept-by L t ws vs ws′ vs′ (λ a n. c .words .off a (off a n)) (λ a n. d .words .off a (off a n)))
       (λ q b e. sym (block-stays L ws ws′ (x .off) q b .0) ∙ e)
-      (λ i h e. first-stays L ws ws′ (x .off) i h)
 
   -- c passes more, and l length bits
   pub passes-step : (c l : ℕ) → Step L t ws vs (set (set ws (k .at) (passesSoFar ws (k .at) + c)) (k .at + 1) l)
@@ -383,7 +373,6 @@ module _ (L : Layout) (t : ℕ) (k : Block) (P : Placed L k) (ws vs : List ℕ) 
       (λ f. let w : passesSoFar ws at + c ≡ 0 = sym (stored-passes ws at n l h) ∙ ap (λ (y : ℕ). getD ws′ y 0) (sym f) ∙ z in
       rw f (omega arith))
       (λ f. sym (other-block-stays L ws ws′ at B only q Q f .0) ∙ z))
-      (λ i z f. first-words-stay L ws ws′ at B only i z)
 
 module _ (L : Layout) (t x y : ℕ) (ws vs : List ℕ) (s : Shift L t ws vs) where
   pub layer-step : Step L t ws vs (set ws 3 x) (set vs 3 y)
@@ -402,4 +391,3 @@ module _ (L : Layout) (t x y : ℕ) (ws vs : List ℕ) (s : Shift L t ws vs) whe
       (λ i h. getD-set-other vs 3 i y 0 (h .0) ∙ s .agree i h ∙ sym (getD-set-other ws 3 i x 0 (h .0)))
       (kept-by L t ws vs (set ws 3 x) (set vs 3 y) (node-same ws x) (node-same vs y))
       (λ q b e. sym (stays ws x q (L .block-in q b .0)) ∙ e)
-      (λ i h e. getD-set-other ws 3 i x 0 e)
