@@ -4,3 +4,4 @@ pub mod Between
 pub mod ShiftedNodes
 pub mod ShiftedStates
 pub mod ShiftedBlocks
+pub mod Insertion

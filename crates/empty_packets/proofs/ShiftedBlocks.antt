@@ -1,27 +1,24 @@
 -- Blocks coded without a packet and with it: their bits are those of the inclusion tree and the others behind them, and the others are the
 -- same; all are, where no node of a new block's path is fresh.
-use mathlib.Core.Path.{_≡_, refl, sym, ap, ap₂, _∙_, subst, subst₂}
+use mathlib.Core.Path.{_≡_, refl, sym, ap, ap₂, _∙_, subst}
 use mathlib.Core.Bool.{Bool, true, false, cond, _&&_, true≢false}
-use mathlib.Core.List.{List, [], _∷_, _++_, reverse, append-nil, append-assoc}
+use mathlib.Core.List.{List, [], _∷_, _++_, append-nil, append-assoc}
 use Prim.Native.Nat.{ℕ, _+_, _≤_, _<_}
 use native.Mathlib.Omega.{arith}
-use lib.ListN.{length, getD, set, take, drop}
+use lib.ListN.{length, set, take, drop}
 use lib.Seq.{drop-append-seam}
 use lib.Dec.{ltb, eqb}
 use borrow.Author.Tests.{eq-eqb, eqb-true}
 use Rattle.t800.specs.Base.{Bits}
-use Rattle.t800.specs.TagTree.{Coded, setValue, codePath}
+use Rattle.t800.specs.TagTree.{Coded, setValue}
 use Rattle.t800.specs.PassCount.{passBits}
 use Rattle.t800.specs.Segments.{Segment, segmentsOf, increment, commaBits, lengthFields}
 use Rattle.t800.specs.State.{Block, notYetIncluded, notYetPlanes, passesSoFar}
 use Rattle.t800.specs.WriteHeader.{isNew, lengthBitsBefore, setNewBlocks, codeInclusion, codeZeroPlanes, codePasses, codeBlock, codeBlocks}
-use Rattle.t800_laws.proofs.Laws.Tests.{on-eq, if-eq, if-ne, either}
 use Rattle.t800_laws.proofs.Laws.Paths.{All}
 use Rattle.t800_laws.proofs.Laws.Layout.{inclusion, Layout, Placed, AllPlaced, rootToLeaf, from-root-nodes}
-use Rattle.round_trip.proofs.Trip.NodeWords.{nodeAt}
 use Rattle.round_trip.proofs.Trip.WriterState.{same-bits-before}
-use Rattle.empty_packets.specs.LaterPackets.{BlockBits, blockBitsFrom, joined, othersOf}
-use Rattle.empty_packets.proofs.ShiftedNodes.{Shifted}
+use Rattle.empty_packets.specs.LaterPackets.{blockBitsFrom, joined, othersOf}
 use Rattle.empty_packets.proofs.ShiftedStates.{block-shared, Shift, Step, no-step, step-then, leaf-step, Settled, path-settled}
 use Rattle.empty_packets.proofs.ShiftedStates.{settled-bits, path-step, planes-bits, planes-step, passes-step}
 
@@ -83,7 +80,7 @@ blocks-joined now (k ∷ ks) (c ∷ cs) ls ms ws =
 -- ---- two states
 
 -- what holds of both branches, chosen alike
-both {ℓ} : {A : Type ℓ} (P : A → A → Type 0) (b b′ : Bool) (x y x′ y′ : A) → b′ ≡ b → (b ≡ true → P x x′) → (b ≡ false → P y y′)
+pub both {ℓ} : {A : Type ℓ} (P : A → A → Type 0) (b b′ : Bool) (x y x′ y′ : A) → b′ ≡ b → (b ≡ true → P x x′) → (b ≡ false → P y y′)
     → P (cond b x y) (cond b′ x′ y′)
 both P true true x y x′ y′ e p q = p refl
 both P true false x y x′ y′ e p q = absurd (true≢false (sym e))
@@ -294,5 +291,6 @@ module _ (L : Layout) (t now : ℕ) (from : t ≤ now) (soon : now + 1 < notYetI
       let ws′ : List ℕ = cond (isNew ws k && ltb 0 c) (setValue (k .inclTree) (k .path) now ws) ws in
       let vs′ : List ℕ = cond (isNew vs k && ltb 0 c) (setValue (k .inclTree) (k .path) (now + 1) vs) vs in
       let x : Step L t ws vs ws′ vs′ = both (Step L t ws vs) (isNew ws k && ltb 0 c) (isNew vs k && ltb 0 c) _ _ _ _
-      (ap (λ (b : Bool). b && ltb 0 c) (new-same L t k P ws vs s)) (λ e. leaf-step L t now from soon k P ws vs s) (λ e. no-step L t ws vs s) in
+      (ap (λ (b : Bool). b && ltb 0 c) (new-same L t k P ws vs s)) (λ e. leaf-step L t now from soon k P ws vs s)
+      (λ e. no-step L t ws vs s) in
       step-then L t ws vs ws′ vs′ _ _ x (new-blocks-step ks cs ws′ vs′ (f .1) (x .shift))

@@ -1,6 +1,6 @@
 -- Nodes of an inclusion tree without a packet and with it, put in at layer t: coded with thresholds one apart they put the same bits and
 -- stay related.
-use mathlib.Core.Path.{_≡_, refl, sym, ap, ap₂, _∙_}
+use mathlib.Core.Path.{_≡_, refl, sym, ap₂, _∙_}
 use mathlib.Core.Bool.{Bool, true, false, cond, _&&_, true≢false, and-false}
 use mathlib.Core.List.{List, [], _∷_, _++_}
 use Prim.Native.Nat.{ℕ, _+_, _-_, _≤_, _<_, min, max}
@@ -11,7 +11,7 @@ use lib.Dec.{ltb, eqb}
 use borrow.Author.Tests.{lt-ltb, le-ltb, ne-eqb}
 use Rattle.t800.specs.State.{notYetIncluded}
 use Rattle.t800_laws.proofs.Laws.Tests.{on-lt, if-lt}
-use Rattle.round_trip.proofs.Trip.Nodes.{Node, node, lowOut, putsOne, bitsOfNode, nodeAfter, bitsOfPath, nodesAfter, Increasing}
+use Rattle.round_trip.proofs.Trip.Nodes.{Node, lowOut, putsOne, bitsOfNode, nodeAfter, bitsOfPath, nodesAfter, Increasing}
 
 -- ---- values, lows and nodes
 

@@ -1,30 +1,28 @@
 -- A state without a packet put in at layer t, and one with it: all words but the layer and the inclusion nodes agree, and those nodes are
 -- shifted. Setting a leaf, coding a path and storing a block's passes on both sides keep that.
-use mathlib.Core.Path.{_≡_, refl, sym, ap, ap₂, _∙_, subst, subst₂}
+use mathlib.Core.Path.{_≡_, refl, sym, ap, _∙_, subst, subst₂}
 use mathlib.Core.Logic.{_≢_}
-use mathlib.Core.Bool.{Bool, true, false, cond}
+use mathlib.Core.Bool.{Bool, true, false}
 use mathlib.Core.List.{List, [], _∷_, _++_, reverse, reverseAux}
 use Prim.Native.Nat.{ℕ, _+_, _-_, _*_, _≤_, _<_, max, zero-le}
-use native.Mathlib.Nat.{le-trans, le-of-eq}
 use native.Mathlib.Omega.{arith}
 use lib.ListN.{length, getD, set, length-set}
 use lib.Seq.{getD-set-same, getD-set-other, set-out}
-use lib.Dec.{ltb}
 use Rattle.t800.specs.TagTree.{Coded, value, lowAfter, nodeBits, knownAfter, setValue, codePath}
 use Rattle.t800.specs.State.{Block, notYetIncluded, passesSoFar}
 use Rattle.t800_laws.proofs.Laws.Tests.{on-eq, on-lt}
 use Rattle.t800_laws.proofs.Laws.Paths.{All, all-so, addresses, Clear, ApartFromAll, Ancestors}
-use Rattle.t800_laws.proofs.Laws.Layout.{Tree, inclusion, zeroPlanes, treeOf, Layout, Placed, leafToRoot, rootToLeaf, path-nodes}
-use Rattle.t800_laws.proofs.Laws.Layout.{from-root-nodes, second-no-node, third-no-node}
+use Rattle.t800_laws.proofs.Laws.Layout.{inclusion, zeroPlanes, Layout, Placed, rootToLeaf, path-nodes}
+use Rattle.t800_laws.proofs.Laws.Layout.{from-root-nodes}
 use Rattle.t800_laws.proofs.Laws.SetLeaf.{lowers, ends, Ordered, setValue-ordered}
 use Rattle.round_trip.proofs.Trip.Nodes.{Node, Increasing}
 use Rattle.round_trip.proofs.Trip.NodeWords.{nodeAt, nodesAt}
 use Rattle.round_trip.proofs.Trip.Trees.{all-apart, path-coded, coding-keeps}
-use Rattle.round_trip.proofs.Trip.Changes.{block-stays, first-stays, first-words-stay, BlockOnly, node-stays, value-stays}
+use Rattle.round_trip.proofs.Trip.Changes.{block-stays, BlockOnly, node-stays, value-stays}
 use Rattle.round_trip.proofs.Trip.Changes.{other-block-stays, stored}
-use Rattle.round_trip.proofs.Trip.Changes.{stored-passes, stored-others, stored-length, leaf-set, nodes-only, low-stays, known-stays}
+use Rattle.round_trip.proofs.Trip.Changes.{stored-passes, stored-others, stored-length, leaf-set, nodes-only}
 use Rattle.empty_packets.proofs.Settled.{same-order}
-use Rattle.empty_packets.proofs.ShiftedNodes.{Later, one-more, neither, Shifted, same, fresh, later, Lows, equal, may-be-fresh}
+use Rattle.empty_packets.proofs.ShiftedNodes.{one-more, neither, Shifted, same, fresh, later, equal, may-be-fresh}
 use Rattle.empty_packets.proofs.ShiftedNodes.{AllShifted, nil, cons, path-after, path-bits}
 
 -- ---- words that agree
@@ -374,20 +372,23 @@ module _ (L : Layout) (t : ℕ) (k : Block) (P : Placed L k) (ws vs : List ℕ) 
       rw f (omega arith))
       (λ f. sym (other-block-stays L ws ws′ at B only q Q f .0) ∙ z))
 
-module _ (L : Layout) (t x y : ℕ) (ws vs : List ℕ) (s : Shift L t ws vs) where
-  pub layer-step : Step L t ws vs (set ws 3 x) (set vs 3 y)
-  layer-step =
-      let stays : (us : List ℕ) (z i : ℕ) → 13 ≤ i → getD (set us 3 z) i 0 ≡ getD us i 0 = λ us z i h.
-      getD-set-other us 3 i z 0 (omega arith) in
-      let node-same : (us : List ℕ) (z a : ℕ) → L .Node inclusion a → nodeAt (set us 3 z) a ≡ nodeAt us a = λ us z a n.
-      let h = L .node-in inclusion a n .0 in
-      λ i. record {
-        value = stays us z a h i;
-        low = stays us z (a + 1) (omega arith) i;
-        known = stays us z (a + 2) (omega arith) i;
-      } in
-      stepped L t ws vs (set ws 3 x) (set vs 3 y) s (length-set ws 3 x ∙ s .long) (length-set vs 3 y ∙ s .other-long)
-      (same-order L ws (set ws 3 x) (λ u a n. stays ws x a (L .node-in u a n .0)) (s .order))
-      (λ i h. getD-set-other vs 3 i y 0 (h .0) ∙ s .agree i h ∙ sym (getD-set-other ws 3 i x 0 (h .0)))
-      (kept-by L t ws vs (set ws 3 x) (set vs 3 y) (node-same ws x) (node-same vs y))
-      (λ q b e. sym (stays ws x q (L .block-in q b .0)) ∙ e)
+-- nothing but the layer changes
+abbrev pub LayerOnly : List ℕ → List ℕ → Type 0
+LayerOnly ws vs = (length vs ≡ length ws) × ((i : ℕ) → i ≢ 3 → getD vs i 0 ≡ getD ws i 0)
+
+pub layer-set : (ws : List ℕ) (x : ℕ) → LayerOnly ws (set ws 3 x)
+layer-set ws x = (length-set ws 3 x, λ i e. getD-set-other ws 3 i x 0 e)
+
+layer-off-node : (L : Layout) (ws vs : List ℕ) → LayerOnly ws vs → (a : ℕ) → L .Node inclusion a → nodeAt vs a ≡ nodeAt ws a
+layer-off-node L ws vs o a n =
+    let h = L .node-in inclusion a n .0 in
+    λ i. record { value = o .1 a (omega arith) i; low = o .1 (a + 1) (omega arith) i; known = o .1 (a + 2) (omega arith) i }
+
+pub layer-step : (L : Layout) (t : ℕ) (ws vs ws′ vs′ : List ℕ) → LayerOnly ws ws′ → LayerOnly vs vs′ → Shift L t ws vs
+    → Step L t ws vs ws′ vs′
+layer-step L t ws vs ws′ vs′ x y s =
+    stepped L t ws vs ws′ vs′ s (x .0 ∙ s .long) (y .0 ∙ s .other-long)
+    (same-order L ws ws′ (λ u a n. let h = L .node-in u a n .0 in x .1 a (omega arith)) (s .order))
+    (λ i h. y .1 i (h .0) ∙ s .agree i h ∙ sym (x .1 i (h .0)))
+    (kept-by L t ws vs ws′ vs′ (layer-off-node L ws ws′ x) (layer-off-node L vs vs′ y))
+    (λ q b e. let h = L .block-in q b .0 in sym (x .1 q (omega arith)) ∙ e)
