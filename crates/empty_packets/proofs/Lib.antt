@@ -5,3 +5,4 @@ pub mod ShiftedNodes
 pub mod ShiftedStates
 pub mod ShiftedBlocks
 pub mod Insertion
+pub mod InsertionExample
