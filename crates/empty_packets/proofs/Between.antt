@@ -1,7 +1,7 @@
 -- The inclusion trees between packets: each node is told or open, whatever packets came, and the values are in order.
 use mathlib.Core.Path.{_≡_, refl, sym, ap, _∙_, subst}
 use mathlib.Core.Logic.{_≢_, _⊎_, inl, inr}
-use mathlib.Core.Bool.{not}
+use mathlib.Core.Bool.{true, false, not}
 use mathlib.Core.List.{List, [], _∷_}
 use Prim.Native.Nat.{ℕ, _+_, _≤_, _<_}
 use native.Mathlib.Nat.{le-trans, le-of-eq}
@@ -18,7 +18,7 @@ use Rattle.t800.specs.Ranges.{validState}
 use Rattle.t800.specs.Start.{freshState, setZeroPlanes}
 use Rattle.t800.specs.WriteHeader.{Contribution, setNewBlocks, codeBlock, codeBlocks}
 use Rattle.t800.specs.Packet.{wrongLists, measureRefusal, measureRefusalWith}
-use Rattle.t800_laws.proofs.Laws.Tests.{not-refused, if-lt, if-ge, either}
+use Rattle.t800_laws.proofs.Laws.Tests.{not-refused, if-true, if-false, if-lt, if-ge, either}
 use Rattle.t800_laws.proofs.Laws.Lists.{lists-right}
 use Rattle.t800_laws.proofs.Laws.Layout.{inclusion, zeroPlanes, Layout, AllPlaced, layoutOf, blocks-placed, end-after}
 use Rattle.t800_laws.proofs.Laws.FirstWords.{FirstWords, next-layer}
@@ -35,8 +35,8 @@ use Rattle.round_trip.proofs.Trip.Start.{started-in-step}
 use Rattle.empty_packets.specs.Rule.{contributes, codePresent, codeAbsent, codeHeader}
 use Rattle.empty_packets.specs.LaterPackets.{Accepted, stateBehind, Started, startedState}
 use Rattle.empty_packets.proofs.Settled.{Tidy, settled, Tidied, settled-or-same, block-tidied}
-use Rattle.empty_packets.proofs.NewBlocks.{AllOnNew, on-new-before, nodes-keep-passes, coding-keeps-passes, every-word-set}
-use Rattle.empty_packets.proofs.NewBlocks.{off-new-stays}
+use Rattle.empty_packets.proofs.NewBlocks.{AllOnNew, on-new-before, coding-keeps-passes, new-blocks-only}
+use Rattle.empty_packets.proofs.NewBlocks.{setting-keeps-passes, every-word-set, off-new-stays}
 
 -- with next layer t: its value is known, and lies below t
 pub record Told (t : ℕ) (n : Node) : Type 0 where
@@ -149,11 +149,15 @@ during-set L t ks cs ws f l y =
       };
       values = λ a n. every-word-set (Value t) t ks cs ws a (λ _. inl (omega arith)) (value-of t (nodeAt ws a) (y .nodes a n));
       done = λ a n o. let before = on-new-before (λ b. a ≢ b) ws us ks
-          (nodes-keep-passes L ws us ks f (nodes-only L inclusion ws us (s .only))) o in
+          (setting-keeps-passes L t ks cs ws f) o in
           let v : value us a ≡ value ws a = off-new-stays L t ks cs ws a f before in
           let e : nodeAt ws a ≡ nodeAt us a = λ i. node (sym v i) (sym (lo a n) i) (sym (kn a n) i) in
           subst (ToldOrOpen (t + 1)) e (still-told-or-open t (nodeAt ws a) (y .nodes a n));
     }
+
+pub new-blocks-tidied : (L : Layout) (t : ℕ) (ks : List Block) (cs ws : List ℕ) → AllPlaced L ks → t < notYetIncluded → Between L t ws
+    → Tidied L t (setNewBlocks t ks cs ws)
+new-blocks-tidied L t ks cs ws f l y = during-set L t ks cs ws f l y .tidied
 
 during-block : (L : Layout) (t : ℕ) (k : Block) (ks : List Block) (c : ℕ) (segments : List Segment) (ws : List ℕ) → AllPlaced L (k ∷ ks)
     → t < notYetIncluded → During L t (k ∷ ks) ws → During L t ks (codeBlock t k c segments ws .words)
@@ -228,6 +232,14 @@ reached-started count given style planes lent e =
           (between-started (take count given) style planes);
     }
 
+pub header-with-passes : (p : Contribution) (ws : List ℕ) → contributes p ≡ true → codeHeader p ws ≡ codePresent p ws
+unfolding codeHeader
+header-with-passes p ws h = if-true (contributes p) (codePresent p ws) (codeAbsent ws) h
+
+pub header-without-passes : (p : Contribution) (ws : List ℕ) → contributes p ≡ false → codeHeader p ws ≡ codeAbsent ws
+unfolding codeHeader
+header-without-passes p ws h = if-false (contributes p) (codePresent p ws) (codeAbsent ws) h
+
 module _ (bs : List Band) (s t : ℕ) (ws : List ℕ) (y : Reached bs s t ws) where
   pub reached-blocks : blocks (bands ws) ≡ blocks bs
   reached-blocks = ap blocks (y .first-words .bands-are)
@@ -263,8 +275,7 @@ module _ (bs : List Band) (s t : ℕ) (ws : List ℕ) (y : Reached bs s t ws) wh
       let L : Layout = layoutOf bs in
       let f = blocks-placed bs in
       let us : List ℕ = setNewBlocks t (blocks bs) (p .counts) ws in
-      let o = new-blocks-set L t (blocks bs) (p .counts) ws f (y .between .long)
-      (λ a n. low-in-layer t (nodeAt ws a) (y .between .nodes a n)) .0 .only in
+      let o = new-blocks-only L t (blocks bs) (p .counts) ws f in
       blocks-coded L t (blocks bs) (p .counts) (p .lengths) (p .marks) us f (o .long ∙ y .between .long) .first j h
       ∙ first-stays L ws us (nodes-only L inclusion ws us o) j h
 

@@ -1,6 +1,9 @@
 pub mod Settled
 pub mod NewBlocks
 pub mod Between
+pub mod Alike
+pub mod Behind
+pub mod Examples
 pub mod ShiftedNodes
 pub mod ShiftedStates
 pub mod ShiftedBlocks

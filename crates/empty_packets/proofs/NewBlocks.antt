@@ -15,7 +15,7 @@ use Rattle.t800_laws.proofs.Laws.Paths.{All, addresses}
 use Rattle.t800_laws.proofs.Laws.Layout.{inclusion, Layout, Placed, SeparateFromAll, AllPlaced, rootToLeaf, leafToRoot}
 use Rattle.t800_laws.proofs.Laws.SetLeaf.{off-path-stays, every-word}
 use Rattle.round_trip.proofs.Trip.Trees.{NodesOnly}
-use Rattle.round_trip.proofs.Trip.Changes.{block-stays, BlockCoded, ValuesOnly, no-values, leaf-set, nodes-only}
+use Rattle.round_trip.proofs.Trip.Changes.{block-stays, BlockCoded, ValuesOnly, no-values, values-then, leaf-set, nodes-only}
 
 -- ---- the nodes on new blocks' paths
 
@@ -60,12 +60,27 @@ from-leaf P k h = all-back P (k .inclTree) (k .path) [] h .0
 -- ---- setting them
 
 -- block k of c passes is set where it is new
-abbrev setNew : ℕ → Block → ℕ → List ℕ → List ℕ
+abbrev pub setNew : ℕ → Block → ℕ → List ℕ → List ℕ
 setNew t k c ws = cond (isNew ws k && ltb 0 c) (setValue (k .inclTree) (k .path) t ws) ws
 
 new-set-only : (L : Layout) (k : Block) (P : Placed L k) (t c : ℕ) (ws : List ℕ) → ValuesOnly L inclusion ws (setNew t k c ws)
 new-set-only L k P t c ws =
     either (ValuesOnly L inclusion ws) (isNew ws k && ltb 0 c) _ _ (leaf-set L inclusion k P t ws) (no-values L inclusion ws)
+
+pub new-blocks-only : (L : Layout) (t : ℕ) (ks : List Block) (cs ws : List ℕ) → AllPlaced L ks
+    → ValuesOnly L inclusion ws (setNewBlocks t ks cs ws)
+unfolding setNewBlocks
+new-blocks-only L t [] cs ws f = no-values L inclusion ws
+new-blocks-only L t (k ∷ ks) [] ws f = no-values L inclusion ws
+new-blocks-only L t (k ∷ ks) (c ∷ cs) ws f =
+    let vs : List ℕ = setNew t k c ws in
+    values-then L inclusion ws vs (setNewBlocks t ks cs vs) (new-set-only L k (f .0 .0) t c ws) (new-blocks-only L t ks cs vs (f .1))
+
+pub setting-keeps-passes : (L : Layout) (t : ℕ) (ks : List Block) (cs ws : List ℕ) → AllPlaced L ks
+    → SamePasses ws (setNewBlocks t ks cs ws) ks
+setting-keeps-passes L t ks cs ws f =
+    nodes-keep-passes L ws (setNewBlocks t ks cs ws) ks f
+    (nodes-only L inclusion ws (setNewBlocks t ks cs ws) (new-blocks-only L t ks cs ws f))
 
 -- what holds of t and of each word before holds of each word after
 pub every-word-set : (P : ℕ → Type 0) (t : ℕ) (ks : List Block) (cs ws : List ℕ) (i : ℕ) → (t < getD ws i 0 → P t) → P (getD ws i 0)

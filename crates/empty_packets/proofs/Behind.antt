@@ -1,0 +1,311 @@
+-- The state behind a packet with passes is that of packets all coded block by block: packets without passes leave behind them the lows and
+-- knowns on new blocks' inclusion paths alone, and a packet with passes settles these.
+use mathlib.Core.Path.{_≡_, refl, sym, ap, _∙_, subst, subst₂}
+use mathlib.Core.Logic.{_≢_}
+use mathlib.Core.Bool.{Bool, true, false, _&&_}
+use mathlib.Core.List.{List, [], _∷_, _++_, reverse}
+use Prim.Native.Nat.{ℕ, _+_, _*_, _<_, max}
+use native.Mathlib.Omega.{arith}
+use lib.ListN.{length, getD, set, take, drop}
+use lib.Seq.{getD-set-other, ext-getD}
+use lib.Dec.{ltb}
+use borrow.Author.Tests.{ltb-false}
+use Rattle.t800.specs.declared.Band.{Band}
+use Rattle.t800.specs.Base.{any}
+use Rattle.t800.specs.TagTree.{Coded, value, lowAfter, codePath}
+use Rattle.t800.specs.Segments.{Segment, segmentsOf}
+use Rattle.t800.specs.State.{Block, notYetIncluded, blocks, passesSoFar}
+use Rattle.t800.specs.WriteHeader.{Contribution, isNew, setNewBlocks, codeInclusion, codeZeroPlanes, codeBlock, codeBlocks}
+use Rattle.t800_laws.proofs.Laws.Tests.{on-eq, if-eq, if-ne, if-false, or-left, or-right}
+use Rattle.t800_laws.proofs.Laws.Paths.{All, all-so, addresses}
+use Rattle.t800_laws.proofs.Laws.Layout.{inclusion, Layout, Placed, AllPlaced, rootToLeaf, from-root-nodes, layoutOf, blocks-placed}
+use Rattle.round_trip.proofs.Trip.Nodes.{Node}
+use Rattle.round_trip.proofs.Trip.NodeWords.{nodeAt}
+use Rattle.round_trip.proofs.Trip.Trees.{path-coded}
+use Rattle.round_trip.proofs.Trip.Changes.{block-coded, blocks-coded}
+use Rattle.round_trip.proofs.Trip.WriterState.{headerBlocks}
+use Rattle.empty_packets.specs.Rule.{contributes, codePresent, codeHeader}
+use Rattle.empty_packets.specs.LaterPackets.{Accepted, stateBehind, stateBehindPresent, startedState, StateAsIfPresent}
+use Rattle.empty_packets.proofs.Settled.{settled, Tidied, path-settled, block-tidied}
+use Rattle.empty_packets.proofs.NewBlocks.{AllOnNew, SamePasses, on-new-after, on-new-before}
+use Rattle.empty_packets.proofs.NewBlocks.{coding-keeps-passes, setting-keeps-passes}
+use Rattle.empty_packets.proofs.Between.{new-blocks-tidied, Reached, reached-started, absent-is, present-is, reached-present}
+use Rattle.empty_packets.proofs.Between.{reached-header, accepted-here, header-with-passes, header-without-passes}
+use Rattle.empty_packets.proofs.Alike.{Alike, set-alike, OffLow, NoLow, value-no-low, passes-same, planes-alike}
+use Rattle.empty_packets.proofs.Alike.{passes-alike, new-blocks-alike}
+
+-- ---- lows and knowns of a path
+
+off-lows-stay : (base t : ℕ) (ns : List ℕ) (l : ℕ) (ws : List ℕ) (i : ℕ) → All (OffLow i) (addresses base ns)
+    → getD (codePath base t ns l ws .words) i 0 ≡ getD ws i 0
+unfolding codePath
+off-lows-stay base t [] l ws i h = refl
+off-lows-stay base t (n ∷ ns) l ws i h =
+    let a : ℕ = base + 3 * n in
+    let to : ℕ = lowAfter (getD ws a 0) (max l (getD ws (a + 1) 0)) t in
+    off-lows-stay base t ns to _ i (h .1)
+    ∙ getD-set-other (set ws (a + 1) to) (a + 2) i _ 0 (h .0 .1)
+    ∙ getD-set-other ws (a + 1) i to 0 (h .0 .0)
+
+-- what holds of all lows and knowns of a path holds of word i, or it is none of them
+low-or-off {ℓ} : {X : Type ℓ} (Q : ℕ → Type 0) (i : ℕ) (xs : List ℕ) → All (λ b. Q (b + 1) × Q (b + 2)) xs → (Q i → X)
+    → (All (OffLow i) xs → X) → X
+low-or-off Q i [] q f g = g tt
+low-or-off Q i (b ∷ xs) q f g =
+    on-eq i (b + 1) (λ e. f (subst Q (sym e) (q .0 .0)))
+    (λ d. on-eq i (b + 2) (λ e. f (subst Q (sym e) (q .0 .1))) (λ e. low-or-off Q i xs (q .1) f (λ h. g ((d, e), h))))
+
+-- settled nodes of the same values are the same
+settled-same : (t : ℕ) (ws vs us ys xs : List ℕ) → All (λ b. nodeAt us b ≡ settled t (value ws b)) xs
+    → All (λ b. nodeAt ys b ≡ settled t (value vs b)) xs → All (λ b. value ws b ≡ value vs b) xs
+    → All (λ b. (getD us (b + 1) 0 ≡ getD ys (b + 1) 0) × (getD us (b + 2) 0 ≡ getD ys (b + 2) 0)) xs
+settled-same t ws vs us ys [] p q v = tt
+settled-same t ws vs us ys (b ∷ xs) p q v =
+    let e : nodeAt us b ≡ nodeAt ys b = p .0 ∙ ap (settled t) (v .0) ∙ sym (q .0) in
+    ((ap (λ (n : Node). n .low) e, ap (λ (n : Node). n .known) e), settled-same t ws vs us ys xs (p .1) (q .1) (v .1))
+
+-- ---- one block, in two states
+
+new-inclusion : (t : ℕ) (k : Block) (c : ℕ) (ws : List ℕ) → passesSoFar ws (k .at) ≡ 0
+    → codeInclusion t k c ws .words ≡ codePath (k .inclTree) (t + 1) (reverse (k .path)) 0 ws .words
+unfolding codeInclusion isNew
+new-inclusion t k c ws z = ap (λ (x : Coded). x .words) (if-eq (passesSoFar ws (k .at)) 0 _ _ z)
+
+old-inclusion : (t : ℕ) (k : Block) (c : ℕ) (ws : List ℕ) → passesSoFar ws (k .at) ≢ 0 → codeInclusion t k c ws .words ≡ ws
+unfolding codeInclusion isNew
+old-inclusion t k c ws z = ap (λ (x : Coded). x .words) (if-ne (passesSoFar ws (k .at)) 0 _ _ z)
+
+module _ (L : Layout) (S : ℕ → Type 0) (wide : (i : ℕ) → NoLow L i → S i) (k : Block) (P : Placed L k) (t : ℕ) (ws vs : List ℕ)
+    (w : Tidied L t ws) (v : Tidied L t vs) where
+  abbrev xs : List ℕ
+  xs = rootToLeaf inclusion k
+
+  -- the words in S, less the lows and knowns on k's path if it is new
+  abbrev Fewer : ℕ → Type 0
+  Fewer i = (passesSoFar ws (k .at) ≡ 0 → All (OffLow i) xs) × S i
+
+  fewer-wide : (i : ℕ) → NoLow L i → Fewer i
+  fewer-wide i h = ((λ _. all-so (L .Node inclusion) (OffLow i) xs h (from-root-nodes L inclusion k P)), wide i h)
+
+  module _ (y : Alike Fewer ws vs) where
+    inclusion-alike : (c : ℕ) → Alike S (codeInclusion t k c ws .words) (codeInclusion t k c vs .words)
+    inclusion-alike c =
+        let p = passes-same L Fewer fewer-wide k P ws vs y in
+        let us : List ℕ = codePath (k .inclTree) (t + 1) (reverse (k .path)) 0 ws .words in
+        let ys : List ℕ = codePath (k .inclTree) (t + 1) (reverse (k .path)) 0 vs .words in
+        let values : All (λ b. value ws b ≡ value vs b) xs =
+        all-so (L .Node inclusion) (λ b. value ws b ≡ value vs b) xs
+        (λ b n. y .words b (fewer-wide b (value-no-low L inclusion b n))) (from-root-nodes L inclusion k P) in
+        let same = settled-same t ws vs us ys xs (path-settled L k P t ws w) (path-settled L k P t vs v) values in
+        on-eq (passesSoFar ws (k .at)) 0
+        (λ z. subst₂ (Alike S) (sym (new-inclusion t k c ws z)) (sym (new-inclusion t k c vs (sym p ∙ z)))
+        (record {
+          long = path-coded L inclusion k P (t + 1) ws (w .long) .words .long ∙ y .long
+              ∙ sym (path-coded L inclusion k P (t + 1) vs (v .long) .words .long);
+          words = λ i s. low-or-off (λ j. getD us j 0 ≡ getD ys j 0) i xs same (λ q. q)
+              (λ o. off-lows-stay (k .inclTree) (t + 1) (reverse (k .path)) 0 ws i o ∙ y .words i ((λ _. o), s)
+              ∙ sym (off-lows-stay (k .inclTree) (t + 1) (reverse (k .path)) 0 vs i o));
+        }))
+        (λ z. subst₂ (Alike S) (sym (old-inclusion t k c ws z)) (sym (old-inclusion t k c vs (λ e. z (p ∙ e))))
+        (record { long = y .long; words = λ i s. y .words i ((λ e. absurd (z e)), s) }))
+
+    block-alike : (c : ℕ) (segments : List Segment) → Alike S (codeBlock t k c segments ws .words) (codeBlock t k c segments vs .words)
+    unfolding codeBlock
+    block-alike c segments =
+        let a = inclusion-alike c in
+        let ws₁ : List ℕ = codeInclusion t k c ws .words in
+        let vs₁ : List ℕ = codeInclusion t k c vs .words in
+        let b = planes-alike L S wide k P ws₁ vs₁ a in
+        on-eq c 0
+        (λ e. rw (if-eq c 0 (codeInclusion t k c ws) _ e, if-eq c 0 (codeInclusion t k c vs) _ e) a)
+        (λ e. rw (if-ne c 0 (codeInclusion t k c ws) _ e, if-ne c 0 (codeInclusion t k c vs) _ e)
+        (passes-alike L S wide k P (codeZeroPlanes k ws₁ .words) (codeZeroPlanes k vs₁ .words) b c segments))
+
+-- ---- all blocks
+
+-- word i is no low and no known word on a new block's path
+abbrev OffNewLows : List ℕ → List Block → ℕ → Type 0
+OffNewLows ws ks i = AllOnNew (OffLow i) ws ks
+
+off-new-wide : (L : Layout) (ws : List ℕ) (ks : List Block) (i : ℕ) → AllPlaced L ks → NoLow L i → OffNewLows ws ks i
+off-new-wide L ws [] i f h = tt
+off-new-wide L ws (k ∷ ks) i f h = (
+  (λ _. all-so (L .Node inclusion) (OffLow i) (rootToLeaf inclusion k) h (from-root-nodes L inclusion k (f .0 .0))),
+  off-new-wide L ws ks i (f .1) h,
+)
+
+blocks-alike : (L : Layout) (t : ℕ) (ks : List Block) (cs ls ms ws vs : List ℕ) → AllPlaced L ks → length cs ≡ length ks → Tidied L t ws
+    → Tidied L t vs → Alike (OffNewLows ws ks) ws vs
+    → Alike (λ _. Unit {0}) (codeBlocks t ks cs ls ms ws .words) (codeBlocks t ks cs ls ms vs .words)
+unfolding codeBlocks
+blocks-alike L t [] cs ls ms ws vs f e w v y = y
+blocks-alike L t (k ∷ ks) [] ls ms ws vs f e w v y = absurd (omega arith)
+blocks-alike L t (k ∷ ks) (c ∷ cs) ls ms ws vs f e w v y =
+    let P = f .0 .0 in
+    let segments : List Segment = segmentsOf (take c ls) (take c ms) in
+    let ws₁ : List ℕ = codeBlock t k c segments ws .words in
+    let vs₁ : List ℕ = codeBlock t k c segments vs .words in
+    let a = block-alike L (OffNewLows ws ks) (λ i h. off-new-wide L ws ks i (f .1) h) k P t ws vs w v y c segments in
+    let same = coding-keeps-passes L ws ws₁ k c ks (block-coded L k P c t segments ws (w .long)) (f .0 .1) (f .1) in
+    blocks-alike L t ks cs (drop c ls) (drop c ms) ws₁ vs₁ (f .1) (omega arith) (block-tidied L k P t c segments ws w)
+    (block-tidied L k P t c segments vs v)
+    (record { long = a .long; words = λ i o. a .words i (on-new-before (OffLow i) ws ws₁ ks same o) })
+
+-- ---- a packet with passes
+
+-- the rule's state, and that of packets all coded block by block
+record Ahead (bs : List Band) (s t : ℕ) (ws vs : List ℕ) : Type 0 where
+  rule : Reached bs s t ws
+  present : Reached bs s t vs
+  alike : Alike (OffNewLows ws (blocks bs)) ws vs
+
+module _ (bs : List Band) (s t : ℕ) (ws vs : List ℕ) (y : Ahead bs s t ws vs) (p : Contribution)
+    (e : length (p .counts) ≡ length (blocks bs)) (l : t < notYetIncluded) where
+  abbrev L : Layout
+  L = layoutOf bs
+
+  abbrev ks : List Block
+  ks = blocks bs
+
+  header-same : headerBlocks t ks p ws .words ≡ headerBlocks t ks p vs .words
+  header-same =
+      let f = blocks-placed bs in
+      let cs : List ℕ = p .counts in
+      let us : List ℕ = setNewBlocks t ks cs ws in
+      let ys : List ℕ = setNewBlocks t ks cs vs in
+      let a = new-blocks-alike L (OffNewLows ws ks) (λ i h. off-new-wide L ws ks i f h) t ks cs ws vs f (y .alike) in
+      let b : Alike (OffNewLows us ks) us ys = record {
+        long = a .long;
+        words = λ i o. a .words i (on-new-before (OffLow i) ws us ks (setting-keeps-passes L t ks cs ws f) o);
+      } in
+      let c = blocks-alike L t ks cs (p .lengths) (p .marks) us ys f e (new-blocks-tidied L t ks cs ws f l (y .rule .between))
+      (new-blocks-tidied L t ks cs vs f l (y .present .between)) b in
+      ext-getD 0 (headerBlocks t ks p ws .words) (headerBlocks t ks p vs .words) (c .long) (λ i h. c .words i tt)
+
+  present-same : codePresent p ws .words ≡ codePresent p vs .words
+  present-same =
+      present-is bs s t ws (y .rule) p ∙ ap (λ (z : List ℕ). set z 3 (t + 1)) header-same ∙ sym (present-is bs s t vs (y .present) p)
+
+  with-passes : contributes p ≡ true → codeHeader p ws .words ≡ codePresent p vs .words
+  with-passes h = ap (λ (x : Coded). x .words) (header-with-passes p ws h) ∙ present-same
+
+-- ---- a packet without passes
+
+and-no : (a b : Bool) → b ≡ false → (a && b) ≡ false
+and-no true b e = e
+and-no false b e = refl
+
+none-set : (t : ℕ) (ks : List Block) (cs ws : List ℕ) → any (λ (c : ℕ). ltb 0 c) cs ≡ false → setNewBlocks t ks cs ws ≡ ws
+unfolding setNewBlocks any
+none-set t [] cs ws h = refl
+none-set t (k ∷ ks) [] ws h = refl
+none-set t (k ∷ ks) (c ∷ cs) ws h =
+    let rest : Bool = any (λ (d : ℕ). ltb 0 d) cs in
+    ap (setNewBlocks t ks cs) (if-false (isNew ws k && ltb 0 c) _ _ (and-no (isNew ws k) (ltb 0 c) (or-left (ltb 0 c) rest h)))
+    ∙ none-set t ks cs ws (or-right (ltb 0 c) rest h)
+
+-- a block without passes
+absent-stays : (t : ℕ) (k : Block) (c : ℕ) (segments : List Segment) (ws : List ℕ) (i : ℕ) → c ≡ 0
+    → (passesSoFar ws (k .at) ≡ 0 → All (OffLow i) (rootToLeaf inclusion k))
+    → getD (codeBlock t k c segments ws .words) i 0 ≡ getD ws i 0
+unfolding codeBlock
+absent-stays t k c segments ws i z o =
+    ap (λ (x : Coded). getD (x .words) i 0) (if-eq c 0 (codeInclusion t k c ws) _ z)
+    ∙ on-eq (passesSoFar ws (k .at)) 0
+    (λ n. ap (λ (x : List ℕ). getD x i 0) (new-inclusion t k c ws n)
+    ∙ off-lows-stay (k .inclTree) (t + 1) (reverse (k .path)) 0 ws i (o n))
+    (λ n. ap (λ (x : List ℕ). getD x i 0) (old-inclusion t k c ws n))
+
+none-stays : (L : Layout) (t : ℕ) (ks : List Block) (cs ls ms ws : List ℕ) (i : ℕ) → AllPlaced L ks → length ws ≡ L .size
+    → any (λ (c : ℕ). ltb 0 c) cs ≡ false → OffNewLows ws ks i
+    → getD (codeBlocks t ks cs ls ms ws .words) i 0 ≡ getD ws i 0
+unfolding codeBlocks any
+none-stays L t [] cs ls ms ws i f l h o = refl
+none-stays L t (k ∷ ks) [] ls ms ws i f l h o = refl
+none-stays L t (k ∷ ks) (c ∷ cs) ls ms ws i f l h o =
+    let rest : Bool = any (λ (d : ℕ). ltb 0 d) cs in
+    let z : c ≡ 0 = (let q = ltb-false 0 c (or-left (ltb 0 c) rest h) in omega arith) in
+    let segments : List Segment = segmentsOf (take c ls) (take c ms) in
+    let vs : List ℕ = codeBlock t k c segments ws .words in
+    let b = block-coded L k (f .0 .0) c t segments ws l in
+    none-stays L t ks cs (drop c ls) (drop c ms) vs i (f .1) (b .long ∙ l) (or-right (ltb 0 c) rest h)
+    (on-new-after (OffLow i) ws vs ks (coding-keeps-passes L ws vs k c ks b (f .0 .1) (f .1)) (o .1))
+    ∙ absent-stays t k c segments ws i z (o .0)
+
+alike-passes : (L : Layout) (S : ℕ → Type 0) → ((i : ℕ) → NoLow L i → S i) → (ks : List Block) (ws vs : List ℕ) → AllPlaced L ks
+    → Alike S ws vs → SamePasses ws vs ks
+alike-passes L S wide [] ws vs f y = tt
+alike-passes L S wide (k ∷ ks) ws vs f y = (sym (passes-same L S wide k (f .0 .0) ws vs y), alike-passes L S wide ks ws vs (f .1) y)
+
+layer-keeps-passes : (L : Layout) (v : ℕ) (ks : List Block) (ws : List ℕ) → AllPlaced L ks → SamePasses ws (set ws 3 v) ks
+layer-keeps-passes L v [] ws f = tt
+layer-keeps-passes L v (k ∷ ks) ws f =
+    let h = L .block-in (k .at) (f .0 .0 .block) .0 in
+    (getD-set-other ws 3 (k .at) v 0 (omega arith), layer-keeps-passes L v ks ws (f .1))
+
+module _ (bs : List Band) (s t : ℕ) (ws vs : List ℕ) (y : Ahead bs s t ws vs) (p : Contribution)
+    (e : length (p .counts) ≡ length (blocks bs)) (l : t < notYetIncluded) where
+  without-passes : contributes p ≡ false → Alike (OffNewLows (set ws 3 (t + 1)) (blocks bs)) (set ws 3 (t + 1)) (codePresent p vs .words)
+  unfolding contributes
+  without-passes h =
+      let L : Layout = layoutOf bs in
+      let ks : List Block = blocks bs in
+      let f = blocks-placed bs in
+      let us : List ℕ = headerBlocks t ks p vs .words in
+      let vl = y .present .between .long in
+      let none : us ≡ codeBlocks t ks (p .counts) (p .lengths) (p .marks) vs .words =
+      ap (λ (z : List ℕ). codeBlocks t ks (p .counts) (p .lengths) (p .marks) z .words) (none-set t ks (p .counts) vs h) in
+      let long : length ws ≡ length us = y .alike .long
+      ∙ sym (blocks-coded L t ks (p .counts) (p .lengths) (p .marks) vs f vl .long) ∙ ap length (sym none) in
+      let same = alike-passes L (OffNewLows ws ks) (λ i n. off-new-wide L ws ks i f n) ks ws vs f (y .alike) in
+      let words : (i : ℕ) → OffNewLows ws ks i → getD ws i 0 ≡ getD us i 0 =
+      λ i o. y .alike .words i o
+      ∙ sym (none-stays L t ks (p .counts) (p .lengths) (p .marks) vs i f vl h (on-new-after (OffLow i) ws vs ks same o))
+      ∙ ap (λ (z : List ℕ). getD z i 0) (sym none) in
+      let a = set-alike (OffNewLows ws ks) ws us 3 (t + 1) (record { long = long; words = words }) in
+      subst (Alike (OffNewLows (set ws 3 (t + 1)) ks) (set ws 3 (t + 1))) (sym (present-is bs s t vs (y .present) p))
+      (record {
+        long = a .long;
+        words = λ i o. a .words i (on-new-before (OffLow i) ws (set ws 3 (t + 1)) ks (layer-keeps-passes L (t + 1) ks ws f) o);
+      })
+
+  next-alike : Alike (OffNewLows (codeHeader p ws .words) (blocks bs)) (codeHeader p ws .words) (codePresent p vs .words)
+  next-alike = go (contributes p) refl
+    where
+      go : (b : Bool) → contributes p ≡ b
+          → Alike (OffNewLows (codeHeader p ws .words) (blocks bs)) (codeHeader p ws .words) (codePresent p vs .words)
+      go true h =
+          let q = with-passes bs s t ws vs y p e l h in
+          record { long = ap length q; words = λ i o. ap (λ (z : List ℕ). getD z i 0) q }
+      go false h =
+          let q : codeHeader p ws .words ≡ set ws 3 (t + 1) =
+          ap (λ (x : Coded). x .words) (header-without-passes p ws h) ∙ absent-is bs s t ws (y .rule) in
+          subst (λ (z : List ℕ). Alike (OffNewLows z (blocks bs)) z (codePresent p vs .words)) (sym q) (without-passes h)
+
+  next-ahead : Ahead bs s (t + 1) (codeHeader p ws .words) (codePresent p vs .words)
+  next-ahead = record {
+    rule = reached-header bs s t ws (y .rule) p e l;
+    present = reached-present bs s t vs (y .present) p e l;
+    alike = next-alike;
+  }
+
+-- ---- packets, with passes or without
+
+same-behind : (bs : List Band) (s t : ℕ) (ws vs : List ℕ) (before : List Contribution) (p : Contribution) → Ahead bs s t ws vs
+    → Accepted ws (before ++ p ∷ []) → contributes p ≡ true
+    → stateBehind ws (before ++ p ∷ []) ≡ stateBehindPresent vs (before ++ p ∷ [])
+unfolding Accepted stateBehind stateBehindPresent
+same-behind bs s t ws vs [] p y a h =
+    let q = accepted-here bs s t ws (y .rule) p (a .0) in
+    with-passes bs s t ws vs y p (q .0) (q .1) h
+same-behind bs s t ws vs (b ∷ before) p y a h =
+    let q = accepted-here bs s t ws (y .rule) b (a .0) in
+    let next = next-ahead bs s t ws vs y b (q .0) (q .1) in
+    same-behind bs s (t + 1) (codeHeader b ws .words) (codePresent b vs .words) before p next (a .1) h
+
+pub state-as-if-present : StateAsIfPresent
+state-as-if-present count given style planes lent started before p a h =
+    let y = reached-started count given style planes lent started in
+    let ws : List ℕ = startedState count given style planes lent in
+    same-behind (take count given) style 0 ws ws before p
+    (record { rule = y; present = y; alike = record { long = refl; words = λ i o. refl } }) a h
