@@ -14,7 +14,7 @@ use Rattle.t800.specs.TagTree.{Coded}
 use Rattle.t800.specs.State.{Block, notYetIncluded, blocks, bands, layer}
 use Rattle.t800.specs.WriteHeader.{Contribution, setNewBlocks}
 use Rattle.t800.specs.Packet.{measureRefusal}
-use Rattle.t800_laws.proofs.Laws.Tests.{if-true, if-false, or-left, or-right}
+use Rattle.t800_laws.proofs.Laws.Tests.{or-left, or-right}
 use Rattle.t800_laws.proofs.Laws.Layout.{Layout, layoutOf, blocks-placed}
 use Rattle.round_trip.proofs.Trip.Nodes.{Node}
 use Rattle.round_trip.proofs.Trip.NodeWords.{nodeAt}
@@ -23,11 +23,12 @@ use Rattle.empty_packets.specs.Rule.{contributes, codePresent, codeAbsen
 use Rattle.empty_packets.specs.LaterPackets.{Accepted, headers, stateBehind, blockBitsFrom, blockBits, joined, othersOf}
 use Rattle.empty_packets.specs.LaterPackets.{startedState, ChangesAtMost, InsertionChangesAtMost}
 use Rattle.empty_packets.proofs.Between.{Told, Open, Reached, reached-started, reached-blocks, absent-is, reached-absent, present-is}
-use Rattle.empty_packets.proofs.Between.{reached-header, accepted-here, reached-list}
+use Rattle.empty_packets.proofs.Between.{header-with-passes, header-without-passes, reached-header, accepted-here, reached-list}
+use Rattle.empty_packets.proofs.Alike.{both-branches}
 use Rattle.empty_packets.proofs.ShiftedNodes.{neither, Shifted, same, fresh}
 use Rattle.empty_packets.proofs.ShiftedStates.{Shift, Step, step-then, layer-set, layer-step}
-use Rattle.empty_packets.proofs.ShiftedBlocks.{AllSettled, settled-kept, blocks-joined, blocks-step, blocks-settled, blocks-bits}
-use Rattle.empty_packets.proofs.ShiftedBlocks.{both, blocks-others, new-blocks-step}
+use Rattle.empty_packets.proofs.ShiftedBlocks.{BlocksNotFresh, not-fresh-kept, blocks-joined, blocks-step}
+use Rattle.empty_packets.proofs.ShiftedBlocks.{blocks-not-fresh, blocks-bits, blocks-others, new-blocks-step}
 
 -- ---- lists of packets
 
@@ -43,23 +44,15 @@ accepted-append ws (p ∷ ps) qs a = let r = accepted-append (codeHeader p ws .w
 
 -- ---- one header
 
-pub header-absent : (p : Contribution) (ws : List ℕ) → contributes p ≡ false → codeHeader p ws ≡ codeAbsent ws
-unfolding codeHeader
-header-absent p ws e = if-false (contributes p) (codePresent p ws) (codeAbsent ws) e
-
-pub header-present : (p : Contribution) (ws : List ℕ) → contributes p ≡ true → codeHeader p ws ≡ codePresent p ws
-unfolding codeHeader
-header-present p ws e = if-true (contributes p) (codePresent p ws) (codeAbsent ws) e
-
 absent-bits : (p : Contribution) (ws : List ℕ) → contributes p ≡ false → codeHeader p ws .bits ≡ 0 ∷ []
 unfolding codeAbsent
-absent-bits p ws e = ap (λ (x : Coded). x .bits) (header-absent p ws e)
+absent-bits p ws e = ap (λ (x : Coded). x .bits) (header-without-passes p ws e)
 
 -- a 1 and the blocks' bits
 present-joined : (p : Contribution) (ws : List ℕ) → contributes p ≡ true → codeHeader p ws .bits ≡ 1 ∷ joined (blockBits p ws)
 unfolding codePresent blockBits
 present-joined p ws e =
-    ap (λ (x : Coded). x .bits) (header-present p ws e)
+    ap (λ (x : Coded). x .bits) (header-with-passes p ws e)
     ∙ ap (λ (z : List ℕ). 1 ∷ z) (blocks-joined (layer ws) (blocks (bands ws)) (p .counts) (p .lengths) (p .marks) _)
 
 -- without passes all headers are alike
@@ -96,7 +89,7 @@ module _ (bs : List Band) (s t : ℕ) (ws : List ℕ) (y : Reached bs s t ws) wh
         agree = λ i h. refl;
         nodes = λ a n. told-or-open t (nodeAt ws a) (y .layers) (y .between .nodes a n);
       } in
-      let absent : codeHeader e ws .words ≡ codeAbsent ws .words = ap (λ (x : Coded). x .words) (header-absent e ws none) in
+      let absent : codeHeader e ws .words ≡ codeAbsent ws .words = ap (λ (x : Coded). x .words) (header-without-passes e ws none) in
       record {
         without = y;
         added = subst (Reached bs s (t + 1)) (sym absent) (reached-absent bs s t ws y left);
@@ -139,22 +132,22 @@ module _ (bs : List Band) (s t n : ℕ) (ws vs : List ℕ) (x : OnePacketApart b
     present-step : Step L t ws vs (codePresent p ws .words) (codePresent p vs .words)
     present-step = step-then L t ws vs _ _ _ _ coded last-step
 
-    -- all blocks are settled behind it
-    present-settled : length (p .counts) ≡ length ks → AllSettled t (codePresent p ws .words) (codePresent p vs .words) ks
-    present-settled e =
-        settled-kept L t _ _ _ _ ks (blocks-placed bs) last-step
-        (blocks-settled L t n (x .since) soon ks (p .counts) (p .lengths) (p .marks) _ _ (blocks-placed bs) e (new-blocks .shift))
+    -- behind it no new block's path has a fresh node
+    present-not-fresh : length (p .counts) ≡ length ks → BlocksNotFresh t (codePresent p ws .words) (codePresent p vs .words) ks
+    present-not-fresh e =
+        not-fresh-kept L t _ _ _ _ ks (blocks-placed bs) last-step
+        (blocks-not-fresh L t n (x .since) soon ks (p .counts) (p .lengths) (p .marks) _ _ (blocks-placed bs) e (new-blocks .shift))
 
     bits-are : (us : List ℕ) (m : ℕ) → Reached bs s m us → codePresent p us .bits ≡ 1 ∷ headerBlocks m ks p us .bits
     unfolding codePresent
     bits-are us m y = rw (y .first-words .layer-is, reached-blocks bs s m us y)
 
-    present-bits : AllSettled t ws vs ks → codePresent p vs .bits ≡ codePresent p ws .bits
+    present-bits : BlocksNotFresh t ws vs ks → codePresent p vs .bits ≡ codePresent p ws .bits
     present-bits h =
         bits-are vs (n + 1) (x .added)
         ∙ ap (λ (z : List ℕ). 1 ∷ z)
         (blocks-bits L t n (x .since) soon ks (p .counts) (p .lengths) (p .marks) _ _ (blocks-placed bs) (new-blocks .shift)
-        (settled-kept L t ws vs _ _ ks (blocks-placed bs) new-blocks h))
+        (not-fresh-kept L t ws vs _ _ ks (blocks-placed bs) new-blocks h))
         ∙ sym (bits-are ws n (x .without))
 
     block-bits-are : (us : List ℕ) (m : ℕ) → Reached bs s m us
@@ -181,8 +174,8 @@ module _ (bs : List Band) (s t n : ℕ) (ws vs : List ℕ) (x : OnePacketApart b
   header-step : Step (layoutOf bs) t ws vs (codeHeader p ws .words) (codeHeader p vs .words)
   unfolding codeHeader
   header-step =
-      both (λ (c d : Coded). Step (layoutOf bs) t ws vs (c .words) (d .words)) (contributes p) (contributes p) _ _ _ _ refl
-      (λ e. present-step bs s t n ws vs x soon p) (λ e. absent-step bs s t n ws vs x soon)
+      both-branches (λ (c d : Coded). Step (layoutOf bs) t ws vs (c .words) (d .words)) (contributes p) (contributes p) _ _ _ _ refl
+      (present-step bs s t n ws vs x soon p) (absent-step bs s t n ws vs x soon)
 
   header-apart : OnePacketApart bs s t (n + 1) (codeHeader p ws .words) (codeHeader p vs .words)
   header-apart =
@@ -193,17 +186,18 @@ module _ (bs : List Band) (s t n : ℕ) (ws vs : List ℕ) (x : OnePacketApart b
         since = omega (arith, x .since);
       }
 
-  header-bits : AllSettled t ws vs (blocks bs) → codeHeader p vs .bits ≡ codeHeader p ws .bits
+  header-bits : BlocksNotFresh t ws vs (blocks bs) → codeHeader p vs .bits ≡ codeHeader p ws .bits
   unfolding codeHeader codeAbsent
   header-bits h =
-      both (λ (c d : Coded). d .bits ≡ c .bits) (contributes p) (contributes p) _ _ _ _ refl
-      (λ e. present-bits bs s t n ws vs x soon p h) (λ e. refl)
+      both-branches (λ (c d : Coded). d .bits ≡ c .bits) (contributes p) (contributes p) _ _ _ _ refl
+      (present-bits bs s t n ws vs x soon p h) refl
 
-  -- with passes all blocks are settled behind it
-  header-settled : contributes p ≡ true → AllSettled t (codeHeader p ws .words) (codeHeader p vs .words) (blocks bs)
-  header-settled e =
-      subst₂ (λ (c d : Coded). AllSettled t (c .words) (d .words) (blocks bs)) (sym (header-present p ws e)) (sym (header-present p vs e))
-      (present-settled bs s t n ws vs x soon p counts)
+  -- with passes no new block's path has a fresh node behind it
+  header-not-fresh : contributes p ≡ true → BlocksNotFresh t (codeHeader p ws .words) (codeHeader p vs .words) (blocks bs)
+  header-not-fresh e =
+      subst₂ (λ (c d : Coded). BlocksNotFresh t (c .words) (d .words) (blocks bs)) (sym (header-with-passes p ws e))
+      (sym (header-with-passes p vs e))
+      (present-not-fresh bs s t n ws vs x soon p counts)
 
 list-apart : (bs : List Band) (s t n : ℕ) (ws vs : List ℕ) (ps : List Contribution) → OnePacketApart bs s t n ws vs → Accepted ws ps
     → Accepted vs ps → OnePacketApart bs s t (n + length ps) (stateBehind ws ps) (stateBehind vs ps)
@@ -216,7 +210,7 @@ list-apart bs s t n ws vs (p ∷ ps) x a b =
     (list-apart bs s t (n + 1) ws′ vs′ ps (header-apart bs s t n ws vs x p (a .0) (b .0)) (a .1) (b .1))
 
 headers-same : (bs : List Band) (s t n : ℕ) (ws vs : List ℕ) (ps : List Contribution) → OnePacketApart bs s t n ws vs
-    → AllSettled t ws vs (blocks bs) → Accepted ws ps → Accepted vs ps → headers vs ps ≡ headers ws ps
+    → BlocksNotFresh t ws vs (blocks bs) → Accepted ws ps → Accepted vs ps → headers vs ps ≡ headers ws ps
 unfolding Accepted headers
 headers-same bs s t n ws vs [] x h a b = refl
 headers-same bs s t n ws vs (p ∷ ps) x h a b =
@@ -224,7 +218,7 @@ headers-same bs s t n ws vs (p ∷ ps) x h a b =
     let vs′ : List ℕ = codeHeader p vs .words in
     ap₂ (λ (y : Bits) (z : List Bits). y ∷ z) (header-bits bs s t n ws vs x p (a .0) (b .0) h)
     (headers-same bs s t (n + 1) ws′ vs′ ps (header-apart bs s t n ws vs x p (a .0) (b .0))
-    (settled-kept (layoutOf bs) t ws vs ws′ vs′ (blocks bs) (blocks-placed bs) (header-step bs s t n ws vs x p (a .0) (b .0)) h)
+    (not-fresh-kept (layoutOf bs) t ws vs ws′ vs′ (blocks bs) (blocks-placed bs) (header-step bs s t n ws vs x p (a .0) (b .0)) h)
     (a .1) (b .1))
 
 -- ---- the list with the packet e and without it
@@ -236,7 +230,7 @@ behind-apart : (bs : List Band) (s t n : ℕ) (ws vs : List ℕ) (p : Contributi
 unfolding Accepted
 behind-apart bs s t n ws vs p ps x e a b = (
   others-same bs s t n ws vs x (soon bs s t n ws vs x p (a .0) (b .0)) p,
-  headers-same bs s t (n + 1) _ _ ps (header-apart bs s t n ws vs x p (a .0) (b .0)) (header-settled bs s t n ws vs x p (a .0) (b .0) e)
+  headers-same bs s t (n + 1) _ _ ps (header-apart bs s t n ws vs x p (a .0) (b .0)) (header-not-fresh bs s t n ws vs x p (a .0) (b .0) e)
       (a .1) (b .1),
 )
 

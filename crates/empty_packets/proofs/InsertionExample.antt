@@ -60,4 +60,6 @@ as-bytes = (refl, refl)
 
 applies : ChangesAtMost state none [] first (second ∷ [])
 unfolding contributes any stateBehind
-applies = insertion-changes-at-most 1 given 0 (5 ∷ []) lent starts [] none [] first (second ∷ []) accepted-without accepted-with refl refl refl
+applies =
+    insertion-changes-at-most 1 given 0 (5 ∷ []) lent starts [] none [] first (second ∷ []) accepted-without accepted-with
+    refl refl refl

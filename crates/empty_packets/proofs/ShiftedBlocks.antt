@@ -19,8 +19,9 @@ use Rattle.t800_laws.proofs.Laws.Paths.{All}
 use Rattle.t800_laws.proofs.Laws.Layout.{inclusion, Layout, Placed, AllPlaced, rootToLeaf, from-root-nodes}
 use Rattle.round_trip.proofs.Trip.WriterState.{same-bits-before}
 use Rattle.empty_packets.specs.LaterPackets.{blockBitsFrom, joined, othersOf}
-use Rattle.empty_packets.proofs.ShiftedStates.{block-shared, Shift, Step, no-step, step-then, leaf-step, Settled, path-settled}
-use Rattle.empty_packets.proofs.ShiftedStates.{settled-bits, path-step, planes-bits, planes-step, passes-step}
+use Rattle.empty_packets.proofs.Alike.{both-branches}
+use Rattle.empty_packets.proofs.ShiftedStates.{block-shared, Shift, Step, no-step, step-then, leaf-step, NoneFresh, path-not-fresh}
+use Rattle.empty_packets.proofs.ShiftedStates.{not-fresh-bits, path-step, planes-bits, planes-step, passes-step}
 
 -- ---- a block's bits: those of its inclusion tree, and the others
 
@@ -79,37 +80,35 @@ blocks-joined now (k ∷ ks) (c ∷ cs) ls ms ws =
 
 -- ---- two states
 
--- what holds of both branches, chosen alike
-pub both {ℓ} : {A : Type ℓ} (P : A → A → Type 0) (b b′ : Bool) (x y x′ y′ : A) → b′ ≡ b → (b ≡ true → P x x′) → (b ≡ false → P y y′)
-    → P (cond b x y) (cond b′ x′ y′)
-both P true true x y x′ y′ e p q = p refl
-both P true false x y x′ y′ e p q = absurd (true≢false (sym e))
-both P false true x y x′ y′ e p q = absurd (true≢false e)
-both P false false x y x′ y′ e p q = q refl
+-- the same branch is taken, and which is known
+both-branches-by {ℓ} : {A : Type ℓ} (R : A → A → Type 0) (b c : Bool) (x₁ x₂ y₁ y₂ : A) → b ≡ c → (b ≡ true → R x₁ y₁)
+    → (b ≡ false → R x₂ y₂) → R (cond b x₁ x₂) (cond c y₁ y₂)
+both-branches-by R true c x₁ x₂ y₁ y₂ e p q = rw (sym e) (p refl)
+both-branches-by R false c x₁ x₂ y₁ y₂ e p q = rw (sym e) (q refl)
 
 -- if it is new, none of its path's nodes is fresh
-abbrev pub SettledBlock : (t : ℕ) (ws vs : List ℕ) → Block → Type 0
-SettledBlock t ws vs k = passesSoFar ws (k .at) ≡ 0 → Settled t ws vs (rootToLeaf inclusion k)
+abbrev pub BlockNotFresh : (t : ℕ) (ws vs : List ℕ) → Block → Type 0
+BlockNotFresh t ws vs k = passesSoFar ws (k .at) ≡ 0 → NoneFresh t ws vs (rootToLeaf inclusion k)
 
-abbrev pub AllSettled : (t : ℕ) (ws vs : List ℕ) → List Block → Type 0
-AllSettled t ws vs [] = Unit {0}
-AllSettled t ws vs (k ∷ ks) = SettledBlock t ws vs k × AllSettled t ws vs ks
+abbrev pub BlocksNotFresh : (t : ℕ) (ws vs : List ℕ) → List Block → Type 0
+BlocksNotFresh t ws vs [] = Unit {0}
+BlocksNotFresh t ws vs (k ∷ ks) = BlockNotFresh t ws vs k × BlocksNotFresh t ws vs ks
 
-nodes-kept : (L : Layout) (t : ℕ) (ws vs ws′ vs′ xs : List ℕ) → Step L t ws vs ws′ vs′ → All (L .Node inclusion) xs → Settled t ws vs xs
-    → Settled t ws′ vs′ xs
+nodes-kept : (L : Layout) (t : ℕ) (ws vs ws′ vs′ xs : List ℕ) → Step L t ws vs ws′ vs′ → All (L .Node inclusion) xs → NoneFresh t ws vs xs
+    → NoneFresh t ws′ vs′ xs
 nodes-kept L t ws vs ws′ vs′ [] s h z = tt
 nodes-kept L t ws vs ws′ vs′ (a ∷ xs) s h z = (s .nodes false a (h .0) (z .0), nodes-kept L t ws vs ws′ vs′ xs s (h .1) (z .1))
 
-block-kept : (L : Layout) (t : ℕ) (ws vs ws′ vs′ : List ℕ) (k : Block) → Placed L k → Step L t ws vs ws′ vs′ → SettledBlock t ws vs k
-    → SettledBlock t ws′ vs′ k
+block-kept : (L : Layout) (t : ℕ) (ws vs ws′ vs′ : List ℕ) (k : Block) → Placed L k → Step L t ws vs ws′ vs′ → BlockNotFresh t ws vs k
+    → BlockNotFresh t ws′ vs′ k
 block-kept L t ws vs ws′ vs′ k P s h e =
     nodes-kept L t ws vs ws′ vs′ (rootToLeaf inclusion k) s (from-root-nodes L inclusion k P) (h (s .passes (k .at) (P .block) e))
 
-pub settled-kept : (L : Layout) (t : ℕ) (ws vs ws′ vs′ : List ℕ) (ks : List Block) → AllPlaced L ks → Step L t ws vs ws′ vs′
-    → AllSettled t ws vs ks → AllSettled t ws′ vs′ ks
-settled-kept L t ws vs ws′ vs′ [] f s h = tt
-settled-kept L t ws vs ws′ vs′ (k ∷ ks) f s h =
-    (block-kept L t ws vs ws′ vs′ k (f .0 .0) s (h .0), settled-kept L t ws vs ws′ vs′ ks (f .1) s (h .1))
+pub not-fresh-kept : (L : Layout) (t : ℕ) (ws vs ws′ vs′ : List ℕ) (ks : List Block) → AllPlaced L ks → Step L t ws vs ws′ vs′
+    → BlocksNotFresh t ws vs ks → BlocksNotFresh t ws′ vs′ ks
+not-fresh-kept L t ws vs ws′ vs′ [] f s h = tt
+not-fresh-kept L t ws vs ws′ vs′ (k ∷ ks) f s h =
+    (block-kept L t ws vs ws′ vs′ k (f .0 .0) s (h .0), not-fresh-kept L t ws vs ws′ vs′ ks (f .1) s (h .1))
 
 new-is : (ws : List ℕ) (k : Block) → isNew ws k ≡ eqb (passesSoFar ws (k .at)) 0
 unfolding isNew
@@ -119,8 +118,8 @@ module _ (L : Layout) (t : ℕ) (k : Block) (P : Placed L k) (ws vs : List ℕ) 
   same-passes : passesSoFar vs (k .at) ≡ passesSoFar ws (k .at)
   same-passes = s .agree (k .at) (block-shared L (k .at) (P .block) .0)
 
-  new-same : isNew vs k ≡ isNew ws k
-  new-same = new-is vs k ∙ ap (λ (z : ℕ). eqb z 0) same-passes ∙ sym (new-is ws k)
+  new-same : isNew ws k ≡ isNew vs k
+  new-same = new-is ws k ∙ ap (λ (z : ℕ). eqb z 0) (sym same-passes) ∙ sym (new-is vs k)
 
   bits-before-same : lengthBitsBefore vs k ≡ lengthBitsBefore ws k
   bits-before-same = same-bits-before ws vs k same-passes (s .agree (k .at + 1) (block-shared L (k .at) (P .block) .1))
@@ -129,14 +128,14 @@ module _ (L : Layout) (t : ℕ) (k : Block) (P : Placed L k) (ws vs : List ℕ) 
   zero-planes-step : Step L t ws vs (codeZeroPlanes k ws .words) (codeZeroPlanes k vs .words)
   unfolding codeZeroPlanes
   zero-planes-step =
-      both (λ (x y : Coded). Step L t ws vs (x .words) (y .words)) (isNew ws k) (isNew vs k) _ _ _ _ new-same
-      (λ e. planes-step L t k P ws vs s notYetPlanes) (λ e. no-step L t ws vs s)
+      both-branches (λ (x y : Coded). Step L t ws vs (x .words) (y .words)) (isNew ws k) (isNew vs k) _ _ _ _ new-same
+      (planes-step L t k P ws vs s notYetPlanes) (no-step L t ws vs s)
 
   zero-planes-bits : codeZeroPlanes k vs .bits ≡ codeZeroPlanes k ws .bits
   unfolding codeZeroPlanes
   zero-planes-bits =
-      both (λ (x y : Coded). y .bits ≡ x .bits) (isNew ws k) (isNew vs k) _ _ _ _ new-same
-      (λ e. planes-bits L t k P ws vs s notYetPlanes) (λ e. refl)
+      both-branches (λ (x y : Coded). y .bits ≡ x .bits) (isNew ws k) (isNew vs k) _ _ _ _ new-same
+      (planes-bits L t k P ws vs s notYetPlanes) refl
 
   -- pass count and lengths
   code-passes-step : (c : ℕ) (gs : List Segment) → Step L t ws vs (codePasses k c gs ws .words) (codePasses k c gs vs .words)
@@ -158,24 +157,24 @@ module _ (L : Layout) (t now : ℕ) (from : t ≤ now) (soon : now + 1 < notYetI
     inclusion-step : Step L t ws vs (codeInclusion now k c ws .words) (codeInclusion (now + 1) k c vs .words)
     unfolding codeInclusion
     inclusion-step =
-        both (λ (x y : Coded). Step L t ws vs (x .words) (y .words)) (isNew ws k) (isNew vs k) _ _ _ _ (new-same L t k P ws vs s)
-        (λ e. path-step L t (now + 1) (omega arith) soon k P ws vs s) (λ e. no-step L t ws vs s)
+        both-branches (λ (x y : Coded). Step L t ws vs (x .words) (y .words)) (isNew ws k) (isNew vs k) _ _ _ _ (new-same L t k P ws vs s)
+        (path-step L t (now + 1) (omega arith) soon k P ws vs s) (no-step L t ws vs s)
 
-    inclusion-settled : SettledBlock t (codeInclusion now k c ws .words) (codeInclusion (now + 1) k c vs .words) k
+    inclusion-not-fresh : BlockNotFresh t (codeInclusion now k c ws .words) (codeInclusion (now + 1) k c vs .words) k
     unfolding codeInclusion
-    inclusion-settled z =
+    inclusion-not-fresh z =
         let old = inclusion-step .passes (k .at) (P .block) z in
         let new : isNew ws k ≡ true = new-is ws k ∙ eq-eqb (passesSoFar ws (k .at)) 0 old in
-        both (λ (x y : Coded). Settled t (x .words) (y .words) (rootToLeaf inclusion k)) (isNew ws k) (isNew vs k) _ _ _ _
+        both-branches-by (λ (x y : Coded). NoneFresh t (x .words) (y .words) (rootToLeaf inclusion k)) (isNew ws k) (isNew vs k) _ _ _ _
         (new-same L t k P ws vs s)
-        (λ e. path-settled L t (now + 1) (omega arith) soon k P ws vs s) (λ e. absurd (true≢false (sym new ∙ e)))
+        (λ e. path-not-fresh L t (now + 1) (omega arith) soon k P ws vs s) (λ e. absurd (true≢false (sym new ∙ e)))
 
-    tree-bits : SettledBlock t ws vs k → treeBits (now + 1) k c vs ≡ treeBits now k c ws
+    tree-bits : BlockNotFresh t ws vs k → treeBits (now + 1) k c vs ≡ treeBits now k c ws
     unfolding codeInclusion
     tree-bits h =
-        both (λ (x y : List ℕ). y ≡ x) (isNew ws k) (isNew vs k) _ _ _ _ (new-same L t k P ws vs s)
-        (λ e. both (λ (x y : Coded). y .bits ≡ x .bits) (isNew ws k) (isNew vs k) _ _ _ _ (new-same L t k P ws vs s)
-        (λ f. settled-bits L t (now + 1) (omega arith) soon k P ws vs s (h (eqb-true (passesSoFar ws (k .at)) 0 (sym (new-is ws k) ∙ e))))
+        both-branches-by (λ (x y : List ℕ). y ≡ x) (isNew ws k) (isNew vs k) _ _ _ _ (new-same L t k P ws vs s)
+        (λ e. both-branches-by (λ (x y : Coded). y .bits ≡ x .bits) (isNew ws k) (isNew vs k) _ _ _ _ (new-same L t k P ws vs s)
+        (λ f. not-fresh-bits L t (now + 1) (omega arith) soon k P ws vs s (h (eqb-true (passesSoFar ws (k .at)) 0 (sym (new-is ws k) ∙ e))))
         (λ f. absurd (true≢false (sym e ∙ f))))
         (λ e. refl)
 
@@ -191,9 +190,9 @@ module _ (L : Layout) (t now : ℕ) (from : t ≤ now) (soon : now + 1 < notYetI
 
       other-bits : otherBits (now + 1) k c gs vs ≡ otherBits now k c gs ws
       other-bits =
-          ap₂ (λ (b : Bool) (x : List ℕ). cond b [] (cond (ltb 0 c) 1 0 ∷ []) ++ x) (new-same L t k P ws vs s) passes-bits
+          ap₂ (λ (b : Bool) (x : List ℕ). cond b [] (cond (ltb 0 c) 1 0 ∷ []) ++ x) (sym (new-same L t k P ws vs s)) passes-bits
 
-      block-bits : SettledBlock t ws vs k → codeBlock (now + 1) k c gs vs .bits ≡ codeBlock now k c gs ws .bits
+      block-bits : BlockNotFresh t ws vs k → codeBlock (now + 1) k c gs vs .bits ≡ codeBlock now k c gs ws .bits
       block-bits h =
           block-split (now + 1) k c gs vs ∙ ap₂ (λ (x y : List ℕ). x ++ y) (tree-bits h) other-bits
           ∙ sym (block-split now k c gs ws)
@@ -208,12 +207,12 @@ module _ (L : Layout) (t now : ℕ) (from : t ≤ now) (soon : now + 1 < notYetI
           let vs₂ : List ℕ = codeZeroPlanes k vs₁ .words in
           let z = zero-planes-step L t k P ws₁ vs₁ (i .shift) in
           let p = code-passes-step L t k P ws₂ vs₂ (z .shift) c gs in
-          both (λ (x y : Coded). Step L t ws vs (x .words) (y .words)) (eqb c 0) (eqb c 0) _ _ _ _ refl (λ e. i)
-          (λ e. step-then L t ws vs ws₁ vs₁ _ _ i (step-then L t ws₁ vs₁ ws₂ vs₂ _ _ z p))
+          both-branches (λ (x y : Coded). Step L t ws vs (x .words) (y .words)) (eqb c 0) (eqb c 0) _ _ _ _ refl i
+          (step-then L t ws vs ws₁ vs₁ _ _ i (step-then L t ws₁ vs₁ ws₂ vs₂ _ _ z p))
 
-      block-settled : SettledBlock t (codeBlock now k c gs ws .words) (codeBlock (now + 1) k c gs vs .words) k
+      block-not-fresh : BlockNotFresh t (codeBlock now k c gs ws .words) (codeBlock (now + 1) k c gs vs .words) k
       unfolding codeBlock
-      block-settled =
+      block-not-fresh =
           let i = inclusion-step in
           let ws₁ : List ℕ = codeInclusion now k c ws .words in
           let vs₁ : List ℕ = codeInclusion (now + 1) k c vs .words in
@@ -221,8 +220,8 @@ module _ (L : Layout) (t now : ℕ) (from : t ≤ now) (soon : now + 1 < notYetI
           let vs₂ : List ℕ = codeZeroPlanes k vs₁ .words in
           let z = zero-planes-step L t k P ws₁ vs₁ (i .shift) in
           let p = code-passes-step L t k P ws₂ vs₂ (z .shift) c gs in
-          both (λ (x y : Coded). SettledBlock t (x .words) (y .words) k) (eqb c 0) (eqb c 0) _ _ _ _ refl (λ e. inclusion-settled)
-          (λ e. block-kept L t ws₁ vs₁ _ _ k P (step-then L t ws₁ vs₁ ws₂ vs₂ _ _ z p) inclusion-settled)
+          both-branches (λ (x y : Coded). BlockNotFresh t (x .words) (y .words) k) (eqb c 0) (eqb c 0) _ _ _ _ refl inclusion-not-fresh
+          (block-kept L t ws₁ vs₁ _ _ k P (step-then L t ws₁ vs₁ ws₂ vs₂ _ _ z p) inclusion-not-fresh)
 
   -- ---- all blocks
 
@@ -237,22 +236,22 @@ module _ (L : Layout) (t now : ℕ) (from : t ≤ now) (soon : now + 1 < notYetI
       step-then L t ws vs _ _ _ _ b
       (blocks-step ks cs (drop c ls) (drop c ms) (codeBlock now k c gs ws .words) (codeBlock (now + 1) k c gs vs .words) (f .1) (b .shift))
 
-  pub blocks-settled : (ks : List Block) (cs ls ms ws vs : List ℕ) → AllPlaced L ks → length cs ≡ length ks → Shift L t ws vs
-      → AllSettled t (codeBlocks now ks cs ls ms ws .words) (codeBlocks (now + 1) ks cs ls ms vs .words) ks
+  pub blocks-not-fresh : (ks : List Block) (cs ls ms ws vs : List ℕ) → AllPlaced L ks → length cs ≡ length ks → Shift L t ws vs
+      → BlocksNotFresh t (codeBlocks now ks cs ls ms ws .words) (codeBlocks (now + 1) ks cs ls ms vs .words) ks
   unfolding codeBlocks
-  blocks-settled [] cs ls ms ws vs f l s = tt
-  blocks-settled (k ∷ ks) [] ls ms ws vs f l s = absurd (omega arith)
-  blocks-settled (k ∷ ks) (c ∷ cs) ls ms ws vs f l s =
+  blocks-not-fresh [] cs ls ms ws vs f l s = tt
+  blocks-not-fresh (k ∷ ks) [] ls ms ws vs f l s = absurd (omega arith)
+  blocks-not-fresh (k ∷ ks) (c ∷ cs) ls ms ws vs f l s =
       let gs : List Segment = segmentsOf (take c ls) (take c ms) in
       let ws′ : List ℕ = codeBlock now k c gs ws .words in
       let vs′ : List ℕ = codeBlock (now + 1) k c gs vs .words in
       let b = block-step k (f .0 .0) c ws vs s gs in (
         block-kept L t ws′ vs′ _ _ k (f .0 .0) (blocks-step ks cs (drop c ls) (drop c ms) ws′ vs′ (f .1) (b .shift))
-            (block-settled k (f .0 .0) c ws vs s gs),
-        blocks-settled ks cs (drop c ls) (drop c ms) ws′ vs′ (f .1) (omega arith) (b .shift),
+            (block-not-fresh k (f .0 .0) c ws vs s gs),
+        blocks-not-fresh ks cs (drop c ls) (drop c ms) ws′ vs′ (f .1) (omega arith) (b .shift),
       )
 
-  pub blocks-bits : (ks : List Block) (cs ls ms ws vs : List ℕ) → AllPlaced L ks → Shift L t ws vs → AllSettled t ws vs ks
+  pub blocks-bits : (ks : List Block) (cs ls ms ws vs : List ℕ) → AllPlaced L ks → Shift L t ws vs → BlocksNotFresh t ws vs ks
       → codeBlocks (now + 1) ks cs ls ms vs .bits ≡ codeBlocks now ks cs ls ms ws .bits
   unfolding codeBlocks
   blocks-bits [] cs ls ms ws vs f s h = refl
@@ -263,7 +262,7 @@ module _ (L : Layout) (t now : ℕ) (from : t ≤ now) (soon : now + 1 < notYetI
       let vs′ : List ℕ = codeBlock (now + 1) k c gs vs .words in
       let b = block-step k (f .0 .0) c ws vs s gs in
       ap₂ (λ (x y : List ℕ). x ++ y) (block-bits k (f .0 .0) c ws vs s gs (h .0))
-      (blocks-bits ks cs (drop c ls) (drop c ms) ws′ vs′ (f .1) (b .shift) (settled-kept L t ws vs ws′ vs′ ks (f .1) b (h .1)))
+      (blocks-bits ks cs (drop c ls) (drop c ms) ws′ vs′ (f .1) (b .shift) (not-fresh-kept L t ws vs ws′ vs′ ks (f .1) b (h .1)))
 
   pub blocks-others : (ks : List Block) (cs ls ms ws vs : List ℕ) → AllPlaced L ks → Shift L t ws vs
       → othersOf (blockBitsFrom (now + 1) ks cs ls ms vs) ≡ othersOf (blockBitsFrom now ks cs ls ms ws)
@@ -290,7 +289,7 @@ module _ (L : Layout) (t now : ℕ) (from : t ≤ now) (soon : now + 1 < notYetI
       let P = f .0 .0 in
       let ws′ : List ℕ = cond (isNew ws k && ltb 0 c) (setValue (k .inclTree) (k .path) now ws) ws in
       let vs′ : List ℕ = cond (isNew vs k && ltb 0 c) (setValue (k .inclTree) (k .path) (now + 1) vs) vs in
-      let x : Step L t ws vs ws′ vs′ = both (Step L t ws vs) (isNew ws k && ltb 0 c) (isNew vs k && ltb 0 c) _ _ _ _
-      (ap (λ (b : Bool). b && ltb 0 c) (new-same L t k P ws vs s)) (λ e. leaf-step L t now from soon k P ws vs s)
-      (λ e. no-step L t ws vs s) in
+      let x : Step L t ws vs ws′ vs′ = both-branches (Step L t ws vs) (isNew ws k && ltb 0 c) (isNew vs k && ltb 0 c) _ _ _ _
+      (ap (λ (b : Bool). b && ltb 0 c) (new-same L t k P ws vs s)) (leaf-step L t now from soon k P ws vs s)
+      (no-step L t ws vs s) in
       step-then L t ws vs ws′ vs′ _ _ x (new-blocks-step ks cs ws′ vs′ (f .1) (x .shift))

@@ -7,7 +7,7 @@ use mathlib.Core.List.{List, [], _∷_, _++_, reverse, reverseAux}
 use Prim.Native.Nat.{ℕ, _+_, _-_, _*_, _≤_, _<_, max, zero-le}
 use native.Mathlib.Omega.{arith}
 use lib.ListN.{length, getD, set, length-set}
-use lib.Seq.{getD-set-same, getD-set-other, set-out}
+use lib.Seq.{getD-set-same, getD-set-other}
 use Rattle.t800.specs.TagTree.{Coded, value, lowAfter, nodeBits, knownAfter, setValue, codePath}
 use Rattle.t800.specs.State.{Block, notYetIncluded, passesSoFar}
 use Rattle.t800_laws.proofs.Laws.Tests.{on-eq, on-lt}
@@ -22,6 +22,7 @@ use Rattle.round_trip.proofs.Trip.Changes.{block-stays, BlockOnly, node-stays, 
 use Rattle.round_trip.proofs.Trip.Changes.{other-block-stays, stored}
 use Rattle.round_trip.proofs.Trip.Changes.{stored-passes, stored-others, stored-length, leaf-set, nodes-only}
 use Rattle.empty_packets.proofs.Settled.{same-order}
+use Rattle.empty_packets.proofs.Alike.{word-after-set}
 use Rattle.empty_packets.proofs.ShiftedNodes.{one-more, neither, Shifted, same, fresh, later, equal, may-be-fresh}
 use Rattle.empty_packets.proofs.ShiftedNodes.{AllShifted, nil, cons, path-after, path-bits}
 
@@ -34,14 +35,8 @@ Shared L i = (i ≢ 3) × ((a : ℕ) → L .Node inclusion a → Clear i a)
 abbrev pub Agree : Layout → List ℕ → List ℕ → Type 0
 Agree L ws vs = (i : ℕ) → Shared L i → getD vs i 0 ≡ getD ws i 0
 
-agree-set : (L : Layout) (ws vs : List ℕ) (j x y : ℕ) → length vs ≡ length ws → y ≡ x → Agree L ws vs → Agree L (set ws j x) (set vs j y)
-agree-set L ws vs j x y l e g i s =
-    on-eq i j
-    (λ z. on-lt j (length ws)
-    (λ h. rw z (getD-set-same vs j y 0 (omega arith) ∙ e ∙ sym (getD-set-same ws j x 0 h)))
-    (λ h. ap (λ (q : List ℕ). getD q i 0) (set-out vs j y (omega arith)) ∙ g i s
-    ∙ sym (ap (λ (q : List ℕ). getD q i 0) (set-out ws j x h))))
-    (λ z. getD-set-other vs j i y 0 z ∙ g i s ∙ sym (getD-set-other ws j i x 0 z))
+agree-set : (L : Layout) (ws vs : List ℕ) (j x : ℕ) → length vs ≡ length ws → Agree L ws vs → Agree L (set ws j x) (set vs j x)
+agree-set L ws vs j x l g i s = word-after-set vs ws j x i l (g i s)
 
 -- the three words of a node of a zero-plane tree
 abbrev SharedNode : Layout → ℕ → Type 0
@@ -100,8 +95,8 @@ path-alike L base u (n ∷ ns) l ws vs e h g =
     length-set vs (a + 1) to ∙ e ∙ sym (length-set ws (a + 1) to) in
     let e₂ : length vs′ ≡ length ws′ =
     length-set (set vs (a + 1) to) (a + 2) k ∙ e₁ ∙ sym (length-set (set ws (a + 1) to) (a + 2) k) in
-    let g₂ : Agree L ws′ vs′ = agree-set L (set ws (a + 1) to) (set vs (a + 1) to) (a + 2) k k e₁ refl
-    (agree-set L ws vs (a + 1) to to e refl g) in
+    let g₂ : Agree L ws′ vs′ = agree-set L (set ws (a + 1) to) (set vs (a + 1) to) (a + 2) k e₁
+    (agree-set L ws vs (a + 1) to e g) in
     let i = path-alike L base u ns to ws′ vs′ e₂ (h .1) g₂ in
     let x = step-coded base u n ns l ws _ _ _ refl refl refl in
     let y = step-coded base u n ns l vs _ _ _ (g a (h .0 .0)) (g (a + 1) (h .0 .1)) (g (a + 2) (h .0 .2)) in (
@@ -239,25 +234,25 @@ module _ (L : Layout) (t now : ℕ) (from : t ≤ now) (soon : now + 1 < notYetI
 -- ---- coding a block's inclusion path, with threshold u without the packet and with u + 1 with it
 
 -- none of the nodes at xs is fresh
-abbrev pub Settled : (t : ℕ) (ws vs xs : List ℕ) → Type 0
-Settled t ws vs xs = All (λ a. Shifted t false (nodeAt ws a) (nodeAt vs a)) xs
+abbrev pub NoneFresh : (t : ℕ) (ws vs xs : List ℕ) → Type 0
+NoneFresh t ws vs xs = All (λ a. Shifted t false (nodeAt ws a) (nodeAt vs a)) xs
 
 on-path : (L : Layout) (t : ℕ) (ws vs xs : List ℕ) → All (L .Node inclusion) xs → Shift L t ws vs
     → AllShifted t true (nodesAt ws xs) (nodesAt vs xs)
 on-path L t ws vs [] h s = nil
 on-path L t ws vs (a ∷ xs) h s = cons (s .nodes a (h .0)) (on-path L t ws vs xs (h .1) s)
 
-settled-nodes : (t : ℕ) (ws vs xs : List ℕ) → Settled t ws vs xs → AllShifted t false (nodesAt ws xs) (nodesAt vs xs)
-settled-nodes t ws vs [] h = nil
-settled-nodes t ws vs (a ∷ xs) h = cons (h .0) (settled-nodes t ws vs xs (h .1))
+not-fresh-nodes : (t : ℕ) (ws vs xs : List ℕ) → NoneFresh t ws vs xs → AllShifted t false (nodesAt ws xs) (nodesAt vs xs)
+not-fresh-nodes t ws vs [] h = nil
+not-fresh-nodes t ws vs (a ∷ xs) h = cons (h .0) (not-fresh-nodes t ws vs xs (h .1))
 
-nodes-settled : (t : ℕ) (ws vs xs : List ℕ) → AllShifted t false (nodesAt ws xs) (nodesAt vs xs) → Settled t ws vs xs
-nodes-settled t ws vs [] h = tt
-nodes-settled t ws vs (a ∷ xs) (cons s ss) = (s, nodes-settled t ws vs xs ss)
+nodes-not-fresh : (t : ℕ) (ws vs xs : List ℕ) → AllShifted t false (nodesAt ws xs) (nodesAt vs xs) → NoneFresh t ws vs xs
+nodes-not-fresh t ws vs [] h = tt
+nodes-not-fresh t ws vs (a ∷ xs) (cons s ss) = (s, nodes-not-fresh t ws vs xs ss)
 
 -- a node is on the path or apart from it
 on-or-apart : (L : Layout) (t : ℕ) (may : Bool) (a : ℕ) (ws vs xs : List ℕ) → L .Node inclusion a → All (L .Node inclusion) xs
-    → Settled t ws vs xs → (ApartFromAll a xs → Shifted t may (nodeAt ws a) (nodeAt vs a)) → Shifted t may (nodeAt ws a) (nodeAt vs a)
+    → NoneFresh t ws vs xs → (ApartFromAll a xs → Shifted t may (nodeAt ws a) (nodeAt vs a)) → Shifted t may (nodeAt ws a) (nodeAt vs a)
 on-or-apart L t may a ws vs [] n h s f = f tt
 on-or-apart L t may a ws vs (b ∷ xs) n h s f =
     on-eq a b
@@ -289,22 +284,22 @@ module _ (L : Layout) (t u : ℕ) (from : t < u) (soon : u < notYetIncluded) (k 
   abbrev vs′ : List ℕ
   vs′ = codePath (k .inclTree) (u + 1) (reverse (k .path)) 0 vs .words
 
-  -- its path is settled then
-  pub path-settled : Settled t ws′ vs′ xs
-  path-settled =
+  -- its path has no fresh node then
+  pub path-not-fresh : NoneFresh t ws′ vs′ xs
+  path-not-fresh =
       let c = path-coded L inclusion k P u ws (s .long) in
       let d = path-coded L inclusion k P (u + 1) vs (s .other-long) in
-      nodes-settled t ws′ vs′ xs (subst₂ (AllShifted t false) (sym (c .words .nodes)) (sym (d .words .nodes))
+      nodes-not-fresh t ws′ vs′ xs (subst₂ (AllShifted t false) (sym (c .words .nodes)) (sym (d .words .nodes))
       (path-after t u from soon true 0 0 0 (increasing L k P ws (s .order)) (equal zero-le refl)
       (on-path L t ws vs xs (from-root-nodes L inclusion k P) s)))
 
   -- the bits are the same if it was before
-  pub settled-bits : Settled t ws vs xs → codePath (k .inclTree) (u + 1) (reverse (k .path)) 0 vs .bits
+  pub not-fresh-bits : NoneFresh t ws vs xs → codePath (k .inclTree) (u + 1) (reverse (k .path)) 0 vs .bits
       ≡ codePath (k .inclTree) u (reverse (k .path)) 0 ws .bits
-  settled-bits h =
+  not-fresh-bits h =
       let c = path-coded L inclusion k P u ws (s .long) in
       let d = path-coded L inclusion k P (u + 1) vs (s .other-long) in
-      d .bits ∙ path-bits t u from soon 0 0 0 (increasing L k P ws (s .order)) (equal zero-le refl) (settled-nodes t ws vs xs h)
+      d .bits ∙ path-bits t u from soon 0 0 0 (increasing L k P ws (s .order)) (equal zero-le refl) (not-fresh-nodes t ws vs xs h)
       ∙ sym (c .bits)
 
   pub path-step : Step L t ws vs ws′ vs′
@@ -315,7 +310,7 @@ module _ (L : Layout) (t u : ℕ) (from : t < u) (soon : u < notYetIncluded) (k 
       let clear : (i : ℕ) → Shared L i → All (Clear i) xs = λ i h. all-so _ (Clear i) xs (h .1) (from-root-nodes L inclusion k P) in
       stepped L t ws vs ws′ vs′ s (c .words .long ∙ s .long) (d .words .long ∙ s .other-long) (same-order L ws ws′ (x .values) (s .order))
       (λ i h. d .words .clear i (clear i h) ∙ s .agree i h ∙ sym (c .words .clear i (clear i h)))
-      (λ may a n h. on-or-apart L t may a ws′ vs′ xs n (from-root-nodes L inclusion k P) path-settled
+      (λ may a n h. on-or-apart L t may a ws′ vs′ xs n (from-root-nodes L inclusion k P) path-not-fresh
       (λ o. subst₂ (Shifted t may) (sym (c .words .off a o)) (sym (d .words .off a o)) h))
       (λ q b e. sym (block-stays L ws ws′ (x .off) q b .0) ∙ e)
 
@@ -364,8 +359,8 @@ module _ (L : Layout) (t : ℕ) (k : Block) (P : Placed L k) (ws vs : List ℕ) 
       let same-passes : m ≡ n = ap (λ (z : ℕ). z + c) (s .agree at (block-shared L at B .0)) in
       stepped L t ws vs ws′ vs′ s (stored-length ws at n l h ∙ s .long) (stored-length vs at m l g ∙ s .other-long)
       (same-order L ws ws′ (value-stays L ws ws′ at B only) (s .order))
-      (agree-set L (set ws at n) (set vs at m) (at + 1) l l (length-set vs at m ∙ e ∙ sym (length-set ws at n)) refl
-      (agree-set L ws vs at n m e same-passes (s .agree)))
+      (agree-set L (set ws at n) (set vs at m) (at + 1) l (length-set vs at m ∙ e ∙ sym (length-set ws at n))
+      (subst (λ (z : ℕ). Agree L (set ws at n) (set vs at z)) (sym same-passes) (agree-set L ws vs at n e (s .agree))))
       (kept-by L t ws vs ws′ vs′ (node-stays L ws ws′ at B only inclusion) (node-stays L vs vs′ at B other inclusion))
       (λ q Q z. on-eq q at
       (λ f. let w : passesSoFar ws at + c ≡ 0 = sym (stored-passes ws at n l h) ∙ ap (λ (y : ℕ). getD ws′ y 0) (sym f) ∙ z in
