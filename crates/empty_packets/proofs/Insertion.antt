@@ -164,12 +164,12 @@ module _ (bs : List Band) (s t n : ℕ) (ws vs : List ℕ) (x : OnePacketApart b
 -- ---- an accepted header on both sides
 
 module _ (bs : List Band) (s t n : ℕ) (ws vs : List ℕ) (x : OnePacketApart bs s t n ws vs) (p : Contribution)
-    (a : measureRefusal ws ws p ≡ 0) (b : measureRefusal vs vs p ≡ 0) where
+    (a : measureRefusal vs vs p ≡ 0) where
   counts : length (p .counts) ≡ length (blocks bs)
-  counts = accepted-here bs s n ws (x .without) p a .0
+  counts = accepted-here bs s (n + 1) vs (x .added) p a .0
 
   soon : n + 1 < notYetIncluded
-  soon = accepted-here bs s (n + 1) vs (x .added) p b .1
+  soon = accepted-here bs s (n + 1) vs (x .added) p a .1
 
   header-step : Step (layoutOf bs) t ws vs (codeHeader p ws .words) (codeHeader p vs .words)
   unfolding codeHeader
@@ -199,39 +199,39 @@ module _ (bs : List Band) (s t n : ℕ) (ws vs : List ℕ) (x : OnePacketApart b
       (sym (header-with-passes p vs e))
       (present-not-fresh bs s t n ws vs x soon p counts)
 
-list-apart : (bs : List Band) (s t n : ℕ) (ws vs : List ℕ) (ps : List Contribution) → OnePacketApart bs s t n ws vs → Accepted ws ps
-    → Accepted vs ps → OnePacketApart bs s t (n + length ps) (stateBehind ws ps) (stateBehind vs ps)
+list-apart : (bs : List Band) (s t n : ℕ) (ws vs : List ℕ) (ps : List Contribution) → OnePacketApart bs s t n ws vs → Accepted vs ps
+    → OnePacketApart bs s t (n + length ps) (stateBehind ws ps) (stateBehind vs ps)
 unfolding Accepted stateBehind
-list-apart bs s t n ws vs [] x a b = subst (λ (m : ℕ). OnePacketApart bs s t m ws vs) (omega arith) x
-list-apart bs s t n ws vs (p ∷ ps) x a b =
+list-apart bs s t n ws vs [] x a = subst (λ (m : ℕ). OnePacketApart bs s t m ws vs) (omega arith) x
+list-apart bs s t n ws vs (p ∷ ps) x a =
     let ws′ : List ℕ = codeHeader p ws .words in
     let vs′ : List ℕ = codeHeader p vs .words in
     subst (λ (m : ℕ). OnePacketApart bs s t m (stateBehind ws′ ps) (stateBehind vs′ ps)) (omega arith)
-    (list-apart bs s t (n + 1) ws′ vs′ ps (header-apart bs s t n ws vs x p (a .0) (b .0)) (a .1) (b .1))
+    (list-apart bs s t (n + 1) ws′ vs′ ps (header-apart bs s t n ws vs x p (a .0)) (a .1))
 
 headers-same : (bs : List Band) (s t n : ℕ) (ws vs : List ℕ) (ps : List Contribution) → OnePacketApart bs s t n ws vs
-    → BlocksNotFresh t ws vs (blocks bs) → Accepted ws ps → Accepted vs ps → headers vs ps ≡ headers ws ps
+    → BlocksNotFresh t ws vs (blocks bs) → Accepted vs ps → headers vs ps ≡ headers ws ps
 unfolding Accepted headers
-headers-same bs s t n ws vs [] x h a b = refl
-headers-same bs s t n ws vs (p ∷ ps) x h a b =
+headers-same bs s t n ws vs [] x h a = refl
+headers-same bs s t n ws vs (p ∷ ps) x h a =
     let ws′ : List ℕ = codeHeader p ws .words in
     let vs′ : List ℕ = codeHeader p vs .words in
-    ap₂ (λ (y : Bits) (z : List Bits). y ∷ z) (header-bits bs s t n ws vs x p (a .0) (b .0) h)
-    (headers-same bs s t (n + 1) ws′ vs′ ps (header-apart bs s t n ws vs x p (a .0) (b .0))
-    (not-fresh-kept (layoutOf bs) t ws vs ws′ vs′ (blocks bs) (blocks-placed bs) (header-step bs s t n ws vs x p (a .0) (b .0)) h)
-    (a .1) (b .1))
+    ap₂ (λ (y : Bits) (z : List Bits). y ∷ z) (header-bits bs s t n ws vs x p (a .0) h)
+    (headers-same bs s t (n + 1) ws′ vs′ ps (header-apart bs s t n ws vs x p (a .0))
+    (not-fresh-kept (layoutOf bs) t ws vs ws′ vs′ (blocks bs) (blocks-placed bs) (header-step bs s t n ws vs x p (a .0)) h)
+    (a .1))
 
 -- ---- the list with the packet e and without it
 
 -- p and what follows, on both sides
 behind-apart : (bs : List Band) (s t n : ℕ) (ws vs : List ℕ) (p : Contribution) (ps : List Contribution) → OnePacketApart bs s t n ws vs
-    → contributes p ≡ true → Accepted ws (p ∷ ps) → Accepted vs (p ∷ ps)
+    → contributes p ≡ true → Accepted vs (p ∷ ps)
     → (othersOf (blockBits p vs) ≡ othersOf (blockBits p ws)) × (headers (codeHeader p vs .words) ps ≡ headers (codeHeader p ws .words) ps)
 unfolding Accepted
-behind-apart bs s t n ws vs p ps x e a b = (
-  others-same bs s t n ws vs x (soon bs s t n ws vs x p (a .0) (b .0)) p,
-  headers-same bs s t (n + 1) _ _ ps (header-apart bs s t n ws vs x p (a .0) (b .0)) (header-not-fresh bs s t n ws vs x p (a .0) (b .0) e)
-      (a .1) (b .1),
+behind-apart bs s t n ws vs p ps x e a = (
+  others-same bs s t n ws vs x (soon bs s t n ws vs x p (a .0)) p,
+  headers-same bs s t (n + 1) _ _ ps (header-apart bs s t n ws vs x p (a .0)) (header-not-fresh bs s t n ws vs x p (a .0) e)
+      (a .1),
 )
 
 behind-one : (ws : List ℕ) (ps : List Contribution) (p : Contribution)
@@ -240,33 +240,31 @@ unfolding stateBehind
 behind-one ws ps p = behind-append ws ps (p ∷ [])
 
 changes-at-most : (bs : List Band) (s t : ℕ) (ws : List ℕ) (e : Contribution) (between : List Contribution) (p : Contribution)
-    (behind : List Contribution) → Reached bs s t ws
-    → Accepted ws (between ++ p ∷ behind) → Accepted ws (e ∷ between ++ p ∷ behind)
+    (behind : List Contribution) → Reached bs s t ws → Accepted ws (e ∷ between ++ p ∷ behind)
     → contributes e ≡ false → any contributes between ≡ false → contributes p ≡ true → ChangesAtMost ws e between p behind
 unfolding Accepted
-changes-at-most bs s t ws e between p behind y a b none nones some =
+changes-at-most bs s t ws e between p behind y a none nones some =
     let vs : List ℕ = codeHeader e ws .words in
-    let l = accepted-here bs s t ws y e (b .0) .1 in
-    let a₁ = accepted-append ws between (p ∷ behind) a in
-    let b₁ = accepted-append vs between (p ∷ behind) (b .1) in
-    let x = list-apart bs s t t ws vs between (put-in bs s t ws y e none l) (a₁ .0) (b₁ .0) in
-    let r = behind-apart bs s t (t + length between) (stateBehind ws between) (stateBehind vs between) p behind x some (a₁ .1) (b₁ .1) in
+    let l = accepted-here bs s t ws y e (a .0) .1 in
+    let r = accepted-append vs between (p ∷ behind) (a .1) in
+    let x = list-apart bs s t t ws vs between (put-in bs s t ws y e none l) (r .0) in
+    let q = behind-apart bs s t (t + length between) (stateBehind ws between) (stateBehind vs between) p behind x some (r .1) in
     record {
       single-bit = absent-bits e ws none;
       between-same = absent-headers ws vs between nones;
       with-bits = present-joined p (stateBehind vs between) some;
       without-bits = present-joined p (stateBehind ws between) some;
-      others-same = r .0;
-      behind-same = ap (λ (z : List ℕ). headers z behind) (behind-one vs between p) ∙ r .1
+      others-same = q .0;
+      behind-same = ap (λ (z : List ℕ). headers z behind) (behind-one vs between p) ∙ q .1
           ∙ ap (λ (z : List ℕ). headers z behind) (sym (behind-one ws between p));
     }
 
+-- it is enough that the list is accepted with the packet
 pub insertion-changes-at-most : InsertionChangesAtMost
-insertion-changes-at-most count given style planes lent started before e between p behind a b none nones some =
+insertion-changes-at-most count given style planes lent started before e between p behind _ a none nones some =
     let ws : List ℕ = startedState count given style planes lent in
-    let a₁ = accepted-append ws before (between ++ p ∷ behind) (subst (Accepted ws) (append-assoc before between (p ∷ behind)) a) in
-    let b₁ = accepted-append ws before (e ∷ between ++ p ∷ behind)
-    (subst (Accepted ws) (append-assoc before (e ∷ between) (p ∷ behind)) b) in
+    let r = accepted-append ws before (e ∷ between ++ p ∷ behind)
+    (subst (Accepted ws) (append-assoc before (e ∷ between) (p ∷ behind)) a) in
     changes-at-most (take count given) style (0 + length before) (stateBehind ws before) e between p behind
-    (reached-list (take count given) style 0 ws before (reached-started count given style planes lent started) (a₁ .0))
-    (a₁ .1) (b₁ .1) none nones some
+    (reached-list (take count given) style 0 ws before (reached-started count given style planes lent started) (r .0))
+    (r .1) none nones some
