@@ -5,16 +5,16 @@ use mathlib.Core.List.{List, [], _∷_, reverse, reverseAux}
 use Prim.Native.Nat.{ℕ, _+_, _*_, _≤_, _<_, max, min, zero-le}
 use native.Mathlib.Nat.{le-trans, le-of-eq}
 use native.Mathlib.Omega.{arith}
-use lib.ListN.{length, getD, take, drop}
+use lib.ListN.{length, getD}
 use lib.Dec.{ltb, eqb}
 use borrow.Author.Tests.{eqb-true, eqb-false}
 use Rattle.t800.specs.TagTree.{Coded, value, codePath}
-use Rattle.t800.specs.Segments.{Segment, segmentsOf, increment}
+use Rattle.t800.specs.Segments.{Segment, increment}
 use Rattle.t800.specs.State.{Block, notYetPlanes, passesSoFar}
-use Rattle.t800.specs.WriteHeader.{isNew, lengthBitsBefore, codeInclusion, codeZeroPlanes, codePasses, codeBlock, codeBlocks}
+use Rattle.t800.specs.WriteHeader.{isNew, lengthBitsBefore, codeInclusion, codeZeroPlanes, codePasses, codeBlock}
 use Rattle.t800_laws.proofs.Laws.Tests.{on-eq, on-lt, if-eq, if-ne, if-lt, if-ge, either, either-by}
 use Rattle.t800_laws.proofs.Laws.Paths.{All, NotIn, Ancestors, ApartFromAll, addresses}
-use Rattle.t800_laws.proofs.Laws.Layout.{Tree, inclusion, zeroPlanes, Layout, Placed, AllPlaced, rootToLeaf, from-root-nodes}
+use Rattle.t800_laws.proofs.Laws.Layout.{Tree, inclusion, zeroPlanes, Layout, Placed, rootToLeaf, from-root-nodes}
 use Rattle.t800_laws.proofs.Laws.SetLeaf.{Ordered}
 use Rattle.round_trip.proofs.Trip.Nodes.{Node, node, lowOut, nodeAfter, nodesAfter, Increasing}
 use Rattle.round_trip.proofs.Trip.NodeWords.{nodeAt, nodesAt}
@@ -221,13 +221,3 @@ module _ (L : Layout) (k : Block) (P : Placed L k) (t c : ℕ) (segments : List 
         tidy = λ a n. settled-or-same a n (λ e. subst (Tidy t) (sym e) (settled-tidy t (value ws a)))
             (λ o e. subst (Tidy t) (sym e) (y .tidy a n));
       }
-
-pub blocks-tidied : (L : Layout) (t : ℕ) (ks : List Block) (cs ls ms ws : List ℕ) → AllPlaced L ks → Tidied L t ws
-    → Tidied L t (codeBlocks t ks cs ls ms ws .words)
-unfolding codeBlocks
-blocks-tidied L t [] cs ls ms ws f y = y
-blocks-tidied L t (k ∷ ks) [] ls ms ws f y = y
-blocks-tidied L t (k ∷ ks) (c ∷ cs) ls ms ws f y =
-    let segments : List Segment = segmentsOf (take c ls) (take c ms) in
-    blocks-tidied L t ks cs (drop c ls) (drop c ms) (codeBlock t k c segments ws .words) (f .1)
-    (block-tidied L k (f .0 .0) t c segments ws y)
