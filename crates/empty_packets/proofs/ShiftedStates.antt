@@ -58,9 +58,6 @@ block-shared L p b =
       (omega arith, λ a n. let q = L .node-off-block inclusion a p n b in omega arith),
     )
 
-pub first-shared : (L : Layout) (i : ℕ) → i < 13 → i ≢ 3 → Shared L i
-first-shared L i h e = (e, λ a n. let q = L .node-in inclusion a n .0 in omega arith)
-
 -- coding a path whose words agree
 abbrev PathAlike : Layout → (base u : ℕ) (ns : List ℕ) (l : ℕ) (ws vs : List ℕ) → Type 0
 PathAlike L base u ns l ws vs = (codePath base u ns l vs .bits ≡ codePath base u ns l ws .bits)
