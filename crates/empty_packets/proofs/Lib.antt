@@ -4,3 +4,8 @@ pub mod Between
 pub mod Alike
 pub mod Behind
 pub mod Examples
+pub mod ShiftedNodes
+pub mod ShiftedStates
+pub mod ShiftedBlocks
+pub mod Insertion
+pub mod InsertionExample
