@@ -12,18 +12,18 @@ use Rattle.t800.specs.declared.Band.{Band}
 use Rattle.t800.specs.Base.{Bits, any}
 use Rattle.t800.specs.TagTree.{Coded}
 use Rattle.t800.specs.State.{Block, notYetIncluded, blocks, bands, layer}
-use Rattle.t800.specs.WriteHeader.{Contribution, setNewBlocks}
+use Rattle.t800.specs.WriteHeader.{Contribution, setNewBlocks, contributes, codePresent, codeAbsent, codeHeader}
 use Rattle.t800.specs.Packet.{measureRefusal}
 use Rattle.t800_laws.proofs.Laws.Tests.{or-left, or-right}
+use Rattle.t800_laws.proofs.Laws.Contributes.{present-header, absent-header}
 use Rattle.t800_laws.proofs.Laws.Layout.{Layout, layoutOf, blocks-placed}
 use Rattle.round_trip.proofs.Trip.Nodes.{Node}
 use Rattle.round_trip.proofs.Trip.NodeWords.{nodeAt}
 use Rattle.round_trip.proofs.Trip.WriterState.{headerBlocks}
-use Rattle.empty_packets.specs.Rule.{contributes, codePresent, codeAbsent, codeHeader}
 use Rattle.empty_packets.specs.LaterPackets.{Accepted, headers, stateBehind, blockBitsFrom, blockBits, joined, othersOf}
 use Rattle.empty_packets.specs.LaterPackets.{startedState, ChangesAtMost, InsertionChangesAtMost}
 use Rattle.empty_packets.proofs.Between.{Told, Open, Reached, reached-started, reached-blocks, absent-is, reached-absent, present-is}
-use Rattle.empty_packets.proofs.Between.{header-with-passes, header-without-passes, reached-header, accepted-here, reached-list}
+use Rattle.empty_packets.proofs.Between.{reached-header, accepted-here, reached-list}
 use Rattle.empty_packets.proofs.Alike.{both-branches}
 use Rattle.empty_packets.proofs.ShiftedNodes.{neither, Shifted, same, fresh}
 use Rattle.empty_packets.proofs.ShiftedStates.{Shift, Step, step-then, layer-set, layer-step}
@@ -46,13 +46,13 @@ accepted-append ws (p ∷ ps) qs a = let r = accepted-append (codeHeader p ws .w
 
 absent-bits : (p : Contribution) (ws : List ℕ) → contributes p ≡ false → codeHeader p ws .bits ≡ 0 ∷ []
 unfolding codeAbsent
-absent-bits p ws e = ap (λ (x : Coded). x .bits) (header-without-passes p ws e)
+absent-bits p ws e = ap (λ (x : Coded). x .bits) (absent-header p ws e)
 
 -- a 1 and the blocks' bits
 present-joined : (p : Contribution) (ws : List ℕ) → contributes p ≡ true → codeHeader p ws .bits ≡ 1 ∷ joined (blockBits p ws)
 unfolding codePresent blockBits
 present-joined p ws e =
-    ap (λ (x : Coded). x .bits) (header-with-passes p ws e)
+    ap (λ (x : Coded). x .bits) (present-header p ws e)
     ∙ ap (λ (z : List ℕ). 1 ∷ z) (blocks-joined (layer ws) (blocks (bands ws)) (p .counts) (p .lengths) (p .marks) _)
 
 -- without passes all headers are alike
@@ -89,7 +89,7 @@ module _ (bs : List Band) (s t : ℕ) (ws : List ℕ) (y : Reached bs s t ws) wh
         agree = λ i h. refl;
         nodes = λ a n. told-or-open t (nodeAt ws a) (y .layers) (y .between .nodes a n);
       } in
-      let absent : codeHeader e ws .words ≡ codeAbsent ws .words = ap (λ (x : Coded). x .words) (header-without-passes e ws none) in
+      let absent : codeHeader e ws .words ≡ codeAbsent ws .words = ap (λ (x : Coded). x .words) (absent-header e ws none) in
       record {
         without = y;
         added = subst (Reached bs s (t + 1)) (sym absent) (reached-absent bs s t ws y left);
@@ -195,8 +195,8 @@ module _ (bs : List Band) (s t n : ℕ) (ws vs : List ℕ) (x : OnePacketApart b
   -- with passes no new block's path has a fresh node behind it
   header-not-fresh : contributes p ≡ true → BlocksNotFresh t (codeHeader p ws .words) (codeHeader p vs .words) (blocks bs)
   header-not-fresh e =
-      subst₂ (λ (c d : Coded). BlocksNotFresh t (c .words) (d .words) (blocks bs)) (sym (header-with-passes p ws e))
-      (sym (header-with-passes p vs e))
+      subst₂ (λ (c d : Coded). BlocksNotFresh t (c .words) (d .words) (blocks bs)) (sym (present-header p ws e))
+      (sym (present-header p vs e))
       (present-not-fresh bs s t n ws vs x soon p counts)
 
 list-apart : (bs : List Band) (s t n : ℕ) (ws vs : List ℕ) (ps : List Contribution) → OnePacketApart bs s t n ws vs → Accepted vs ps
@@ -259,9 +259,8 @@ changes-at-most bs s t ws e between p behind y a none nones some =
           ∙ ap (λ (z : List ℕ). headers z behind) (sym (behind-one ws between p));
     }
 
--- it is enough that the list is accepted with the packet
 pub insertion-changes-at-most : InsertionChangesAtMost
-insertion-changes-at-most count given style planes lent started before e between p behind _ a none nones some =
+insertion-changes-at-most count given style planes lent started before e between p behind a none nones some =
     let ws : List ℕ = startedState count given style planes lent in
     let r = accepted-append ws before (e ∷ between ++ p ∷ behind)
     (subst (Accepted ws) (append-assoc before (e ∷ between) (p ∷ behind)) a) in

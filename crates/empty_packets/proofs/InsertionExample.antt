@@ -7,9 +7,8 @@ use lib.ListN.{replicate}
 use Rattle.t800.specs.declared.Band.{Band}
 use Rattle.t800.specs.Base.{any}
 use Rattle.t800.specs.Bits.{pack}
-use Rattle.t800.specs.WriteHeader.{Contribution, contribution}
+use Rattle.t800.specs.WriteHeader.{Contribution, contribution, contributes}
 use Rattle.t800.proofs.Table.{rowHolds}
-use Rattle.empty_packets.specs.Rule.{contributes, codePresent, codeAbsent, codeHeader}
 use Rattle.empty_packets.specs.LaterPackets.{Accepted, headers, stateBehind, Started, startedState, ChangesAtMost}
 use Rattle.empty_packets.proofs.Insertion.{insertion-changes-at-most}
 
@@ -38,20 +37,20 @@ unfolding rowHolds
 starts = refl
 
 accepted-without : Accepted state (first ∷ second ∷ [])
-unfolding rowHolds Accepted codeHeader codePresent codeAbsent contributes any
+unfolding rowHolds Accepted
 accepted-without = (refl, (refl, tt))
 
 accepted-with : Accepted state (none ∷ first ∷ second ∷ [])
-unfolding rowHolds Accepted codeHeader codePresent codeAbsent contributes any
+unfolding rowHolds Accepted
 accepted-with = (refl, (refl, (refl, tt)))
 
 headers-without : headers state (first ∷ second ∷ []) ≡ (1 ∷ 1 ∷ 1 ∷ 0 ∷ 0 ∷ 1 ∷ 0 ∷ 1 ∷ []) ∷ (1 ∷ 1 ∷ 0 ∷ 0 ∷ 0 ∷ 1 ∷ 1 ∷ []) ∷ []
-unfolding rowHolds headers codeHeader codePresent codeAbsent contributes any
+unfolding rowHolds headers
 headers-without = refl
 
 headers-with : headers state (none ∷ first ∷ second ∷ [])
     ≡ (0 ∷ []) ∷ (1 ∷ 0 ∷ 1 ∷ 1 ∷ 0 ∷ 0 ∷ 1 ∷ 0 ∷ 1 ∷ []) ∷ (1 ∷ 1 ∷ 0 ∷ 0 ∷ 0 ∷ 1 ∷ 1 ∷ []) ∷ []
-unfolding rowHolds headers codeHeader codePresent codeAbsent contributes any
+unfolding rowHolds headers
 headers-with = refl
 
 as-bytes : (pack (1 ∷ 1 ∷ 1 ∷ 0 ∷ 0 ∷ 1 ∷ 0 ∷ 1 ∷ []) ≡ 0xe5 ∷ []) × (pack (1 ∷ 0 ∷ 1 ∷ 1 ∷ 0 ∷ 0 ∷ 1 ∷ 0 ∷ 1 ∷ []) ≡ 0xb2 ∷ 0x80 ∷ [])
@@ -61,5 +60,5 @@ as-bytes = (refl, refl)
 applies : ChangesAtMost state none [] first (second ∷ [])
 unfolding contributes any stateBehind
 applies =
-    insertion-changes-at-most 1 given 0 (5 ∷ []) lent starts [] none [] first (second ∷ []) accepted-without accepted-with
+    insertion-changes-at-most 1 given 0 (5 ∷ []) lent starts [] none [] first (second ∷ []) accepted-with
     refl refl refl

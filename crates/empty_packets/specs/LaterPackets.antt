@@ -95,13 +95,12 @@ pub record ChangesAtMost (state : Words) (e : Contribution) (between : List Cont
   pub behind-same : headers (stateBehind (codeHeader e state .words) (between ++ p ∷ [])) behind
       ≡ headers (stateBehind state (between ++ p ∷ [])) behind
 
--- the list is accepted with e and without it
+-- the list is accepted with e
 abbrev pub InsertionChangesAtMost : Type 0
 InsertionChangesAtMost =
     (count : ℕ) (given : List Band) (style : ℕ) (planes lent : Words) → Started count given style planes lent
     → (before : List Contribution) (e : Contribution) (between : List Contribution) (p : Contribution) (behind : List Contribution)
     → let state = startedState count given style planes lent in
-    Accepted state (before ++ between ++ p ∷ behind)
-    → Accepted state (before ++ e ∷ between ++ p ∷ behind)
+    Accepted state (before ++ e ∷ between ++ p ∷ behind)
     → contributes e ≡ false → any contributes between ≡ false → contributes p ≡ true
     → ChangesAtMost (stateBehind state before) e between p behind
