@@ -25,6 +25,7 @@ rows() {
         $specs/Interface.antt $specs/Numbers.antt $specs/RoundTrip.antt
     row "the statement of the starts" "t800/specs/Starts.antt" $specs/Starts.antt
     row "the statement of fewer layers" "t800/specs/FewerLayers.antt" $specs/FewerLayers.antt
+    row "the statements of packets without passes" "empty_packets/specs/LaterPackets.antt" crates/empty_packets/specs/LaterPackets.antt
     row "the statement of the walk down" "tgt/specs/Walk.antt, and Path.antt for what contracts call a path" \
         crates/tgt/specs/Walk.antt crates/tgt/specs/Path.antt
     row "what the calls and the exported calls are as interfaces" "theorems/specs/; the record \`exports\` at the end of theorems/proofs/Exports.antt puts it together" \
@@ -42,7 +43,8 @@ rows | while IFS= read -r line; do
     grep -qxF -- "$line" docs/PROOFS.md || { echo "docs/PROOFS.md lacks this row of tools/believed.sh: $line" >&2; exit 1; }
 done
 # Each module of the definitions is in one of the rows.
-for file in crates/t800/specs/*.antt crates/tgt/specs/*.antt crates/theorems/specs/*.antt crates/t2_layer/specs/*.antt; do
+for file in crates/t800/specs/*.antt crates/tgt/specs/*.antt crates/theorems/specs/*.antt crates/t2_layer/specs/*.antt \
+    crates/empty_packets/specs/*.antt; do
     name=$(basename "$file")
     [ "$name" = Lib.antt ] || grep -q "/$name" tools/believed.sh || { echo "$file is in no row of tools/believed.sh" >&2; exit 1; }
 done
