@@ -121,7 +121,7 @@ uint32_t tonkelvi_measure(
     uint64_t *answer, size_t n_answer);
 
 /* Writes the next packet to the front of `output`: SOP with the low 16 bits of `number`, header, EPH, body. Output after it is
- * unchanged.
+ * unchanged. Where no block has passes the header is the byte 00, and in the state only the next layer moves.
  * answer, 1 word: the packet's bytes. Refusals: 5, 6, 3, 7, 8, 9, 10, 11. */
 uint32_t tonkelvi_write(
     uint32_t *state, size_t n_state,
