@@ -703,8 +703,9 @@ def layer_list(oracle):
         for low in sorted({layer, layer + 1, NOT_YET_INCLUDED}):
             leaf_calls(calls, oracle, layer, [NOT_YET_INCLUDED, low, 0])
     leaf_calls(calls, oracle, NOT_YET_INCLUDED - 1, [NOT_YET_INCLUDED, NOT_YET_INCLUDED - 1000, 0])
-    for first, packets in ((CRATE_LAYERS - 1, [[0, 0], [0, 1], [2, 1]]), (NOT_YET_INCLUDED - 2, [[0, 0], [3, 0]])):
-        trip(calls, first, packets)
+    for first, packets, full in ((CRATE_LAYERS - 1, [[0, 0], [0, 1], [2, 1]], ["80", "d890", "f224"]),
+            (NOT_YET_INCLUDED - 2, [[0, 0], [3, 0]], ["80", "fe30"])):
+        trip(calls, first, packets, full)
     return calls
 
 
@@ -730,12 +731,13 @@ def leaf_calls(calls, oracle, layer, node):
 
 
 def long_codes(calls, oracle):
-    """A thousand zeros written and read, and left out without passes; all that a last layer can have, measured and read past the input's
-    end."""
+    """A thousand zeros written and read, left out without passes, and read from a full header without passes; all that a last layer can
+    have, measured and read past the input's end."""
     for layer, low, count in ((CRATE_LAYERS + 1, 0, 1), (NOT_YET_INCLUDED - 1, NOT_YET_INCLUDED - 1000, 0)):
         node = [NOT_YET_INCLUDED, low, 0]
         front = asked_of(calls, oracle, with_node(1, layer, node)).write([count], [5] * count, [0] * count)
         asked_of(calls, oracle, with_node(2, layer, node)).read(front)
+    asked_of(calls, oracle, with_node(2, layer, node)).read([0x80] + [0] * 125)
     fresh = [NOT_YET_INCLUDED, 0, 0]
     asked_of(calls, oracle, with_node(1, NOT_YET_INCLUDED - 1, fresh)).measure(0, 0, [1], [5], [0])
     asked_of(calls, oracle, with_node(2, NOT_YET_INCLUDED - 1, fresh)).read([0x80])
@@ -750,17 +752,18 @@ def set_to_999(calls, oracle, layer):
     asked_of(calls, oracle, with_leaf(2, oracle, layer, node)).read(front)
 
 
-def trip(calls, first, packets):
-    """Packets of two blocks from a layer on, with none before, written and read."""
+def trip(calls, first, packets, full):
+    """Packets of two blocks from a layer on, with none before, written and read; full: the same with full headers without passes, read."""
     writer, reader, fronts = Asked(calls, Scope()), Asked(calls, Scope()), []
     writer.load(told_absent(started(1, TWO, 0, [8, 5]), first))
     for counts in packets:
         fronts.append(writer.write(counts, [4] * sum(counts), [0] * sum(counts)))
     after_last(calls, 1)
-    reader.load(told_absent(started(2, TWO, 0, []), first))
-    for front in fronts:
-        reader.read(front)
-    after_last(calls, 2)
+    for fronts in fronts, [list(bytes.fromhex(front)) for front in full]:
+        reader.load(told_absent(started(2, TWO, 0, []), first))
+        for front in fronts:
+            reader.read(front)
+        after_last(calls, 2)
 
 
 def after_last(calls, role):
