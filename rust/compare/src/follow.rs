@@ -65,6 +65,12 @@ impl Written<'_> {
         self.packet.len() - self.layer.body() as usize
     }
 
+    /// The header without its markers.
+    fn bits(&self) -> &[u8] {
+        let (front, back) = (if self.markers.sop { 6 } else { 0 }, if self.markers.eph { 2 } else { 0 });
+        &self.packet[front..self.header() - back]
+    }
+
     fn text(&self) -> String {
         let Written { layer, markers, number, packet, state } = self;
         format!("{layer:?} {markers:?} {number} written as {packet:02x?}, words after it {state:?}")
@@ -91,6 +97,9 @@ impl Follower {
 
     /// The next packet of the precinct, what the engine's reader told of it, and the reader's words after it.
     pub fn packet(&mut self, counts: &mut Counts, written: &Written, reading: &Reading, reader: &[u32]) {
+        if written.layer.without_passes() {
+            same("headers without passes", written.bits(), &[0][..], &|| written.text());
+        }
         #[cfg(openjp2)]
         self.by_crate.writes(counts, written);
         if !self.matching {
