@@ -8,9 +8,10 @@ the scope (docs/SCOPE.md) as plain Python. In the repository's root:
 crate_answers runs the code of crate openjp2 0.6.1; rust/compare/src/answers.rs says how it is asked. Each run is one precinct with some
 calls on it. The calls come from a seeded generator. In runs of the kinds `later` the states are in any layer, with any value in the
 inclusion trees, and the answers are those of scope.py, written from the scope's text. In all others the layer is below 999, and every
-answer, and the whole state after every call, comes from the crate; scope.py is asked beside it and must agree. A run becomes one row of
-crates/t800/proofs/Table.antt. Rows stand in chunks, each a crate of a temporary repository beside a copy of crates/t800, outside the
-project and no part of its tests; `rt check` computes the definitions on them and proves `failing 0 rows ≡ []`.
+answer, and the whole state after every call, comes from the crate; scope.py is asked beside it and must agree. Packets without passes,
+which the crate writes otherwise, are written by scope.py alone; the crate's writer goes on from the words after them, and its reader reads
+them. A run becomes one row of crates/t800/proofs/Table.antt. Rows stand in chunks, each a crate of a temporary repository beside a copy of
+crates/t800, outside the project and no part of its tests; `rt check` computes the definitions on them and proves `failing 0 rows ≡ []`.
 
 How answers are matched: write `ok` 0, `panic` 9, `failed` 11; read `ok` 0, `failed width` 9, `failed align` 12. Where a call fails on a
 short output and the same call panics with room enough, the scope puts 9 before 11, and the row says 9; such calls are counted. The crate
@@ -33,7 +34,7 @@ import tempfile
 import time
 
 from scope import LAYERS_REFUSED, NOT_YET_INCLUDED, NOT_YET_PLANES, READ_REFUSALS, Scope, blocks_in, hexed, level_sizes, spaced
-from scope import stuffed
+from scope import stuffed, whole
 
 MOST_PLANES = 998
 CRATE_LAYERS = 999       # the crate is asked below this layer
@@ -50,14 +51,34 @@ def add_program(parser):
 
 
 class Oracle:
-    """The crate, asked line by line."""
+    """The crate, asked line by line; but a packet without passes is written by the scope, unless the crate stands alone."""
 
-    def __init__(self, program):
+    def __init__(self, program, alone=False):
         if not os.path.exists(program):
             raise SystemExit("there is no %s: the head of this file says how it is built" % os.path.normpath(program))
         self.proc = subprocess.Popen([program], stdin=subprocess.PIPE, stdout=subprocess.PIPE, text=True, bufsize=1)
+        self.alone = alone
+        self.empty = "0"     # how the crate is shown a band without blocks
 
     def ask(self, line):
+        name, *rest = line.split()
+        if name in ("start", "load"):
+            self.empty = rest[1] if name == "start" else rest[0]
+        if name == "write" and not self.alone and not any(whole(line.split("/")[1])):
+            return self.ask_scope(line)
+        return self.ask_crate(line)
+
+    def ask_scope(self, line):
+        """The scope's answer; the crate goes on from the words after it."""
+        scope = Scope()
+        scope.state = self.words()
+        answer = scope.ask(line)
+        if self.ask_crate("load %s %s" % (self.empty, spaced(scope.words()))) != "ok":
+            raise SystemExit("no load after: " + line)
+        return answer
+
+    def ask_crate(self, line):
+        """The crate's own answer, whatever the line."""
         self.proc.stdin.write(line + "\n")
         self.proc.stdin.flush()
         answer = self.proc.stdout.readline()
@@ -66,7 +87,7 @@ class Oracle:
         return answer.rstrip()
 
     def words(self):
-        answer = self.ask("dump").split()
+        answer = self.ask_crate("dump").split()
         if answer[0] != "ok":
             raise SystemExit("no dump: " + " ".join(answer))
         return [int(x) for x in answer[1:]]
@@ -133,10 +154,10 @@ class Run:
             raise Unexpected("%s -> %s" % (line, answer))
         return answer
 
-    def agree(self, before, line, answer, after):
-        """The scope as plain Python answers as the crate does."""
-        self.tally["answers of the crate, the scope agreeing" if self.crate else "answers of the scope alone"] += 1
-        if self.crate:
+    def agree(self, own, before, line, answer, after):
+        """The scope as plain Python answers as the crate does, where the answer is the crate's own."""
+        self.tally["answers of the crate, the scope agreeing" if own else "answers of the scope alone"] += 1
+        if own:
             self.scope.state = before
             told = self.scope.ask(line)
             if told.split() != answer.split() or self.scope.words() != after:
@@ -147,7 +168,7 @@ class Run:
         planes = self.planes if side == "writer" else []
         line = "start %s %d %d %s %d %s" % (side, self.empty, len(self.bands), geometry, self.style, spaced(planes))
         answer, after = self.tell(side, line), self.holds(side)
-        self.agree([], line, answer, after)
+        self.agree(self.crate, [], line, answer, after)
         self.calls.append((side, "start", dict(after=after)))
 
     def load(self, side, words):
@@ -209,12 +230,14 @@ class Run:
         self.tally["%s %d" % (name, why)] += 1
         if why == 0:
             self.tally["headers written that end in FF 00"] += front[-2 - 2 * eph:len(front) - 2 * eph] == [0xff, 0]
+            self.tally["packets written without passes"] += not any(counts)
             self.passes = [p + c for p, c in zip(self.passes, counts)]
             self.counts.update(c for c in counts if c)
         after = self.holds("writer")
-        self.agree(words, line, spaced(answer), after)
+        own = self.crate and any(counts)
+        self.agree(own, words, line, spaced(answer), after)
         self.calls.append(("writer", name, dict(
-            before=words, sop=sop, eph=eph, number=number, counts=counts, lengths=lengths, marks=marks, room=room,
+            own=own, before=words, sop=sop, eph=eph, number=number, counts=counts, lengths=lengths, marks=marks, room=room,
             refusal=why, front=front, after=after)))
         return front if why == 0 else None
 
@@ -261,7 +284,7 @@ class Run:
             self.tally["reads with %d zero planes" % NOT_YET_PLANES] += bool(told[1]) and any(x == NOT_YET_PLANES for x in reports[1::4])
             self.tally["reads with a length of 2^31 or more"] += any(x >= 1 << 31 for x in records[3::4])
         after = self.holds("reader")
-        self.agree(words, line, answer, after)
+        self.agree(self.crate, words, line, answer, after)
         self.calls.append(("reader", "reads", dict(
             sop=sop, eph=eph, data=data, reports=4 * self.blocks, records=4 * lent, told=told,
             rows=(reports, records), after=after)))
@@ -575,7 +598,7 @@ def some_input(rng, run, sop, eph, front):
 
 
 def reader_run(rng, run):
-    """A reader alone, fed with what a writer made, damaged or not, and with other bytes."""
+    """A reader alone, fed with what the crate's writer made, damaged or not, and with other bytes."""
     run.start("reader")
     geometry = spaced(spaced(b) for b in run.bands)
     run.writer.ask("start writer %d %d %s %d %s" % (run.empty, len(run.bands), geometry, run.style, spaced(run.planes)))
@@ -584,7 +607,7 @@ def reader_run(rng, run):
         counts, lengths, marks = some_contribution(rng, run, how, rng.choice([3, 5, 8, 12, 24]), rng.choice([0, 0.3, 0.6, 1]),
             0.25 if run.blocks < 5 else 0.06)
         sop, eph = rng.randrange(2), rng.randrange(2)
-        answer = run.writer.ask("write %d %d %d %d / %s / %s / %s / !"
+        answer = run.writer.ask_crate("write %d %d %d %d / %s / %s / %s / !"
             % (sop, eph, some_number(rng), AMPLE, spaced(counts), spaced(lengths), spaced(marks))).split()
         if answer[0] == "ok":
             front = list(bytes.fromhex(answer[2]))
@@ -705,8 +728,8 @@ def later_reader_run(rng, run):
     reading(rng, run, words[3])
 
 
-def without_news(words, layer):
-    """A started state after so many packets to which no block contributed."""
+def told_absent(words, layer):
+    """A started state in a later layer, each node of its inclusion trees told as far as that."""
     words = words[:3] + [layer] + words[4:]
     for block in sum(blocks_in(words), []):
         for node in block.path:
@@ -720,7 +743,7 @@ def later_trip_run(rng, run):
     layer = some_later_layer(rng)
     for side in ("writer", "reader"):
         run.start(side)
-        run.load(side, without_news(run.calls[-1][2]["after"], layer))
+        run.load(side, told_absent(run.calls[-1][2]["after"], layer))
     tripping(rng, run)
 
 

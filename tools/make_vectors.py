@@ -6,17 +6,19 @@
 
 This gives the files that are there byte for byte; --seed gives others. crate_answers runs the code of crate openjp2 0.6.1
 (rust/compare/src/answers.rs), and compare_definitions.py's generator makes the random runs. Every answer of a list, and the state after
-it, comes from the crate, but for two kinds. From layer 999 on, and where 999 stands in an inclusion tree, the answers of the lists `layers`
-and `refusals` come from scope.py, the scope (docs/SCOPE.md) as plain Python, which must agree with the crate wherever that is asked.
-Refusals that the crate has not stand in this file by their numbers, in the lists `hand`, `layers` and `refusals`, with the buffers as the
-scope leaves them. Starts are sums of the lengths.
+it, comes from the crate, but for three kinds. Packets without passes are measured and written by scope.py, the scope (docs/SCOPE.md) as
+plain Python, since the crate writes them otherwise; its writer goes on from the words after them, and its reader reads them. From layer 999
+on, and where 999 stands in an inclusion tree, the answers of the lists `layers` and `refusals` come from scope.py too, which must agree
+with the crate wherever that is asked. Refusals that the crate has not stand in this file by their numbers, in the lists `hand`, `absent`,
+`layers` and `refusals`, with the buffers as the scope leaves them. Starts are sums of the lengths.
 
 The lists, which crates/vectors/args names:
 
     hand        packets of the scope that are no rows of its table, and slips near them
     published   worked headers as recalled from T.800
+    absent      packets without passes, and with passes after them, written and read
     writes      packets written                       loaded      packets written from loaded states
-    reads       packets read as they were written     reloaded    packets read from loaded states
+    reads       packets read as the crate writes them reloaded    packets read from loaded states
     damaged     packets damaged, cut or made of other bytes
     markers     packets with a marker missing, cut or where none is due
     big         packets of big geometries             layers      packets of layers from 998 on
@@ -46,7 +48,7 @@ import os
 import random
 
 import compare_definitions as generator
-from compare_definitions import AMPLE, CRATE_LAYERS, MOST_PLANES, Oracle, Run, Unexpected, add_program, without_news
+from compare_definitions import AMPLE, CRATE_LAYERS, MOST_PLANES, Oracle, Run, Unexpected, add_program, told_absent
 from scope import HEADER_WORDS, NOT_YET_INCLUDED, NOT_YET_PLANES, Scope, bands_of, blocks_in, hexed, spaced, started
 
 STATE, SCRATCH, OUTPUT, REPORTS, RECORDS = 7, 5, 165, 9, 8
@@ -205,11 +207,11 @@ def put_run(calls, run, side):
         elif name == "writes":
             body = sum(c["lengths"])
             calls.write(c["sop"], c["eph"], c["number"], c["counts"], c["lengths"], c["marks"], body, c["room"], c["refusal"],
-                c["front"], c["after"])
+                c["front"], c["after"], from_crate=c["own"])
         else:
             total = sum(c["lengths"])
             calls.measure(c["sop"], c["eph"], c["counts"], c["lengths"], c["marks"],
-                (c["refusal"], len(c["front"]), total) if c["refusal"] == 0 else (c["refusal"], 0, 0), c["after"])
+                (c["refusal"], len(c["front"]), total) if c["refusal"] == 0 else (c["refusal"], 0, 0), c["after"], from_crate=c["own"])
             if c["refusal"] == 0:
                 # the crate has no measuring: its state moved on, and that of the list does not
                 return
@@ -284,6 +286,10 @@ class Asked:
         self.calls, self.oracle, self.scope = calls, oracle, Scope()
         self.given = dict(from_crate=isinstance(oracle, Oracle))
 
+    def given_for(self, counts):
+        """A packet without passes is the scope's."""
+        return self.given if any(counts) else dict(from_crate=False)
+
     def load(self, words):
         self.bands = bands_of(words)
         self.ask("load 0 " + spaced(words))
@@ -309,7 +315,8 @@ class Asked:
         before = self.oracle.words()
         answer = self.ask("write %d %d 0 %d / %s / %s / %s / !" % (sop, eph, AMPLE, spaced(counts), spaced(lengths), spaced(marks))).split()
         if answer[0] == "ok":
-            self.calls.measure(sop, eph, counts, lengths, marks, (0, int(answer[1]), sum(lengths)), self.oracle.words(), **self.given)
+            self.calls.measure(sop, eph, counts, lengths, marks, (0, int(answer[1]), sum(lengths)), self.oracle.words(),
+                **self.given_for(counts))
         else:
             self.calls.measure(sop, eph, counts, lengths, marks, ({"panic": 9}[answer[0]], 0, 0), **self.given)
         self.ask("load 0 " + spaced(before))
@@ -324,12 +331,12 @@ class Asked:
         self.ask("load 0 " + spaced(before))
         answer = self.ask("write %d %d %d %d %s" % (sop, eph, packet, room, lists)).split()
         if answer[0] == "failed":
-            self.calls.write(sop, eph, packet, counts, lengths, marks, body, room, 11, **self.given)
+            self.calls.write(sop, eph, packet, counts, lengths, marks, body, room, 11, **self.given_for(counts))
             return None
         got = list(bytes.fromhex(answer[2]))
         if answer[3] != "body=" or (front and got != list(bytes.fromhex(front))):
-            raise SystemExit("the crate writes %s, not %s" % (answer[2], front))
-        self.calls.write(sop, eph, packet, counts, lengths, marks, body, room, 0, got, after, **self.given)
+            raise SystemExit("written is %s, not %s" % (answer[2], front))
+        self.calls.write(sop, eph, packet, counts, lengths, marks, body, room, 0, got, after, **self.given_for(counts))
         return got
 
     def read(self, data, sop=0, eph=0, records=None, reports=None, rows=None):
@@ -403,6 +410,78 @@ def hand_list(oracle):
         w.start(2, ONE, 0, [])
         w.read(list(bytes.fromhex(data)), 1, 1, records=2)
     return calls
+
+
+# ---- packets without passes
+
+FLAT = [(0, 0, 8)]
+HOLLOW = [(0, 3, 8), (4, 0, 5)]
+WIDE = [(2, 2, 8), (0, 5, 3), (3, 1, 6)]
+MARKERS = (0, 0), (1, 0), (0, 1), (1, 1)
+
+
+def absent_list(oracle):
+    """Packets without passes, alone and among others, measured, written and read."""
+    calls = Calls("absent")
+    for sop, eph in MARKERS:
+        for bands in (ONE, FLAT, HOLLOW, WIDE):
+            some_layers(calls, oracle, bands, [[0] * blocks_of(bands)], ["00"], sop, eph)
+        some_layers(calls, oracle, ONE, [[0], [1], [1]], ["00", "b280", "c6"], sop, eph, [5, 3])
+        some_layers(calls, oracle, ONE, [[0], [0], [1], [0], [2]], ["00", "00", "9940", "00", "e300"], sop, eph, [5, 3, 3])
+        # a pass of no bytes contributes
+        some_layers(calls, oracle, ONE, [[1], [0], [1]], ["e0", "00", "c0"], sop, eph, [0, 0])
+        some_layers(calls, oracle, HOLLOW, [[], [], []], ["00"] * 3, sop, eph)
+    none = [0] * 7
+    some_layers(calls, oracle, WIDE, [none, [0, 0, 1, 0, 0, 0, 0], none, none, [1, 0, 2, 0, 0, 3, 0], none, [1] * 7], None, 0, 1)
+    some_layers(calls, oracle, WIDE, [[1, 0, 0, 0, 0, 0, 1], none, [0, 0, 0, 1, 0, 0, 0], none, none, none, [0] * 6 + [2]], None, 1, 0)
+    some_layers(calls, oracle, TWO, [[0, 0], [0, 1]] * 4 + [[1, 1]], None, 1, 1)
+    # what other encoders write for J, with a first bit 1
+    reader = Asked(calls, oracle)
+    reader.start(2, ONE, 0, [])
+    for front in ("80", "e5", "c6"):
+        reader.read(list(bytes.fromhex(front)))
+    absent_order(calls, oracle)
+    return calls
+
+
+def some_layers(calls, oracle, bands, layers, fronts, sop, eph, lengths=None):
+    """Packets with these pass counts, each measured, written and then read; fronts: the headers that a paper gives, without markers."""
+    w, written, lengths = Asked(calls, oracle), [], list(lengths or [])
+    w.start(1, bands, 0, [max(0, planes - 1 - k % 2) if len(bands) > 1 else planes for across, down, planes in bands
+        for k in range(across * down)])
+    for k, counts in enumerate(layers):
+        passes = sum(counts)
+        own = [lengths.pop(0) if lengths else 2 + k for _ in range(passes)]
+        given = ["ff910004%04x" % k] * sop + [fronts[k]] + ["ff92"] * eph if fronts else None
+        w.measure(sop, eph, counts, own, [0] * passes)
+        written.append(w.write(counts, own, [0] * passes, sop=sop, eph=eph, packet=k, front="".join(given) if given else None))
+    w.start(2, bands, 0, [])
+    for front in written:
+        w.read(front, sop, eph)
+
+
+def absent_order(calls, oracle):
+    """The refusals of a packet without passes, in their order, and the room that it takes."""
+    given, w = dict(from_crate=False), Asked(calls, oracle)
+    w.start(1, TWO, 0, [8, 5])
+    for number, counts, lengths, marks, body, room in (
+            (3, [0], [], [], 0, 9), (3, [0, 0, 0], [], [], 0, 9), (3, [], [], [], 1, 0), (3, [0, 0], [1], [], 1, 9),
+            (3, [0, 0], [], [0], 0, 9), (10, [0, 0], [], [], 1, 0), (10, [0, 0], [], [], 1, 9)):
+        calls.write(0, 0, 0, counts, lengths, marks, body, room, number, **given)
+        if number < 10:
+            calls.measure(1, 1, counts, lengths, marks, (number, 0, 0), **given)
+    for sop, eph, size in ((0, 0, 1), (1, 0, 7), (0, 1, 3), (1, 1, 9)):
+        w.write([0, 0], [], [], room=0, sop=sop, eph=eph)
+        w.write([0, 0], [], [], room=size - 1, sop=sop, eph=eph)
+        w.write([0, 0], [], [], room=size, sop=sop, eph=eph)
+        w.write([0, 0], [], [], room=size + 3, sop=sop, eph=eph)
+    words = w.oracle.words()
+    for at, value, number in ((HEADER_WORDS, NOT_YET_INCLUDED + 1, 5), (HEADER_WORDS + 2, 2, 5), (len(words) - 1, 1, 5),
+            (3, NOT_YET_INCLUDED, 6)):
+        calls.load(changed(words, (at, value)))
+        calls.write(0, 0, 0, [0, 0], [], [], 0, 9, number, **given)
+        calls.measure(0, 0, [0, 0], [], [], (number, 0, 0), **given)
+        calls.write(0, 0, 0, [0], [], [], 1, 0, number, **given)
 
 
 def bits(text):
@@ -617,25 +696,48 @@ def layer_list(oracle):
     long_codes(calls, oracle)
     for layer in LAYERS[:3]:
         set_to_999(calls, oracle, layer)
-    for first, packets in ((CRATE_LAYERS - 1, [[0, 0], [0, 1], [2, 1]]), (NOT_YET_INCLUDED - 2, [[0, 0], [3, 0]])):
-        trip(calls, first, packets)
+    for layer in LAYERS:
+        for value in VALUES:
+            leaf_calls(calls, oracle, layer, [value, min(value, layer) - 1, 0])
+    for layer in (CRATE_LAYERS, NOT_YET_INCLUDED - 1):
+        for low in sorted({layer, layer + 1, NOT_YET_INCLUDED}):
+            leaf_calls(calls, oracle, layer, [NOT_YET_INCLUDED, low, 0])
+    leaf_calls(calls, oracle, NOT_YET_INCLUDED - 1, [NOT_YET_INCLUDED, NOT_YET_INCLUDED - 1000, 0])
+    for first, packets, full in ((CRATE_LAYERS - 1, [[0, 0], [0, 1], [2, 1]], ["80", "d890", "f224"]),
+            (NOT_YET_INCLUDED - 2, [[0, 0], [3, 0]], ["80", "fe30"])):
+        trip(calls, first, packets, full)
     return calls
 
 
 def node_calls(calls, oracle, layer, node):
-    """No inclusion measured, one written, and a read."""
+    """A packet without passes measured, an inclusion written, and a read."""
     writer = asked_of(calls, oracle, with_node(1, layer, node))
     writer.measure(0, 0, [0], [], [])
     writer.write([1], [5], [0])
     asked_of(calls, oracle, with_node(2, layer, node)).read(bits("1 01 1 0 0 101 0"))
 
 
+def with_leaf(role, oracle, layer, node):
+    """A block with passes and beside it one without, whose leaf in the inclusion tree is this node."""
+    return changed(words_in_range(role, oracle), (3, layer), *enumerate(node, HEADER_WORDS + 3))
+
+
+def leaf_calls(calls, oracle, layer, node):
+    """No inclusion beside a block with passes, measured, written and read."""
+    writer = asked_of(calls, oracle, with_leaf(1, oracle, layer, node))
+    writer.measure(0, 0, [1, 0], [5], [0])
+    front = writer.write([1, 0], [5], [0])
+    asked_of(calls, oracle, with_leaf(2, oracle, layer, node)).read(front)
+
+
 def long_codes(calls, oracle):
-    """A thousand zeros written and read; all that a last layer can have, measured and read past the input's end."""
+    """A thousand zeros written and read, left out without passes, and read from a full header without passes; all that a last layer can
+    have, measured and read past the input's end."""
     for layer, low, count in ((CRATE_LAYERS + 1, 0, 1), (NOT_YET_INCLUDED - 1, NOT_YET_INCLUDED - 1000, 0)):
         node = [NOT_YET_INCLUDED, low, 0]
         front = asked_of(calls, oracle, with_node(1, layer, node)).write([count], [5] * count, [0] * count)
         asked_of(calls, oracle, with_node(2, layer, node)).read(front)
+    asked_of(calls, oracle, with_node(2, layer, node)).read([0x80] + [0] * 125)
     fresh = [NOT_YET_INCLUDED, 0, 0]
     asked_of(calls, oracle, with_node(1, NOT_YET_INCLUDED - 1, fresh)).measure(0, 0, [1], [5], [0])
     asked_of(calls, oracle, with_node(2, NOT_YET_INCLUDED - 1, fresh)).read([0x80])
@@ -643,25 +745,25 @@ def long_codes(calls, oracle):
 
 def set_to_999(calls, oracle, layer):
     """A second block without passes whose node says layer 999, as far as the layer is known."""
-    leaf = HEADER_WORDS + 3
-    node = (leaf, CRATE_LAYERS), (leaf + 1, layer), (leaf + 2, 0)
-    writer = asked_of(calls, oracle, changed(words_in_range(1, oracle), (3, layer), *node))
+    node = [CRATE_LAYERS, layer, 0]
+    writer = asked_of(calls, oracle, with_leaf(1, oracle, layer, node))
     writer.measure(0, 0, [1, 1], [2, 3], [0, 0])
     front = writer.write([1, 0], [2], [0])
-    asked_of(calls, oracle, changed(words_in_range(2, oracle), (3, layer), *node)).read(front)
+    asked_of(calls, oracle, with_leaf(2, oracle, layer, node)).read(front)
 
 
-def trip(calls, first, packets):
-    """Packets of two blocks from a layer on, with none before, written and read."""
+def trip(calls, first, packets, full):
+    """Packets of two blocks from a layer on, with none before, written and read; full: the same with full headers without passes, read."""
     writer, reader, fronts = Asked(calls, Scope()), Asked(calls, Scope()), []
-    writer.load(without_news(started(1, TWO, 0, [8, 5]), first))
+    writer.load(told_absent(started(1, TWO, 0, [8, 5]), first))
     for counts in packets:
         fronts.append(writer.write(counts, [4] * sum(counts), [0] * sum(counts)))
     after_last(calls, 1)
-    reader.load(without_news(started(2, TWO, 0, []), first))
-    for front in fronts:
-        reader.read(front)
-    after_last(calls, 2)
+    for fronts in fronts, [list(bytes.fromhex(front)) for front in full]:
+        reader.load(told_absent(started(2, TWO, 0, []), first))
+        for front in fronts:
+            reader.read(front)
+        after_last(calls, 2)
 
 
 def after_last(calls, role):
@@ -721,8 +823,9 @@ def main():
     args = parser.parse_args()
     folder = args.out or os.path.join(os.path.dirname(os.path.abspath(__file__)), "..", "crates", "vectors", "data")
     oracles = [Oracle(args.program) for _ in range(3)]
+    alone = [Oracle(args.program, alone=True) for _ in range(3)]
 
-    lists = [hand_list(oracles[0]), published_list(oracles[0])]
+    lists = [hand_list(oracles[0]), absent_list(oracles[0]), published_list(oracles[0])]
     for name, kinds, side, answers in (
             ("writes", [generator.writer_run, generator.trip_run], "writer", 110),
             ("loaded", [generator.loaded_writer_run], "writer", 60),
@@ -730,11 +833,11 @@ def main():
             ("damaged", [generator.reader_run], "reader", 90),
             ("markers", [marker_run], "reader", 60),
             ("reloaded", [generator.loaded_reader_run], "reader", 60)):
-        lists.append(put_random(Calls(name), oracles, args.seed, kinds, side, answers, 60))
+        lists.append(put_random(Calls(name), oracles if side == "writer" else alone, args.seed, kinds, side, answers, 60))
     lists.append(big_list(oracles, args.seed))
     lists.append(layer_list(oracles[0]))
     lists.append(refusal_list(oracles[0]))
-    for o in oracles:
+    for o in oracles + alone:
         o.close()
     for calls in lists:
         calls.write_file(folder)

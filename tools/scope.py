@@ -1,5 +1,6 @@
 """The scope (docs/SCOPE.md) as plain Python, for states in range and lists of the right lengths, in every layer. It is written from the
-paper's words and knows nothing of the definitions; below layer 999 compare_definitions.py and make_vectors.py hold it to the crate."""
+paper's words and knows nothing of the definitions; below layer 999 compare_definitions.py and make_vectors.py hold it to the crate, but for
+packets written without passes."""
 import collections
 
 NOT_YET_INCLUDED = 65535
@@ -197,7 +198,9 @@ def code_block(words, block, segments):
 
 
 def code_header(words, counts, lengths, marks):
-    """The header's bytes, and the words after the packet."""
+    """The header's bytes, and the words after the packet. Without a pass in any block the first bit is all, and only the layer moves."""
+    if not any(counts):
+        return stuffed([0]), words[:3] + [words[3] + 1] + words[4:]
     words, bits, at, k = list(words), [1], 0, 0
     for band in blocks_in(words):
         segments = []

@@ -48,7 +48,7 @@ pub fn shape(random: &mut Random, most: u64) -> Shape {
 }
 
 /// A pass, numbered from 0 over all layers, ends a segment of the style.
-fn ends_segment(style: u32, pass: u32) -> bool {
+pub fn ends_segment(style: u32, pass: u32) -> bool {
     if style & 4 != 0 {
         true
     } else if style & 1 != 0 {
@@ -63,17 +63,18 @@ fn passes_so_far(state: &[u32]) -> Vec<u32> {
     places.iter().flat_map(|p| (0..p.blocks).map(|i| state[p.block_words + 4 * i])).collect()
 }
 
-/// A layer for a writer's state: blocks as dense as one in `rare`, marks as the style ends segments or any.
+/// A layer for a writer's state: blocks as dense as one in `rare`, none with 0; marks as the style ends segments or any.
 pub fn layer(random: &mut Random, state: &[u32], rare: u64, length_bits: u64) -> Layer {
     let matching = !random.once_in(3);
     layer_by_block(random, state, |_| rare, length_bits, matching)
 }
 
-/// A layer with another density for each block; `matching` where marks are as the style ends segments.
+/// A layer with another density for each block; `matching` where marks are as the style ends segments. In some all passes are of 0 bytes.
 pub fn layer_by_block(random: &mut Random, state: &[u32], rare: impl Fn(usize) -> u64, length_bits: u64, matching: bool) -> Layer {
     let mut layer = Layer::default();
+    let length_bits = if random.once_in(8) { 0 } else { length_bits };
     for (block, so_far) in passes_so_far(state).into_iter().enumerate() {
-        let count = match random.once_in(rare(block)) {
+        let count = match rare(block) != 0 && random.once_in(rare(block)) {
             true if random.once_in(3) => random.pick(&PASSES),
             true => random.between(1, 4) as u32,
             false => 0,
@@ -186,7 +187,7 @@ fn fill_nodes(random: &mut Random, nodes: &mut [u32], not_yet: u32, most: u64) {
     }
 }
 
-/// Moves a state on to a layer as packets without passes leave it.
+/// Moves a state on to a layer, all nodes of its inclusion trees told as far as that.
 pub fn pass_over(state: &mut [u32], layer: u32) {
     state[3] = layer;
     for p in &model::layout(&model::bands_of(state)).0 {

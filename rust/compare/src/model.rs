@@ -388,6 +388,10 @@ fn code(state: &[u32], scratch: usize, counts: &[u32], lengths: &[u32], marks: &
         return Err(8);
     }
     let (mut new, layer) = (state.to_vec(), state[3]);
+    new[3] = layer + 1;
+    if total == 0 {
+        return Ok(Coded { header: pack(&[0]), state: new, body: 0 });
+    }
     let mut bits = vec![1];
     let mut too_wide = false;
     for p in &places {
@@ -426,7 +430,6 @@ fn code(state: &[u32], scratch: usize, counts: &[u32], lengths: &[u32], marks: &
     if too_wide {
         return Err(9);
     }
-    new[3] = layer + 1;
     Ok(Coded { header: pack(&bits), state: new, body: lengths.iter().map(|l| u64::from(*l)).sum() })
 }
 

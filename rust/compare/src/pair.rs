@@ -1,5 +1,5 @@
 //! Each call made twice, by the engine and by the scope's plain Rust (model.rs), on equal copies of every buffer; and where the call lies
-//! in the crate's domain, by the crate too. Anything unequal ends the run with all arguments.
+//! in the crate's domain, by the crate too, but for packets written without passes. Anything unequal ends the run with all arguments.
 use crate::model::{self, Record};
 use crate::random::Random;
 use std::fmt::Debug;
@@ -13,7 +13,7 @@ type Start = fn(u32, &[u32], u8, &[u32], &mut [u32]) -> u32;
 const USED: u32 = 0xdead_beef;
 
 /// The layers that the crate has.
-const CRATE_LAYERS: u32 = 999;
+pub const CRATE_LAYERS: u32 = 999;
 
 #[derive(Clone, Copy, PartialEq, Eq, Debug)]
 pub enum Call {
@@ -47,6 +47,20 @@ pub struct Counts {
     pub long_bodies: u64,
     /// Packets measured, written and read in layers that the crate doesn't have.
     pub late_layers: u64,
+    /// Packets written without passes.
+    pub empty_packets: u64,
+    /// Bytes of packets that the crate's writer gave too, from the same words; and carried on from the start.
+    pub bytes_from_words: u64,
+    pub bytes_with_crate: u64,
+    /// States after packets with passes that the crate's writer, carried on from the start, has too; and those after packets without.
+    pub states_with_crate: u64,
+    pub states_after_empty: u64,
+    /// Packets read in order from the start as the book has them, and those without passes.
+    pub in_order: u64,
+    pub in_order_empty: u64,
+    /// The same by the crate's reader, carried on from the start.
+    pub read_by_crate: u64,
+    pub empty_by_crate: u64,
 }
 
 impl Counts {
@@ -75,6 +89,15 @@ impl Counts {
         println!("{} calls, {} of them compared with the crate too", self.total(), with_crate);
         println!("{} reads of several segments behind another block, {} of starts from 2^32 on", self.mixed_bodies, self.long_bodies);
         println!("{} accepted in layers from 999 on", self.late_layers);
+        println!("{} packets written without passes", self.empty_packets);
+        println!("{} read in order from the start as the book has them, {} of them without passes", self.in_order, self.in_order_empty);
+        println!("{} read in order by the crate's reader too, {} of them without passes", self.read_by_crate, self.empty_by_crate);
+        println!("{} bytes as the crate writes them from the same words", self.bytes_from_words);
+        println!("{} bytes as the crate's writer has them that wrote all packets before", self.bytes_with_crate);
+        println!(
+            "{} states after packets with passes that this writer has too, {} of them where packets without passes came before",
+            self.states_with_crate, self.states_after_empty
+        );
     }
 
     /// Counts what an accepted read's records show of the starts.
@@ -86,7 +109,7 @@ impl Counts {
     }
 }
 
-fn same<T: PartialEq + Debug>(what: &str, engine: &T, other: &T, call: &dyn Fn() -> String) {
+pub fn same<T: PartialEq + Debug + ?Sized>(what: &str, engine: &T, other: &T, call: &dyn Fn() -> String) {
     if engine != other {
         panic!("{what} differ\n engine: {engine:?}\n other:  {other:?}\n call:   {}", call());
     }
@@ -104,6 +127,18 @@ impl Layer {
     pub fn body(&self) -> u64 {
         self.lengths.iter().map(|l| u64::from(*l)).sum()
     }
+
+    pub fn without_passes(&self) -> bool {
+        self.counts.iter().all(|count| *count == 0)
+    }
+}
+
+/// What a read gave: its number and answer and, where it was accepted, the reports and as many records as the answer says.
+pub struct Reading {
+    pub number: u32,
+    pub answer: Vec<u64>,
+    pub reports: Vec<u32>,
+    pub records: Vec<Record>,
 }
 
 #[derive(Clone, Copy, Default, Debug)]
@@ -232,11 +267,13 @@ impl Pair {
         self.count_packet(Call::Write, &before, number, with_crate);
         self.left(number, state, &text);
         let bytes = if number == 0 { buffers.2[0] as usize } else { 0 };
+        self.counts.empty_packets += u64::from(number == 0 && layer.without_passes());
+        self.counts.bytes_from_words += if with_crate { bytes as u64 } else { 0 };
         buffers.1.truncate(bytes);
         (number, buffers.1)
     }
 
-    /// A read on the state, with a work list of so many words for so many records. Gives the number and the answer.
+    /// A read on the state, with a work list of so many words for so many records.
     #[allow(clippy::too_many_arguments)]
     pub fn read(
         &mut self,
@@ -248,7 +285,7 @@ impl Pair {
         work: usize,
         records: usize,
         answer: usize,
-    ) -> (u32, Vec<u64>) {
+    ) -> Reading {
         let before = state.clone();
         let mut buffers = (vec![USED; scratch], vec![USED; reports], vec![USED; work], vec![u64::MAX; answer]);
         let mut expected = buffers.clone();
@@ -274,7 +311,7 @@ impl Pair {
                  reports {reports} work {work} records {records} answer {answer}"
             )
         };
-        let lent: Vec<Record> = lent.iter().map(record).collect();
+        let mut lent: Vec<Record> = lent.iter().map(record).collect();
         same("numbers", &number, &should, &text);
         same("states", state, &expected_state, &text);
         same("buffers", &buffers, &expected, &text);
@@ -282,11 +319,10 @@ impl Pair {
         let told = (number, &state[..], &buffers.1[..], &lent[..], &buffers.3[..]);
         let with_crate = matches!(number, 0 | 9 | 12) && crate_reads(&before, src, markers, told, &text);
         self.count_packet(Call::Read, &before, number, with_crate);
-        if number == 0 {
-            self.counts.records(&lent[..buffers.3[2] as usize]);
-        }
         self.left(number, state, &text);
-        (number, buffers.3)
+        lent.truncate(if number == 0 { buffers.3[2] as usize } else { 0 });
+        self.counts.records(&lent);
+        Reading { number, answer: buffers.3, reports: buffers.1, records: lent }
     }
 
     /// So many structs that each hold anything.
@@ -355,7 +391,7 @@ use crate::openjp2::t2::precinct::{come_back, Failed, Precinct};
 /// The crate's header is as long, and leaves the same state. No body is made.
 #[cfg(openjp2)]
 fn crate_measures(state: &[u32], layer: &Layer, markers: Markers, engine: &(Vec<u32>, Vec<u64>), text: &dyn Fn() -> String) -> bool {
-    if !in_domain(state) {
+    if layer.without_passes() || !in_domain(state) {
         return false;
     }
     let mut precinct = Precinct::from_words(state, true);
@@ -377,7 +413,7 @@ fn crate_writes(
     engine: (u32, &Vec<u32>, &Vec<u8>),
     text: &dyn Fn() -> String,
 ) -> bool {
-    if !in_domain(before) {
+    if layer.without_passes() || !in_domain(before) {
         return false;
     }
     let (number, state, bytes) = engine;
@@ -414,8 +450,7 @@ fn crate_reads(
             same("numbers of the crate", &number, &0, text);
             same("answers of the crate", &answer, &&told.answer[..], text);
             same("reports of the crate", &reports, &&told.reports[..], text);
-            let numbers = told.records.chunks_exact(4).map(|four| [four[0], four[1], four[2], four[3]]);
-            let theirs: Vec<Record> = numbers.zip(told.starts).map(|(numbers, start)| Record { numbers, start }).collect();
+            let theirs = told.records();
             same("records of the crate", &&records[..theirs.len()], &&theirs[..], text);
             same("states of the crate", &state, &&precinct.words()[..], text);
         }

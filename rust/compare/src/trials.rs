@@ -1,7 +1,8 @@
 //! The trials: each makes calls until its share is used up.
+use crate::follow::{Follower, Written};
 use crate::inputs::{self, Shape};
 use crate::model::{self, LAYERS};
-use crate::pair::{Bands, Layer, Markers, Pair};
+use crate::pair::{Bands, Layer, Markers, Pair, Reading};
 use crate::random::Random;
 
 pub struct Trials {
@@ -34,9 +35,9 @@ impl Trials {
         self.pair.start(writer, shape.count, shape.bands.as_flattened(), shape.style, planes, length).expect("a shape in range")
     }
 
-    fn read(&mut self, state: &mut Vec<u32>, src: &[u8], markers: Markers, records: usize) -> u32 {
+    fn read(&mut self, state: &mut Vec<u32>, src: &[u8], markers: Markers, records: usize) -> Reading {
         let (length, reports) = (state.len(), 4 * inputs::blocks_in(state));
-        self.pair.read(state, length, src, markers, reports, 4 * records, records, 5).0
+        self.pair.read(state, length, src, markers, reports, 4 * records, records, 5)
     }
 
     // ---- starts
@@ -78,8 +79,9 @@ impl Trials {
         self.until(calls, |t| {
             let shape = inputs::shape(&mut t.random, side);
             let (mut writer, mut reader) = (t.start(true, &shape), t.start(false, &shape));
+            let mut follower = t.follower(&shape);
             let layers = t.random.between(1, 6);
-            t.session(&mut writer, &mut reader, layers);
+            t.session(&mut writer, &mut reader, layers, Some(&mut follower));
         });
     }
 
@@ -88,27 +90,65 @@ impl Trials {
         self.until(calls, |t| {
             let shape = inputs::shape(&mut t.random, side);
             let (mut writer, mut reader) = (t.start(true, &shape), t.start(false, &shape));
-            let layers = t.random.below(3);
-            t.session(&mut writer, &mut reader, layers);
+            let (mut follower, layers) = (t.follower(&shape), t.random.below(3));
+            t.session(&mut writer, &mut reader, layers, Some(&mut follower));
             let late = inputs::late_layer(&mut t.random);
             inputs::pass_over(&mut writer, late);
             inputs::pass_over(&mut reader, late);
             let layers = t.random.between(1, 6);
-            t.session(&mut writer, &mut reader, layers);
+            t.session(&mut writer, &mut reader, layers, None);
         });
     }
 
-    fn session(&mut self, writer: &mut Vec<u32>, reader: &mut Vec<u32>, layers: u64) {
+    fn follower(&mut self, shape: &Shape) -> Follower {
+        Follower::new(shape, !self.random.once_in(3))
+    }
+
+    fn session(&mut self, writer: &mut Vec<u32>, reader: &mut Vec<u32>, layers: u64, mut follower: Option<&mut Follower>) {
+        let matching = follower.as_ref().map_or(self.random.once_in(2), |f| f.matching);
         for number in 0..layers as u32 {
-            let rare = self.random.pick(&[1, 2, 8]);
-            let layer = inputs::layer(&mut self.random, writer, rare, 7);
+            let rare = self.random.pick(&[0, 1, 2, 8]);
+            let layer = inputs::layer_by_block(&mut self.random, writer, |_| rare, 7, matching);
             let markers = inputs::markers(&mut self.random);
             let Some(packet) = self.written(writer, &layer, markers, number) else { return };
             let header = packet.len() - layer.body() as usize;
             self.read_copies(reader, &packet[..header], markers);
             let src = if self.random.once_in(2) { &packet[..header] } else { &packet[..] };
-            self.read(reader, src, markers, layer.lengths.len());
+            let reading = self.read(reader, src, markers, layer.lengths.len());
+            if let Some(follower) = &mut follower {
+                let written = Written { layer: &layer, markers, number: number.wrapping_mul(40503), packet: &packet, state: writer };
+                follower.packet(&mut self.pair.counts, &written, &reading, reader);
+            }
         }
+    }
+
+    /// So many packets of small precincts in order from their starts, through up to 24 layers, some or most of them without passes.
+    pub fn chains(&mut self, packets: u64) {
+        let end = self.pair.counts.in_order + packets;
+        while self.pair.counts.in_order < end {
+            let side = self.random.pick(&[1, 2, 2, 3]);
+            let shape = inputs::shape(&mut self.random, side);
+            let (mut writer, mut reader) = (self.start(true, &shape), self.start(false, &shape));
+            let mut follower = Follower::new(&shape, true);
+            let (layers, with_passes) = (self.random.between(2, 24) as u32, self.random.pick(&[1, 2, 3, 10]));
+            for number in 0..layers {
+                let rare = if self.random.once_in(with_passes) { self.random.pick(&[1, 1, 3]) } else { 0 };
+                self.chained(&mut writer, &mut reader, &mut follower, number, rare);
+            }
+        }
+    }
+
+    /// The next packet of a chain, written into room enough, and read.
+    fn chained(&mut self, writer: &mut Vec<u32>, reader: &mut Vec<u32>, follower: &mut Follower, number: u32, rare: u64) {
+        let layer = inputs::layer_by_block(&mut self.random, writer, |_| rare, 6, true);
+        let (markers, words) = (inputs::markers(&mut self.random), writer.len());
+        let body = self.random.bytes(layer.body() as usize);
+        let room = body.len() + 16 * layer.lengths.len() + 16 * words;
+        let (refusal, packet) = self.pair.write(writer, words, &layer, &body, markers, number, room, 1);
+        assert_eq!(refusal, 0, "a packet that fits");
+        let reading = self.read(reader, &packet, markers, layer.lengths.len());
+        let written = Written { layer: &layer, markers, number, packet: &packet, state: writer };
+        follower.packet(&mut self.pair.counts, &written, &reading, reader);
     }
 
     /// Measures, then writes into outputs that are too short and at last into one that isn't.
@@ -229,13 +269,16 @@ impl Trials {
         }
     }
 
-    /// Describes a state, then measures or reads its next packet, with passes for each block.
+    /// Describes a state, then measures or reads its next packet, with passes for each block, and measures it with none.
     fn any_role(&mut self, state: &mut Vec<u32>) {
         self.pair.describe(state, 3);
         let (length, blocks) = (state.len(), inputs::blocks_in(state));
         if state[0] == 1 {
             let layer = Layer { counts: vec![1; blocks], lengths: vec![2; blocks], marks: vec![0; blocks] };
-            self.pair.measure(state, length, &layer, Markers::default(), 2);
+            let none = Layer { counts: vec![0; blocks], ..Layer::default() };
+            for layer in [layer, none] {
+                self.pair.measure(state, length, &layer, Markers::default(), 2);
+            }
         } else {
             self.read(state, &[0xed, 0xb7, 0x6d], Markers::default(), 9);
         }
@@ -423,6 +466,7 @@ impl Trials {
             shape.planes = (0..3 * 64 * 64).map(|_| self.random.between(0, 12) as u32).collect();
             let (mut writer, mut reader) = (self.start(true, &shape), self.start(false, &shape));
             for number in 0..layers {
+                let rare = if self.random.once_in(3) { 0 } else { rare };
                 let layer = inputs::layer(&mut self.random, &writer, rare, 8);
                 let markers = inputs::markers(&mut self.random);
                 let packet = self.written(&mut writer, &layer, markers, number).expect("accepted");
@@ -432,7 +476,8 @@ impl Trials {
         }
     }
 
-    /// Shapes of one band up to 64 × 64, each, or one in `step`: started, and a packet written and read back.
+    /// Shapes of one band up to 64 × 64, each, or one in `step`: started, and a packet written and read back, before half of them one
+    /// without passes.
     pub fn shapes(&mut self, step: usize) {
         for n in (0..64 * 64).step_by(step) {
             let bands = [[n % 64 + 1, n / 64 + 1, 20], [0; 3], [0; 3]];
@@ -440,28 +485,30 @@ impl Trials {
             let planes = (0..blocks).map(|_| self.random.between(0, 20) as u32).collect();
             let shape = Shape { count: 1, bands, style: self.random.pick(&[0, 1, 4]), planes };
             let (mut writer, mut reader) = (self.start(true, &shape), self.start(false, &shape));
-            let layer = inputs::layer(&mut self.random, &writer, 3, 5);
-            let packet = self.written(&mut writer, &layer, Markers::default(), 0).expect("accepted");
-            self.read(&mut reader, &packet, Markers::default(), layer.lengths.len());
+            for rare in if self.random.once_in(2) { &[3][..] } else { &[0, 3] } {
+                let layer = inputs::layer(&mut self.random, &writer, *rare, 5);
+                let packet = self.written(&mut writer, &layer, Markers::default(), 0).expect("accepted");
+                self.read(&mut reader, &packet, Markers::default(), layer.lengths.len());
+            }
         }
     }
 
     /// All layers of a small precinct that the crate has, and some more.
     pub fn first_layers(&mut self) {
-        let (mut writer, mut reader) = self.small_precinct();
+        let (mut writer, mut reader, mut follower) = self.small_precinct();
         for number in 0..1020 {
             let rare = |block| if number > 1010 { 2 } else { [3, 40, 400, 1000][block % 4] };
-            self.one_layer(&mut writer, &mut reader, number, rare, true);
+            self.one_layer(&mut writer, &mut reader, &mut follower, number, rare, true);
         }
     }
 
     /// All 65,535 layers of a small precinct, and then refusal 6; damaged copies in some layers.
     pub fn all_layers(&mut self) {
-        let (mut writer, mut reader) = self.small_precinct();
+        let (mut writer, mut reader, mut follower) = self.small_precinct();
         for number in 0..LAYERS {
             let rare = |block| if number > LAYERS - 9 { 2 } else { [20, 2_000, 20_000, 60_000][block % 4] };
             let copies = inputs::LATE_LAYERS.contains(&number) || self.random.once_in(50);
-            self.one_layer(&mut writer, &mut reader, number, rare, copies);
+            self.one_layer(&mut writer, &mut reader, &mut follower, number, rare, copies);
         }
         assert_eq!((writer[3], reader[3]), (LAYERS, LAYERS), "layers");
         let layer = inputs::layer(&mut self.random, &writer, 2, 6);
@@ -470,22 +517,32 @@ impl Trials {
     }
 
     /// Writer and reader of one band of four blocks, and perhaps others of as many.
-    fn small_precinct(&mut self) -> (Vec<u32>, Vec<u32>) {
+    fn small_precinct(&mut self) -> (Vec<u32>, Vec<u32>, Follower) {
         let mut shape = inputs::shape(&mut self.random, 2);
         shape.bands[0] = [2, 2, 9];
         shape.planes = shape.bands[..shape.count as usize].iter().flat_map(|b| vec![b[2]; (b[0] * b[1]) as usize]).collect();
-        (self.start(true, &shape), self.start(false, &shape))
+        (self.start(true, &shape), self.start(false, &shape), Follower::new(&shape, true))
     }
 
     /// The next packet of a writer, written as the round trip asks, and read back.
-    fn one_layer(&mut self, writer: &mut Vec<u32>, reader: &mut Vec<u32>, number: u32, rare: impl Fn(usize) -> u64, copies: bool) {
+    fn one_layer(
+        &mut self,
+        writer: &mut Vec<u32>,
+        reader: &mut Vec<u32>,
+        follower: &mut Follower,
+        number: u32,
+        rare: impl Fn(usize) -> u64,
+        copies: bool,
+    ) {
         let layer = inputs::layer_by_block(&mut self.random, writer, rare, 6, true);
         let markers = inputs::markers(&mut self.random);
         let packet = self.written(writer, &layer, markers, number).expect("accepted");
         if copies {
             self.read_copies(reader, &packet, markers);
         }
-        assert_eq!(self.read(reader, &packet, markers, layer.lengths.len()), 0);
+        let reading = self.read(reader, &packet, markers, layer.lengths.len());
+        let written = Written { layer: &layer, markers, number: number.wrapping_mul(40503), packet: &packet, state: writer };
+        follower.packet(&mut self.pair.counts, &written, &reading, reader);
     }
 
     /// First inclusions that cost a bit for each layer before, written, and read whole and cut.
@@ -506,7 +563,7 @@ impl Trials {
                 self.read(&mut reader.clone(), &packet[..cut], Markers::default(), 9);
             }
             self.read_copies(&reader, &packet, Markers::default());
-            assert_eq!(self.read(&mut reader, &packet, Markers::default(), 9), 0);
+            assert_eq!(self.read(&mut reader, &packet, Markers::default(), 9).number, 0);
         }
     }
 

@@ -22,6 +22,10 @@ fn the_crate_takes_part() {
     for call in [Call::Measure, Call::Write, Call::Read] {
         assert!(trials.pair.counts.with_crate[call as usize][0] > 0, "{call:?}");
     }
+    let counts = &trials.pair.counts;
+    assert!(counts.bytes_with_crate > 0, "bytes by the crate's writer from the start on");
+    assert!(counts.states_after_empty > 0, "states after packets without passes");
+    assert!(counts.empty_by_crate > 0 && counts.read_by_crate > counts.empty_by_crate, "packets read by the crate in order");
 }
 
 #[test]
@@ -33,6 +37,12 @@ fn starts() {
 fn packets() {
     let counts = trial(&[0, 9, 11, 12, 13], |t| t.sessions(200_000, 4));
     assert!(counts.mixed_bodies > 0, "several segments behind another block");
+}
+
+#[test]
+fn packets_in_order() {
+    let counts = trial(&[0], |t| t.chains(50_000));
+    assert!(counts.in_order >= 50_000 && counts.in_order_empty > 10_000, "packets without passes among others");
 }
 
 #[test]

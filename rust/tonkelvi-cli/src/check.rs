@@ -35,7 +35,7 @@ pub struct Check<'a> {
     rows: Vec<(usize, String)>,
     pub packets: u64,
     pub same: u64,
-    pub single_bits: u64,
+    pub full_headers: u64,
     pub whole: bool,
 }
 
@@ -45,7 +45,7 @@ impl<'a> Check<'a> {
         let kept = BTreeMap::new();
         let bytes = file.unwrap_or_default();
         let mut check =
-            Check { name, form, catalogue, file: bytes, kept, rows: Vec::new(), packets: 0, same: 0, single_bits: 0, whole: true };
+            Check { name, form, catalogue, file: bytes, kept, rows: Vec::new(), packets: 0, same: 0, full_headers: 0, whole: true };
         match file {
             Some(file) => rows::visit(file, &mut check),
             None => check.note(Note { tile: None, turn: None, offset: 0, message: Message::Unread }),
@@ -86,13 +86,13 @@ impl<'a> Check<'a> {
         let mut writer = Writer::new(&opened.bands, opened.style, &planes);
         for one in kept {
             let answer = match &mut writer {
-                Ok(writer) => again(writer, planes.len(), one, self.file),
+                Ok(writer) => again(writer, &opened.bands, one, self.file),
                 Err(refusal) => Err((Message::Refused(*refusal), None)),
             };
             match answer {
                 Ok(()) => self.same += 1,
                 Err((message, differs)) => {
-                    self.single_bits += u64::from(message == Message::SingleBit);
+                    self.full_headers += u64::from(message == Message::FullHeader);
                     let turn = Some((one.precinct, one.layer));
                     self.row(Note { tile: Some(tile), turn, offset: one.bytes.start, message }, differs);
                 }
@@ -141,23 +141,27 @@ fn used(seen: &Seen) -> Markers {
     }
 }
 
-/// Writes a packet of so many blocks again; the error says what is different and from which place of the file on.
-fn again(writer: &mut Writer, blocks: usize, kept: &Kept, file: &[u8]) -> Result<(), (Message, Option<usize>)> {
+/// Writes a packet again; the error says what is different and from which place of the file on.
+fn again(writer: &mut Writer, bands: &[Band], kept: &Kept, file: &[u8]) -> Result<(), (Message, Option<usize>)> {
     let bytes = &file[kept.bytes.clone()];
     let body: usize = kept.segments.iter().map(|segment| segment.bytes as usize).sum();
     let (before, body) = bytes.split_at(bytes.len() - body);
     let header = kept.packed.as_deref().unwrap_or(before);
-    if !kept.present {
-        *writer = passed_over(writer).map_err(refused)?;
-        let first = if kept.markers.sop { header.get(6) } else { header.first() };
-        return Err(if first == Some(&0) { (Message::SingleBit, None) } else { (Message::Differs, Some(kept.bytes.start)) });
-    }
+    let full = kept.present && kept.segments.is_empty();
+    let told = full.then(|| full_header(bands, writer.state()));
+    let blocks = bands.iter().map(|band| (band.across * band.down) as usize).sum();
     let (counts, lengths, marks) = contribution(blocks, &kept.segments);
     let layer = Contribution { counts: &counts, lengths: &lengths, marks: &marks };
     let mut written = writer.write(layer, body, kept.markers, kept.count).map_err(refused)?;
     written.truncate(written.len() - body.len());
+    if let Some((header, state)) = told {
+        // The writer's one byte stands where the file has more.
+        let at = if kept.markers.sop { 6 } else { 0 };
+        written.splice(at..at + 1, header);
+        *writer = Writer::from_state(state).map_err(refused)?;
+    }
     if written == header {
-        return Ok(());
+        return if full { Err((Message::FullHeader, None)) } else { Ok(()) };
     }
     let place = written.iter().zip(header).take_while(|(a, b)| a == b).count();
     Err((Message::Differs, Some(kept.bytes.start + if kept.packed.is_some() { 0 } else { place })))
@@ -167,11 +171,52 @@ fn refused(refusal: Refusal) -> (Message, Option<usize>) {
     (Message::Refused(refusal), None)
 }
 
-/// The writer at the next layer with its trees as they are, as a single 0 bit leaves them.
-fn passed_over(writer: &Writer) -> Result<Writer, Refusal> {
-    let mut state = writer.state().to_vec();
-    state[3] += 1;
-    Writer::from_state(state)
+/// The value of an inclusion tree's node that no packet has told.
+const NOT_YET_INCLUDED: u32 = 65_535;
+
+/// The header, with a first bit 1, that tells each block absent from the next packet of a writer's state (B.10), and the words after it.
+/// All other bits are 0: one for each block that was there before, and those of the inclusion trees.
+fn full_header(bands: &[Band], state: &[u32]) -> (Vec<u8>, Vec<u32>) {
+    let mut words = state.to_vec();
+    words[3] += 1;
+    let (next, mut bits, mut at) = (words[3], 1, 13);
+    for band in bands {
+        let levels = levels(band.across as usize, band.down as usize);
+        let nodes: usize = levels.iter().map(|(across, down)| across * down).sum();
+        bits += tell_absent(&levels, &mut words[at..at + 3 * nodes], next);
+        at += 6 * nodes;
+        let blocks = (band.across * band.down) as usize;
+        bits += words[at..at + 4 * blocks].chunks_exact(4).filter(|block| block[0] > 0).count();
+        at += 4 * blocks;
+    }
+    let mut header = vec![0; bits.div_ceil(8)];
+    header[0] = 0x80;
+    (header, words)
+}
+
+/// Raises the low of each node without a told value to the next layer; answers how many bits that takes. Below a node without one there is
+/// no more to say.
+fn tell_absent(levels: &[(usize, usize)], tree: &mut [u32], next: u32) -> usize {
+    let (mut bits, mut first) = (0, 0);
+    for (level, &(across, down)) in levels.iter().enumerate() {
+        let above = first + across * down;
+        for place in 0..across * down {
+            let node = 3 * (first + place);
+            if tree[node] != NOT_YET_INCLUDED {
+                continue;
+            }
+            let parent = levels.get(level + 1).map(|(wide, _)| 3 * (above + place / across / 2 * wide + place % across / 2));
+            let low = match parent {
+                Some(parent) if tree[parent] == NOT_YET_INCLUDED => next,
+                Some(parent) => tree[parent + 1].max(tree[node + 1]),
+                None => tree[node + 1],
+            };
+            bits += next.saturating_sub(low) as usize;
+            tree[node + 1] = next;
+        }
+        first = above;
+    }
+    bits
 }
 
 /// Passes of each block, then bytes and mark of each pass: a segment's bytes are all given to its last pass.
@@ -189,7 +234,7 @@ fn contribution(blocks: usize, segments: &[Segment]) -> (Vec<u32>, Vec<u32>, Vec
     (counts, lengths, marks)
 }
 
-/// The value of a tree's node that no packet has told.
+/// The value of a zero-plane tree's node that no packet has told.
 const UNTOLD: u32 = 999;
 
 /// The bit-planes of each block, from the zero-plane trees of a reader's state.
@@ -259,6 +304,59 @@ mod tests {
         assert_eq!(zero_planes(&levels, &[4, 999, 999, 2, 999, 1], 9), [4, 2, 1]);
         assert_eq!(zero_planes(&levels, &[999; 6], 9), [9, 9, 9]);
         assert!(zero_planes(&super::levels(0, 0), &[], 9).is_empty());
+    }
+
+    /// The header's bytes, and the writer after it.
+    fn full(bands: &[Band], writer: &Writer) -> (Vec<u8>, Writer) {
+        let (header, state) = full_header(bands, writer.state());
+        (header, Writer::from_state(state).unwrap())
+    }
+
+    fn write(writer: &mut Writer, counts: &[u32]) -> Vec<u8> {
+        let passes = counts.iter().sum::<u32>() as usize;
+        let layer = Contribution { counts, lengths: &vec![0; passes], marks: &vec![0; passes] };
+        writer.write(layer, &[], Markers::NONE, 0).unwrap()
+    }
+
+    #[test]
+    fn full_headers_of_one_block() {
+        let bands = [Band { across: 1, down: 1, planes: 5 }];
+        let fresh = Writer::new(&bands, 0, &[5]).unwrap();
+        let (header, mut later) = full(&bands, &fresh);
+        assert_eq!(header, [0x80]);
+        assert_eq!(write(&mut later, &[1]), [0xe0]);
+        assert_eq!(full(&bands, &later).0, [0x80]);
+        // One bit for each of 23 layers: with the first bit 24.
+        let mut late = fresh.clone();
+        for _ in 0..22 {
+            assert_eq!(write(&mut late, &[0]), [0]);
+        }
+        assert_eq!(full(&bands, &late).0, [0x80, 0, 0]);
+        write(&mut late, &[0]);
+        assert_eq!(full(&bands, &late).0, [0x80, 0, 0, 0]);
+    }
+
+    /// Two bands of 3 × 2 and 2 × 3 blocks, of which one has come, the last of the first row.
+    #[test]
+    fn full_headers_of_bands() {
+        let [a, b, c] = [(3, 2), (0, 4), (2, 3)].map(|(across, down)| Band { across, down, planes: 5 });
+        let bands = [a, b, c];
+        let mut writer = Writer::new(&bands, 0, &[5; 12]).unwrap();
+        let mut counts = [0; 12];
+        counts[2] = 1;
+        write(&mut writer, &counts);
+        for layers in 1..40usize {
+            // Three nodes are told: that of the four blocks on the left, the block below the one that came, and the second band's root.
+            let (header, mut told) = full(&bands, &writer);
+            assert_eq!(header.len(), (1 + 1 + 3 * layers).div_ceil(8));
+            assert_eq!(full(&bands, &told).0.len(), 1);
+            assert_eq!(write(&mut writer, &[0; 12]), [0]);
+            let mut direct = writer.clone();
+            (counts[0], counts[11]) = (2, 1);
+            write(&mut direct, &counts);
+            write(&mut told, &counts);
+            assert_eq!(direct.state(), told.state());
+        }
     }
 
     #[test]

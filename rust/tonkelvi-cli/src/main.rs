@@ -81,10 +81,10 @@ fn check_of(path: &Path, arguments: &Arguments, catalogue: &Catalogue) -> Answer
     let name = path.to_string_lossy();
     let file = std::fs::read(path).ok();
     let check = Check::of(&name, arguments.form, catalogue, file.as_deref());
-    let others = check.packets - check.same - check.single_bits;
+    let others = check.packets - check.same - check.full_headers;
     let line = format!(
-        "{name}: {} packets, {} written the same, {} of a single 0 bit, {others} different",
-        check.packets, check.same, check.single_bits
+        "{name}: {} packets, {} written the same, {} full headers without contributions, {others} different",
+        check.packets, check.same, check.full_headers
     );
     Answer { rows: check.text(), line: Some(line), packets: check.packets, whole: check.whole }
 }

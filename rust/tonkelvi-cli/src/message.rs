@@ -30,17 +30,17 @@ pub enum Message {
     Packed,
     /// A tile has more precincts than are read here.
     TooMany,
-    /// A packet without contributions is a single 0 bit.
-    SingleBit,
     /// The writer gives other bytes.
     Differs,
+    /// A packet without contributions has a full header, with a first bit 1.
+    FullHeader,
 }
 
 impl Message {
     /// All of them, in the order of their numbers.
     pub fn all() -> Vec<Message> {
         use Message::*;
-        let own = [Sop, Eph, Unread, Foreign, Cut, Damaged, BodyPast, Missing, Left, ZeroPlanes, Packed, TooMany, SingleBit, Differs];
+        let own = [Sop, Eph, Unread, Foreign, Cut, Damaged, BodyPast, Missing, Left, ZeroPlanes, Packed, TooMany, Differs, FullHeader];
         Refusal::ALL.iter().copied().map(Refused).chain(own).collect()
     }
 
@@ -59,8 +59,9 @@ impl Message {
             Message::ZeroPlanes => 117,
             Message::Packed => 118,
             Message::TooMany => 119,
-            Message::SingleBit => 120,
+            // 120 is not used: rows that archives keep have it for a single 0 bit.
             Message::Differs => 121,
+            Message::FullHeader => 122,
         }
     }
 
@@ -68,9 +69,9 @@ impl Message {
         Message::all().into_iter().find(|m| m.number() == number)
     }
 
-    /// Whether a file with this message is not whole: all but a missing SOP, which is allowed, and a single 0 bit.
+    /// Whether a file with this message is not whole: all but a missing SOP and a full header without contributions, which are allowed.
     pub fn is_fault(self) -> bool {
-        !matches!(self, Message::Sop | Message::SingleBit)
+        !matches!(self, Message::Sop | Message::FullHeader)
     }
 }
 

@@ -74,13 +74,19 @@ fn starts_of_segments() {
 }
 
 #[test]
-fn check_names_single_bits() {
+fn check_names_full_headers_alone() {
     let output = tonkelvi(&["check", "ffmpeg_sampled.jp2"], "");
-    assert_eq!(output.status.code(), Some(0));
-    assert_eq!(text(&output).lines().filter(|row| row.contains(",120,")).count(), 2);
+    assert_eq!((output.status.code(), text(&output).lines().count()), (Some(0), 1));
     let said = String::from_utf8(output.stderr).unwrap();
-    assert_eq!(said, "ffmpeg_sampled.jp2: 21 packets, 19 written the same, 2 of a single 0 bit, 0 different\n");
+    assert_eq!(said, "ffmpeg_sampled.jp2: 21 packets, 21 written the same, 0 full headers without contributions, 0 different\n");
     assert!(tonkelvi(&["check", "--quiet", "ffmpeg_sampled.jp2"], "").stderr.is_empty());
+    let output = tonkelvi(&["check", "--lang", "de", "openjpeg_poc.j2k"], "");
+    let rows = text(&output);
+    assert_eq!((output.status.code(), rows.lines().count()), (Some(0), 8));
+    let sentence = ",122,\"Der Codierer schrieb für dieses Paket ohne Beiträge einen vollen Kopf, dessen erstes Bit eine 1 ist.\"";
+    assert!(rows.lines().skip(1).all(|row| row.ends_with(sentence)), "{rows}");
+    let said = String::from_utf8(output.stderr).unwrap();
+    assert_eq!(said, "openjpeg_poc.j2k: 36 packets, 29 written the same, 7 full headers without contributions, 0 different\n");
 }
 
 #[test]
@@ -89,7 +95,7 @@ fn explain_and_help() {
     assert!(text(&output).starts_with("12: L'entrée se termine par un octet FF"));
     assert_eq!(output.status.code(), Some(0));
     assert!(text(&tonkelvi(&["--help"], "")).contains("tonkelvi sheet"));
-    for words in [&["explain", "99"][..], &["explain"], &["sheet"], &[], &["sheet", "--lang", "xx", "."]] {
+    for words in [&["explain", "99"][..], &["explain", "120"], &["explain"], &["sheet"], &[], &["sheet", "--lang", "xx", "."]] {
         let output = tonkelvi(words, "");
         assert_eq!((output.status.code(), output.stdout.len()), (Some(2), 0), "{words:?}");
     }

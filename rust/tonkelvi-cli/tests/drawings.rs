@@ -143,16 +143,23 @@ fn packets_have_the_lengths_that_encoders_tell() {
     }
 }
 
+/// OpenJPEG and Grok write full headers for packets without contributions, ffmpeg a single 0 bit.
 #[test]
 fn every_packet_is_written_the_same() {
     let english = Catalogue::of("en").unwrap();
+    let mut full_headers = [0; 3];
     for (path, file) in whole() {
         let check = Check::of("drawing", Form::Csv, &english, Some(&file));
         assert!(check.whole && check.packets > 0, "{path:?}");
-        assert_eq!(check.same + check.single_bits, check.packets, "{path:?}");
-        let is_ffmpeg = path.to_string_lossy().contains("ffmpeg");
-        assert_eq!(check.single_bits > 0, is_ffmpeg, "{path:?}");
+        assert_eq!(check.same + check.full_headers, check.packets, "{path:?}");
+        assert_eq!(check.text().lines().filter(|row| row.contains(",122,")).count() as u64, check.full_headers, "{path:?}");
+        let encoder = ["openjpeg", "grok", "ffmpeg"].iter().position(|name| path.to_string_lossy().contains(name)).unwrap();
+        full_headers[encoder] += check.full_headers;
+        let empty = found(&file).segments.iter().filter(|segments| segments.is_empty()).count() as u64;
+        assert_eq!(check.full_headers, if encoder == 2 { 0 } else { empty }, "{path:?}");
+        assert!(encoder != 2 || empty > 0, "{path:?}");
     }
+    assert!(full_headers[0] > 2000 && full_headers[1] > 200, "{full_headers:?}");
 }
 
 #[test]
@@ -299,7 +306,8 @@ fn packed_headers() {
             let headers: Vec<usize> = before.headers.iter().map(|header| header - 6).collect();
             assert_eq!(after.headers, headers, "{name} {in_main}");
             let check = Check::of(name, Form::Csv, &english, Some(&packed));
-            assert_eq!((check.whole, check.same + check.single_bits), (true, check.packets), "{name} {in_main}");
+            assert_eq!((check.whole, check.same + check.full_headers), (true, check.packets), "{name} {in_main}");
+            assert_eq!(check.full_headers > 0, !name.contains("ffmpeg"), "{name} {in_main}");
             for place in (0..packed.len()).step_by(37) {
                 let mut damaged = packed.clone();
                 damaged[place] ^= 0x11;

@@ -36,7 +36,7 @@ pub struct Segment {
 /// What a packet's header says.
 #[derive(Clone, PartialEq, Eq, Debug)]
 pub struct Packet {
-    /// The header's first bit is 1.
+    /// The header's first bit is 1. A writer's packet has it where a block contributes.
     pub present: bool,
     /// Bytes of header and markers: the body begins after them.
     pub taken: usize,

@@ -3,7 +3,7 @@ use crate::refusal::checked;
 use crate::{band_words, described, words, Band, Markers, Refusal, WRITER};
 
 /// What a layer brings: a pass count for each block, band by band and row by row; then, block by block, for each pass its bytes and a
-/// mark, other than 0 if the pass is terminated.
+/// mark, other than 0 if the pass is terminated. If all counts are 0 the packet is one byte, 00, and its markers.
 #[derive(Clone, Copy, Debug, Default)]
 pub struct Contribution<'a> {
     pub counts: &'a [u32],
@@ -30,6 +30,8 @@ pub struct Measured {
 /// assert_eq!(writer.write(layer, &[0; 9], Markers::NONE, 0), Err(Refusal::Body));
 /// assert_eq!(writer.write(layer, &[0; 10], Markers::NONE, 0)?[..3], [0xf9, 0x69, 0x40]);
 /// assert_eq!((writer.next_layer(), writer.blocks()), (1, 2));
+/// let nothing_new = Contribution { counts: &[0, 0], ..Contribution::default() };
+/// assert_eq!(writer.write(nothing_new, &[], Markers::NONE, 0)?, [0]);
 /// # Ok::<(), Refusal>(())
 /// ```
 #[derive(Clone, PartialEq, Eq, Debug)]

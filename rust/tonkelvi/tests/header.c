@@ -47,9 +47,10 @@ static int starts(void) {
     return 0;
 }
 
-/* A block first included in layer 65,534, with a bit for each layer before, written and read; then there is no layer left. */
+/* Layer 65,534 measured without a pass; then a block first included in it, with a bit for each layer before, written and read; then there
+ * is no layer left. */
 static int last_layer(void) {
-    const uint32_t bands[9] = {1, 1, 5, 0, 0, 0, 0, 0, 0}, planes[1] = {5}, counts[1] = {1}, lengths[1] = {5};
+    const uint32_t bands[9] = {1, 1, 5, 0, 0, 0, 0, 0, 0}, planes[1] = {5}, counts[1] = {1}, lengths[1] = {5}, none[1] = {0};
     const uint8_t marks[1] = {0}, body[5] = {1, 2, 3, 4, 5};
     struct tonkelvi_segment record;
     static uint8_t output[8198];
@@ -58,6 +59,8 @@ static int last_layer(void) {
 
     EXPECT(tonkelvi_start_writer(1, bands, 9, 0, planes, 1, state, 23) == 0 && state[13] == 65535 && state[16] == 0);
     state[3] = 65534;
+    EXPECT(tonkelvi_measure(state, 23, scratch, 23, none, 1, NULL, 0, NULL, 0, false, false, answer, 2) == 0 && answer[0] == 1);
+    EXPECT(scratch[3] == 65535 && memcmp(scratch + 4, state + 4, 19 * sizeof state[0]) == 0);
     EXPECT(tonkelvi_measure(state, 23, scratch, 23, counts, 1, lengths, 1, marks, 1, false, false, answer, 2) == 0 && answer[0] == 8193);
     EXPECT(tonkelvi_write(state, 23, scratch, 23, counts, 1, lengths, 1, marks, 1, body, 5, false, false, 0, output, 8198, answer, 1) == 0);
     EXPECT(answer[0] == 8198 && output[0] == 0x80 && output[8191] == 0x01 && output[8192] == 0x94 && output[8193] == 1);

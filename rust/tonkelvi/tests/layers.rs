@@ -70,7 +70,9 @@ fn all_of_them_there_and_back() {
         let body = layer.body();
         let packet = writer.write(layer.contribution(), &body, markers, number).unwrap();
         let read = reader.read(&packet, markers).unwrap();
-        assert_eq!((read.present, read.sop, read.eph, read.taken), (true, Mark::InOrder, Mark::InOrder, packet.len() - body.len()));
+        let present = layer.counts != [0; 4];
+        assert_eq!((read.present, read.sop, read.eph, read.taken), (present, Mark::InOrder, Mark::InOrder, packet.len() - body.len()));
+        assert_eq!(packet.len() == 1, !present && markers == Markers::NONE, "layer {number}");
         assert_eq!((read.blocks, read.segments), (layer.reports, layer.segments), "layer {number}");
         so_far.iter_mut().zip(layer.counts).for_each(|(sum, count)| *sum += count);
     }
@@ -105,12 +107,19 @@ fn unlearned(across: u32, down: u32, layer: u32) -> (Vec<u32>, Vec<u32>) {
     (writer, reader)
 }
 
+/// 65,534 packets without passes, a byte each, and then one with a pass.
 #[test]
 fn a_bit_for_each_layer_before() {
-    let (writer, reader) = unlearned(1, 1, LAYERS - 1);
-    let (mut writer, mut reader) = (Writer::from_state(writer).unwrap(), Reader::from_state(reader).unwrap());
+    let bands = [Band { across: 1, down: 1, planes: 5 }];
+    let (mut writer, mut reader) = (Writer::new(&bands, 0, &[5]).unwrap(), Reader::new(&bands, 0).unwrap());
     let absent = Contribution { counts: &[0], ..Contribution::default() };
-    assert_eq!(writer.measure(absent, Markers::NONE), Ok(Measured { header: 8192, body: 0 }));
+    for _ in 0..LAYERS - 1 {
+        assert_eq!(writer.measure(absent, Markers::NONE), Ok(Measured { header: 1, body: 0 }));
+        assert_eq!(writer.write(absent, &[], Markers::NONE, 0).unwrap(), [0]);
+        let read = reader.read(&[0], Markers::NONE).unwrap();
+        assert_eq!((read.present, read.taken, read.blocks), (false, 1, vec![Block::Absent]));
+    }
+    assert_eq!(unlearned(1, 1, LAYERS - 1), (writer.state().to_vec(), reader.state().to_vec()));
     let layer = Contribution { counts: &[1], lengths: &[5], marks: &[0] };
     assert_eq!(writer.measure(layer, Markers::NONE), Ok(Measured { header: 8193, body: 5 }));
     let packet = writer.write(layer, b"hello", Markers::NONE, 0).unwrap();

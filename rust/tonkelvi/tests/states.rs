@@ -88,7 +88,7 @@ fn layers_about_999_and_the_last() {
     for layer in [998, 999, 1000, 65_534] {
         let (writer, reader) = writer_and_reader(layer, 65_535, layer);
         let (mut writer, mut reader) = (writer.unwrap(), reader.unwrap());
-        assert_eq!(writer.clone().write(ABSENT, &[], Markers::NONE, 0).unwrap(), [0x80]);
+        assert_eq!(writer.clone().write(ABSENT, &[], Markers::NONE, 0).unwrap(), [0]);
         let packet = writer.write(FIVE_BYTES, b"hello", Markers::NONE, 0).unwrap();
         assert_eq!(packet, *b"\xe5hello");
         let read = reader.read(&packet, Markers::NONE).unwrap();
@@ -114,8 +114,17 @@ fn layer_999_is_not_not_yet() {
         });
         assert_eq!(stored, fresh);
     }
-    let (writer, reader) = writer_and_reader(999, 999, 999);
-    assert_eq!(writer.unwrap().write(ABSENT, &[], Markers::NONE, 0).unwrap(), [0xc0]);
+    // Beside a block with passes the leaf's bit is the header's last one.
+    let mut beside = Writer::new(&[Band { across: 2, down: 1, planes: 5 }], 0, &[5, 5]).unwrap();
+    let layer = Contribution { counts: &[1, 0], lengths: &[0], marks: &[0] };
+    beside.write(layer, &[], Markers::NONE, 0).unwrap();
+    for (value, header) in [(999, 0xc1), (65_535, 0xc0)] {
+        let mut state = beside.state().to_vec();
+        state[3] = 999;
+        state[16..19].copy_from_slice(&[value, 999, 0]);
+        assert_eq!(Writer::from_state(state).unwrap().write(layer, &[], Markers::NONE, 0).unwrap(), [header]);
+    }
+    let (_, reader) = writer_and_reader(999, 999, 999);
     let read = reader.unwrap().read(&[0xca], Markers::NONE).unwrap();
     assert_eq!((read.body(), read.blocks), (5, vec![Block::First { zero_planes: 0, planes: 5, passes: 1 }]));
 }

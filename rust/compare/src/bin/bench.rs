@@ -1,7 +1,8 @@
 //! bench [SECONDS [PATTERN]]: packets written and read by the engine and by crate openjp2's own functions, in one process, on the same
 //! inputs.
-//! Both sides' bytes and answers are compared before anything is timed. A row is timed in turn, the crate's side and ours, for so many
-//! seconds, and the best time of each side counts. PATTERN: only the rows whose names hold it.
+//! Both sides' bytes and answers are compared before anything is timed, but for packets without passes and the next ones after them, which
+//! the crate writes otherwise. A row is timed in turn, the crate's side and ours, for so many seconds, and the best time of each side
+//! counts. PATTERN: only the rows whose names hold it.
 #[cfg(openjp2)]
 mod timed {
     use compare::openjp2::t2::precinct::Precinct;
@@ -14,13 +15,54 @@ mod timed {
 
     type Side = fn(&mut Row) -> Duration;
 
+    /// What the layers of a row bring.
+    #[derive(Clone, Copy)]
+    struct Kind {
+        name: &'static str,
+        /// One block in so many has passes in layer 0, and in each later layer; none has with 0.
+        rare: [u64; 2],
+        /// The packets that are read are the crate's.
+        full_headers: bool,
+    }
+
+    const fn kind(name: &'static str, first: u64, later: u64, full_headers: bool) -> Kind {
+        Kind { name, rare: [first, later], full_headers }
+    }
+
+    const EVERY_SHAPE: [Kind; 3] = [kind("dense", 1, 1, false), kind("sparse", 8, 8, false), kind("empty", 0, 0, false)];
+    /// Packets without passes, of blocks that never came and of blocks that came in layer 0.
+    const WITHOUT_PASSES: [Kind; 4] = [
+        kind("empty", 0, 0, false),
+        kind("empty, full headers", 0, 0, true),
+        kind("empty after dense", 1, 0, false),
+        kind("empty after dense, full headers", 1, 0, true),
+    ];
+
+    impl Kind {
+        /// The first layer that is timed.
+        fn first(self) -> usize {
+            usize::from(self.rare[0] != self.rare[1])
+        }
+    }
+
     /// One precinct's start and its layers.
     struct Job {
         planes: Vec<u32>,
         layers: Vec<Layer>,
         bodies: Vec<Vec<u8>>,
-        /// The packets, as the engine writes them.
+        /// The packets that are read.
         packets: Vec<Vec<u8>>,
+    }
+
+    impl Job {
+        /// Whether other writers give the same packet for this layer: it has passes, and so has the one before.
+        fn is_shared(&self, layer: usize) -> bool {
+            self.layers[layer.saturating_sub(1)..=layer].iter().all(|l| !l.without_passes())
+        }
+
+        fn header(&self, layer: usize) -> usize {
+            self.packets[layer].len() - self.bodies[layer].len()
+        }
     }
 
     /// Lists lent to the calls, made and touched once.
@@ -38,6 +80,7 @@ mod timed {
         count: u32,
         bands: Bands,
         blocks: usize,
+        kind: Kind,
         jobs: Vec<Job>,
         lent: Lent,
     }
@@ -56,15 +99,15 @@ mod timed {
 
     impl Row {
         /// Some 4,096 blocks a round, but no more precincts than a cache holds of the crate's structs.
-        fn new(side: u32, count: u32, rare: u64) -> Row {
+        fn new(side: u32, count: u32, kind: Kind) -> Row {
             let mut random = Random::new(7);
             let mut bands = Bands::default();
             bands[..count as usize].fill([side, side, 12]);
             let blocks = (count * side * side) as usize;
-            let mut row = Row { count, bands, blocks, jobs: Vec::new(), lent: Lent::default() };
+            let mut row = Row { count, bands, blocks, kind, jobs: Vec::new(), lent: Lent::default() };
             for _ in 0..(4096 / blocks).clamp(1, 512) {
                 let planes = (0..blocks).map(|_| random.between(4, 12) as u32).collect();
-                let layers: Vec<Layer> = (0..LAYERS).map(|_| layer(&mut random, blocks, rare)).collect();
+                let layers: Vec<Layer> = (0..LAYERS).map(|i| layer(&mut random, blocks, kind.rare[i.min(1)])).collect();
                 let bodies = layers.iter().map(|l| random.bytes(l.body() as usize)).collect();
                 row.jobs.push(Job { planes, layers, bodies, packets: Vec::new() });
             }
@@ -94,6 +137,15 @@ mod timed {
             state
         }
 
+        /// The time since `begin`, where this layer, or with none the start, is timed.
+        fn timed(kind: Kind, layer: Option<usize>, begin: Instant) -> Duration {
+            match layer {
+                Some(layer) if layer >= kind.first() => begin.elapsed(),
+                None if kind.first() == 0 => begin.elapsed(),
+                _ => Duration::ZERO,
+            }
+        }
+
         fn room(&self) -> usize {
             self.jobs.iter().flat_map(|job| &job.bodies).map(|b| b.len() + 16 * self.blocks + 64).max().unwrap()
         }
@@ -108,7 +160,7 @@ mod timed {
             for (job, state) in self.jobs.iter().zip(states.iter_mut()) {
                 words::start_writer(self.count, self.bands.as_flattened(), 0, &job.planes, state);
             }
-            total += begin.elapsed();
+            total += Row::timed(self.kind, None, begin);
             for i in 0..LAYERS {
                 let begin = Instant::now();
                 for (job, state) in self.jobs.iter_mut().zip(states.iter_mut()) {
@@ -119,7 +171,7 @@ mod timed {
                         job.packets.push(output[..answer[0] as usize].to_vec());
                     }
                 }
-                total += begin.elapsed();
+                total += Row::timed(self.kind, Some(i), begin);
             }
             total
         }
@@ -134,13 +186,19 @@ mod timed {
                     precinct.give(counts, lengths, marks, Some(&job.bodies[i]));
                 }
                 let begin = Instant::now();
-                for (job, precinct) in self.jobs.iter().zip(&mut precincts) {
+                for (job, precinct) in self.jobs.iter_mut().zip(&mut precincts) {
                     let bytes = precinct.write(false, false, 0, output);
                     if check {
-                        assert_eq!(output[..bytes.unwrap()], job.packets[i]);
+                        let packet = &output[..bytes.unwrap()];
+                        if job.is_shared(i) {
+                            assert_eq!(packet, job.packets[i]);
+                        }
+                        if self.kind.full_headers {
+                            job.packets[i] = packet.to_vec();
+                        }
                     }
                 }
-                total += begin.elapsed();
+                total += Row::timed(self.kind, Some(i), begin);
             }
             total
         }
@@ -155,16 +213,16 @@ mod timed {
             for state in states.iter_mut() {
                 words::start_reader(self.count, self.bands.as_flattened(), 0, &[], state);
             }
-            total += begin.elapsed();
+            total += Row::timed(self.kind, None, begin);
             for i in 0..LAYERS {
                 let begin = Instant::now();
                 for (job, state) in self.jobs.iter().zip(states.iter_mut()) {
                     let number = words::read(state, scratch, &job.packets[i], false, false, reports, work, records, &mut answer);
                     if check {
-                        assert_eq!((number, answer[1] as usize), (0, job.packets[i].len() - job.bodies[i].len()));
+                        assert_eq!((number, answer[1] as usize), (0, job.header(i)));
                     }
                 }
-                total += begin.elapsed();
+                total += Row::timed(self.kind, Some(i), begin);
             }
             total
         }
@@ -178,13 +236,14 @@ mod timed {
                 for (job, precinct) in self.jobs.iter().zip(&mut precincts) {
                     let read = precinct.read_header(false, false, &job.packets[i]);
                     if settling {
-                        precinct.settle(true);
+                        precinct.settle(matches!(read, Ok((true, _))));
                     }
                     if check {
-                        assert_eq!(read.unwrap(), (true, job.packets[i].len() - job.bodies[i].len()));
+                        let present = self.kind.full_headers || !job.layers[i].without_passes();
+                        assert_eq!(read.unwrap(), (present, job.header(i)));
                     }
                 }
-                total += begin.elapsed();
+                total += Row::timed(self.kind, Some(i), begin);
                 if !settling {
                     precincts.iter_mut().for_each(|p| p.settle(true));
                 }
@@ -209,11 +268,11 @@ mod timed {
                 let begin = Instant::now();
                 for (job, precinct) in self.jobs.iter().zip(&mut precincts) {
                     let bytes = precinct.write(output);
-                    if check {
+                    if check && job.is_shared(i) {
                         assert_eq!(output[..bytes], job.packets[i]);
                     }
                 }
-                total += begin.elapsed();
+                total += Row::timed(self.kind, Some(i), begin);
             }
             total
         }
@@ -230,10 +289,10 @@ mod timed {
                     let taken = precinct.read(&job.packets[i]);
                     precinct.settle();
                     if check {
-                        assert_eq!(taken, job.packets[i].len() - job.bodies[i].len());
+                        assert_eq!(taken, job.header(i));
                     }
                 }
-                total += begin.elapsed();
+                total += Row::timed(self.kind, Some(i), begin);
             }
             total
         }
@@ -266,18 +325,18 @@ mod timed {
                     *least = (*least).min(side(self));
                 }
             }
-            let packets = (self.jobs.len() * LAYERS) as f64;
+            let packets = (self.jobs.len() * (LAYERS - self.kind.first())) as f64;
             best.into_iter().map(|d| d.as_nanos() as f64 / packets).collect()
         }
     }
 
     /// A row of the table: `times` has the crate's, ours, OpenJPEG's and the crate's header alone.
-    fn print(what: &str, name: &str, density: &str, blocks: usize, times: &[f64]) {
+    fn print(what: &str, name: &str, layers: &str, blocks: usize, times: &[f64]) {
         let ours = times[1];
         let thousands = |ns: f64| format!("{:.*}", if ns > 1e5 { 1 } else { 0 }, 1e6 / ns);
         let ratio = |i: usize| times.get(i).filter(|t| **t < 1e12).map_or("-".to_string(), |t| format!("{:.2}", t / ours));
         println!(
-            "| {what} | {name} | {density} | {:.0} | {:.0} | {:.1} | {:.1} | {} | {} | {} | {} | {} |",
+            "| {what} | {name} | {layers} | {:.0} | {:.0} | {:.1} | {:.1} | {} | {} | {} | {} | {} |",
             times[0],
             ours,
             times[0] / blocks as f64,
@@ -297,26 +356,32 @@ mod timed {
         );
         println!("|---|---|---|---|---|---|---|---|---|---|---|---|");
         for (side, count, name) in [(1, 1, "1 × 1"), (4, 1, "4 × 4"), (16, 1, "16 × 16"), (64, 3, "64 × 64 × 3")] {
-            for (rare, density) in [(1, "dense"), (8, "sparse"), (0, "empty")] {
-                let wanted = |call: &str| format!("{call} {name} {density}").contains(pattern);
-                if !wanted("write") && !wanted("read") {
-                    continue;
-                }
-                let mut row = Row::new(side, count, rare);
-                row.compare();
-                let blocks = row.blocks;
-                if wanted("write") {
-                    let sides: Vec<Side> = vec![|r| r.crate_writes(false), |r| r.engine_writes(false), |r| r.openjpeg_writes(false)];
-                    print("write", name, density, blocks, &row.best(time, &sides));
-                }
-                if wanted("read") {
-                    let sides: Vec<Side> =
-                        vec![|r| r.crate_reads(true, false), |r| r.engine_reads(false), |r| r.openjpeg_reads(false), |r| {
-                            r.crate_reads(false, false)
-                        }];
-                    print("read", name, density, blocks, &row.best(time, &sides));
-                }
-            }
+            EVERY_SHAPE.iter().for_each(|kind| rows(time, pattern, side, count, name, *kind));
+        }
+        for (side, name) in [(1, "1 × 1"), (8, "8 × 8"), (64, "64 × 64")] {
+            let timed = |kind: &&Kind| side != 1 || kind.name != "empty";
+            WITHOUT_PASSES.iter().filter(timed).for_each(|kind| rows(time, pattern, side, 1, name, *kind));
+        }
+    }
+
+    /// Times the rows of a shape and kind that the pattern asks for.
+    fn rows(time: Duration, pattern: &str, side: u32, count: u32, name: &str, kind: Kind) {
+        let wanted = |call: &str| format!("{call} {name} {}", kind.name).contains(pattern) && (call == "read" || !kind.full_headers);
+        if !wanted("write") && !wanted("read") {
+            return;
+        }
+        let mut row = Row::new(side, count, kind);
+        row.compare();
+        let blocks = row.blocks;
+        if wanted("write") {
+            let sides: Vec<Side> = vec![|r| r.crate_writes(false), |r| r.engine_writes(false), |r| r.openjpeg_writes(false)];
+            print("write", name, kind.name, blocks, &row.best(time, &sides));
+        }
+        if wanted("read") {
+            let sides: Vec<Side> = vec![|r| r.crate_reads(true, false), |r| r.engine_reads(false), |r| r.openjpeg_reads(false), |r| {
+                r.crate_reads(false, false)
+            }];
+            print("read", name, kind.name, blocks, &row.best(time, &sides));
         }
     }
 }

@@ -34,6 +34,7 @@ fn main() {
     part("states", &|t| t.states(share(20)));
     part("late states", &|t| t.late_states(share(8)));
     part("packets", &|t| t.sessions(share(18), 4));
+    part("packets in order", &|t| t.chains(share(65)));
     part("late packets", &|t| t.late_sessions(share(8), 4));
     part("larger packets", &|t| t.sessions(share(2), 12));
     part("packets of one block", &|t| {

@@ -48,6 +48,14 @@ pub struct Told {
     pub starts: Vec<u64>,
 }
 
+impl Told {
+    /// Each segment with its start.
+    pub fn records(&self) -> Vec<model::Record> {
+        let numbers = self.records.chunks_exact(4).map(|four| [four[0], four[1], four[2], four[3]]);
+        numbers.zip(&self.starts).map(|(numbers, start)| model::Record { numbers, start: *start }).collect()
+    }
+}
+
 /// Why the crate could not read a packet.
 #[derive(PartialEq, Debug)]
 pub enum Failed {
