@@ -3,7 +3,7 @@
 //! Both sides' bytes and answers are compared before anything is timed, but for packets without passes and the next ones after them, which
 //! the crate writes otherwise. A row is timed in turn, the crate's side and ours, for so many seconds, and the best time of each side
 //! counts. PATTERN: only the rows whose names hold it.
-//! Without passes the engine still looks at every word of the state for its range and copies it to the scratch list, which the crate has not.
+//! Without passes the engine still looks at every word of the state for its range and copies it to scratch; the crate does neither.
 #[cfg(openjp2)]
 mod timed {
     use compare::openjp2::t2::precinct::Precinct;
