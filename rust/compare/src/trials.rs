@@ -465,18 +465,15 @@ impl Trials {
             let mut shape = Shape { count: 3, bands: [[64, 64, 12]; 3], style: self.random.pick(&[0, 1, 4]), planes: Vec::new() };
             shape.planes = (0..3 * 64 * 64).map(|_| self.random.between(0, 12) as u32).collect();
             let (mut writer, mut reader) = (self.start(true, &shape), self.start(false, &shape));
+            let mut follower = Follower::new(&shape, true);
             for number in 0..layers {
                 let rare = if self.random.once_in(3) { 0 } else { rare };
-                let layer = inputs::layer(&mut self.random, &writer, rare, 8);
-                let markers = inputs::markers(&mut self.random);
-                let packet = self.written(&mut writer, &layer, markers, number).expect("accepted");
-                self.read_copies(&reader, &packet, markers);
-                self.read(&mut reader, &packet, markers, layer.lengths.len());
+                self.one_layer(&mut writer, &mut reader, &mut follower, number, |_| rare, true);
             }
         }
     }
 
-    /// Shapes of one band up to 64 × 64, each, or one in `step`: started, and a packet written and read back, before half of them one
+    /// Shapes of one band up to 64 × 64, each, or one in `step`: started, and two packets written and read back, in half of them the first
     /// without passes.
     pub fn shapes(&mut self, step: usize) {
         for n in (0..64 * 64).step_by(step) {
@@ -485,10 +482,10 @@ impl Trials {
             let planes = (0..blocks).map(|_| self.random.between(0, 20) as u32).collect();
             let shape = Shape { count: 1, bands, style: self.random.pick(&[0, 1, 4]), planes };
             let (mut writer, mut reader) = (self.start(true, &shape), self.start(false, &shape));
-            for rare in if self.random.once_in(2) { &[3][..] } else { &[0, 3] } {
-                let layer = inputs::layer(&mut self.random, &writer, *rare, 5);
-                let packet = self.written(&mut writer, &layer, Markers::default(), 0).expect("accepted");
-                self.read(&mut reader, &packet, Markers::default(), layer.lengths.len());
+            let mut follower = Follower::new(&shape, true);
+            let first = self.random.pick(&[0, 3]);
+            for (number, rare) in [(0, first), (1, 3)] {
+                self.one_layer(&mut writer, &mut reader, &mut follower, number, |_| rare, false);
             }
         }
     }
@@ -524,7 +521,7 @@ impl Trials {
         (self.start(true, &shape), self.start(false, &shape), Follower::new(&shape, true))
     }
 
-    /// The next packet of a writer, written as the round trip asks, and read back.
+    /// The next packet of a writer, written as the round trip asks, and read back, with copies damaged or without.
     fn one_layer(
         &mut self,
         writer: &mut Vec<u32>,

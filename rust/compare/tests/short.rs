@@ -106,7 +106,7 @@ fn long_bodies() {
 
 #[test]
 fn largest() {
-    trial(&[0, 11], |t| t.largest(2));
+    trial(&[0, 11], |t| t.largest(3));
 }
 
 #[test]
