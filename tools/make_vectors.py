@@ -435,6 +435,7 @@ def absent_list(oracle):
     some_layers(calls, oracle, WIDE, [none, [0, 0, 1, 0, 0, 0, 0], none, none, [1, 0, 2, 0, 0, 3, 0], none, [1] * 7], None, 0, 1)
     some_layers(calls, oracle, WIDE, [[1, 0, 0, 0, 0, 0, 1], none, [0, 0, 0, 1, 0, 0, 0], none, none, none, [0] * 6 + [2]], None, 1, 0)
     some_layers(calls, oracle, TWO, [[0, 0], [0, 1]] * 4 + [[1, 1]], None, 1, 1)
+    drawn_runs(calls, oracle)
     # what other encoders write for J, with a first bit 1
     reader = Asked(calls, oracle)
     reader.start(2, ONE, 0, [])
@@ -458,6 +459,20 @@ def some_layers(calls, oracle, bands, layers, fronts, sop, eph, lengths=None):
     w.start(2, bands, 0, [])
     for front in written:
         w.read(front, sop, eph)
+
+
+def drawn_runs(calls, oracle):
+    """Two runs that were drawn once: from a start, and from loaded words."""
+    w = Asked(calls, oracle)
+    w.start(1, [(1, 4, 2), (0, 0, 29), (2, 1, 1)], 1, [0, 1, 0, 1, 1, 0])
+    w.write([0] * 6, [], [], sop=1, eph=1, packet=1593767067)
+    w.write([1, 2, 0, 1, 0, 0], [0, 0, 0, 3], [0, 0, 1, 1], room=0, sop=1, packet=256)
+    w.write([2, 1, 2, 1, 3, 1], [5, 0, 8, 1, 7, 7, 7, 2, 0, 15], [0] * 10)
+    w.write([0, 8, 2, 3, 0, 0], [0] * 8 + [8, 0, 4, 0, 8], [0] * 7 + [1] + [0] * 5, sop=1, eph=1, packet=1)
+    w.load([1, 1, 25, 1, 1, 2, 373] + [0] * 6 + [1, 2, 1, 1, 0, 0, 1, 1, 0, 0, 2, 1, 0, 4, 1, 2, 2, 1] + [0] * 8)
+    w.write([0, 0], [], [], room=10, sop=1, packet=65537)
+    w.write([0, 1], [255], [0], eph=1, packet=2981518939)
+    w.write([5, 0], [0, 0, 0, 0, 15], [0] * 5, sop=1, eph=1, packet=65535)
 
 
 def absent_order(calls, oracle):
