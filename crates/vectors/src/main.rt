@@ -1,6 +1,6 @@
 // Runs lists of packet calls and compares every answer. Its arguments name the lists, files of data/ that tools/make_vectors.py wrote: most
-// answers are those of crate openjp2 0.6.1's own code; those of refusals that the crate has not, and of layers from 999 on, are by the
-// scope (docs/SCOPE.md) alone.
+// answers are those of crate openjp2 0.6.1's own code; those of refusals that the crate has not, of layers from 999 on, and of packets
+// written without passes are by the scope (docs/SCOPE.md) alone.
 ghost use mathlib.Core.Path.{_≡_};
 ghost use Prim.Native.Nat.{_≤_};
 ghost use lib.ListN.{length};
