@@ -1,5 +1,5 @@
 -- What a packet says that none of 5, 6, 3, 7, 8 and 9 turns away: of its lists, its counts, and its blocks one by one.
-use mathlib.Core.Path.{_≡_}
+use mathlib.Core.Path.{_≡_, _∙_}
 use mathlib.Core.Logic.{_≢_}
 use mathlib.Core.Bool.{Bool, true, false, not}
 use mathlib.Core.List.{List, [], _∷_}
@@ -7,14 +7,15 @@ use Prim.Native.Nat.{ℕ, zero, suc, _*_, _≤_}
 use native.Mathlib.Omega.{arith}
 use lib.ListN.{length, getD, take, drop}
 use lib.Dec.{ltb, eqb}
-use borrow.Author.Tests.{not-false, eqb-false, ltb-false}
+use borrow.Author.Tests.{not-false, eqb-false, lt-ltb, le-ltb, ltb-false}
 use Rattle.t800.specs.Base.{any, sum}
 use Rattle.t800.specs.Segments.{segmentsOf}
 use Rattle.t800.specs.State.{Block, notYetIncluded, writer, layer, bands, blocks}
 use Rattle.t800.specs.Ranges.{validState}
-use Rattle.t800.specs.WriteHeader.{Contribution, lengthBitsBefore, segmentTooLong, fieldTooWide}
+use Rattle.t800.specs.WriteHeader.{Contribution, lengthBitsBefore, contributes, segmentTooLong, fieldTooWide}
 use Rattle.t800.specs.Packet.{wrongLists}
 use Rattle.t800_laws.proofs.Laws.Lists.{lists-right}
+use Rattle.t800_laws.proofs.Laws.Contributes.{contributes-by-sum}
 use Rattle.t800_laws.proofs.Laws.Tests.{or-left, or-right, not-refused}
 use Rattle.t2_segments.specs.Segments.{anyTooLong, blockTooWide}
 use Rattle.t2_refusal_laws.specs.Refusals.{contributionRefusal, measureRefusalFor}
@@ -49,6 +50,13 @@ pub record NotRefused (ws : List ℕ) (n : ℕ) (p : Contribution) : Type 0 wher
   pub passes-are : sum (p .counts) ≤ 2015232
   pub none-long : segmentTooLong (p .counts) (p .lengths) (p .marks) ≡ false
   pub none-wide : fieldTooWide ws (blocks (bands ws)) (p .counts) (p .lengths) (p .marks) ≡ false
+
+-- as many lengths as passes tell whether there are passes
+pub no-passes : (ws : List ℕ) (n : ℕ) (p : Contribution) → NotRefused ws n p → length (p .lengths) ≡ 0 → contributes p ≡ false
+no-passes ws n p r e = contributes-by-sum p ∙ le-ltb 0 (sum (p .counts)) (omega (arith, r .lengths-are))
+
+pub some-passes : (ws : List ℕ) (n : ℕ) (p : Contribution) → NotRefused ws n p → length (p .lengths) ≢ 0 → contributes p ≡ true
+some-passes ws n p r e = contributes-by-sum p ∙ lt-ltb 0 (sum (p .counts)) (omega (arith, r .lengths-are))
 
 pub not-refused-for : (ws : List ℕ) (n : ℕ) (p : Contribution) → measureRefusalFor ws n p ≡ 0 → NotRefused ws n p
 unfolding measureRefusalFor contributionRefusal

@@ -5,18 +5,22 @@ use mathlib.Core.Bool.{Bool, true, false, cond, not}
 use mathlib.Core.List.{List, _++_}
 use Prim.Native.Nat.{ℕ, _+_, _≤_}
 use native.Mathlib.Omega.{arith}
-use lib.ListN.{length, drop, replicate, length-append}
-use lib.Seq.{sets, sets-eq}
+use lib.ListN.{length, getD, set, drop, replicate, length-append}
+use lib.Seq.{sets, sets-eq, getD-set-same}
 use lib.Dec.{eqb, ltb, leb}
 use borrow.Author.Tests.{eq-eqb, ne-eqb, lt-ltb, le-ltb, leb-true, leb-false, not-true, not-false}
 use Rattle.t800.specs.declared.Markers.{Markers}
 use Rattle.t800.specs.Base.{sum, overwrite, wiped}
-use Rattle.t800.specs.WriteHeader.{Contribution, codeHeader}
+use Rattle.t800.specs.TagTree.{Coded}
+use Rattle.t800.specs.State.{layer}
+use Rattle.t800.specs.WriteHeader.{Contribution, codeAbsent, codeHeader}
 use Rattle.t800.specs.Packet.{measureChecks, measureRefusal, measureRefusalWith, front, packet, packetChecks, writeRefusal}
 use Rattle.t800.specs.Packet.{writeRefusalWith, WriteResult, write, writeWith}
 use Rattle.t800_laws.proofs.Laws.Tests.{if-true, if-false, if-ne}
 use Rattle.t800_laws.proofs.Laws.Checks.{not-first, first-later, first-earlier}
+use Rattle.t800_laws.proofs.Laws.Contributes.{absent-header}
 use Rattle.t2_refusal_laws.specs.Refusals.{measureRefusalFor}
+use Rattle.t2_refusal_laws.proofs.Laws.NotRefused.{NotRefused, no-passes}
 use Rattle.t2_refusals.proofs.Laws.ScratchLength.{refusal-by-scratch-length}
 use Rattle.t2_write_header.specs.Header.{HeaderCoded}
 use Rattle.t2_write_packet.specs.Front.{BytesPut, bytesPut, putBytes, putFront}
@@ -24,6 +28,21 @@ use Rattle.t2_write_packet.proofs.Laws.Front.{put-append}
 
 pub room-left : (t : Bool) (m n : ℕ) → t ≡ leb m n → not t ≡ false → m ≤ n
 room-left t m n c k = leb-true m n (sym c ∙ not-false t k)
+
+-- ---- the state becomes the scratch
+
+pub layer-settled : (ws vs : List ℕ) → 13 ≤ length ws → vs ≡ set ws 3 (layer ws + 1) → set ws 3 (getD vs 3 0) ≡ vs
+layer-settled ws vs l e =
+    ap (set ws 3) (ap (λ (xs : List ℕ). getD xs 3 0) e ∙ getD-set-same ws 3 (layer ws + 1) 0 (omega arith)) ∙ sym e
+
+-- without passes the next layer is the only word that a header changes
+pub layer-alone : (ws : List ℕ) (n : ℕ) (p : Contribution) (m : Markers) (number : ℕ) (bytes : List ℕ) (h : HeaderCoded) → NotRefused ws n p
+    → h ≡ putFront p ws m number bytes → length (p .lengths) ≡ 0 → h .words ≡ set ws 3 (layer ws + 1)
+unfolding putFront codeAbsent
+layer-alone ws n p m number bytes h r f e =
+    ap (λ (k : HeaderCoded). k .words) f ∙ ap (λ (c : Coded). c .words) (absent-header p ws (no-passes ws n p r e))
+
+-- ---- refusals
 
 -- what is no refusal of writing alone
 measure-not-11 : (ws scratch : List ℕ) (p : Contribution) → measureRefusal ws scratch p ≢ 11

@@ -6,9 +6,10 @@ use native.Mathlib.Omega.{arith}
 use lib.ListN.{length}
 use borrow.Author.Needs.{needs}
 use Rattle.t800.specs.WriteHeader.{contribution}
+use Rattle.t2_refusal_laws.proofs.Laws.WriterState.{first-words}
 use Rattle.t2_write_packet.specs.Front.{putFront}
 use Rattle.t2_measure.proofs.Laws.Accepted.{accepted, as-long, copy-accepted}
-use Rattle.t2_write.proofs.Laws.Written.{room-left, write-refused, write-body-refused, write-no-space, write-done}
+use Rattle.t2_write.proofs.Laws.Written.{layer-alone, room-left, write-refused, write-body-refused, write-no-space, write-done}
 use Rattle.t2_write.proofs.write.Statement.{statement}
 use Rattle.t2_write.proofs.write.Tie as tie
 
@@ -82,20 +83,25 @@ put-body-requires : tie.Need-put-body-requires
 put-body-requires c κs =
     room-left _ _ _ (c .before .before .has-room .ensures) (c .before .if3 .left)
 
-copy-requires-2 : tie.Need-copy-requires-2
-copy-requires-2 c κs =
+settle-requires : tie.Need-settle-requires
+settle-requires c κs =
     let a = c .before .before .before .before .before .before .before .before .before .before .before .before .before .before
     .before .before .before .before .before .before .before .before .before .before .before .before .before .before .before .before
     .before .before .args in
     let p = contribution (a .counts .now) (a .lengths .now) (a .marks .now) in
     let g = c .before .before .before .before .before .before .before .before .before .before .before .before .before .before
     .before .before .before .before .before .before .before .before .before .measure-refusal in
-    c .before .before .before .before .before .before .before .before .before .before .before .before .put-front .kept .0
-    ∙ c .before .before .before .before .before .before .before .before .before .before .before .before .before .before .before
-    .before .before .copy .kept .1 .0
-    ∙ sym (as-long (a .state .now) (a .scratch .now) p (g .result) (g .ensures)
-    (c .before .before .before .before .before .before .before .before .before .before .before .before .before .before .before
-    .before .before .before .before .before .before .before .if1 .left))
+    let z = c .before .before .before .before .before .before .before .before .before .before .before .before .before .before .before
+    .before .before .before .before .before .before .before .if1 .left in
+    let k = c .before .before .before .before .before .before .before .before .before .before .before .before .put-front in
+    let copied = c .before .before .before .before .before .before .before .before .before .before .before .before .before .before .before
+    .before .before .copy in
+    let r = accepted (a .state .now) (a .scratch .now) p (g .result) (g .ensures) z in
+    let f = k .ensures ∙ ap (λ (ws : List ℕ). putFront p ws (a .markers) (a .number) (a .output .now)) (copied .ensures) in (
+      first-words (a .state .now) _ (r .valid),
+      k .kept .0 ∙ copied .kept .1 .0 ∙ sym (as-long (a .state .now) (a .scratch .now) p (g .result) (g .ensures) z),
+      λ e. layer-alone (a .state .now) _ p (a .markers) (a .number) (a .output .now) _ r f e,
+    )
 
 returns-4 : tie.Need-returns-4
 returns-4 c =
@@ -120,7 +126,7 @@ returns-4 c =
     .before .before .before .before .before .before .before .before .before .total .ensures)
     (c .before .before .before .before .before .before .before .before .before .before .before .before .before .before .before
     .before .before .before .before .before .before .before .before .if2 .left) _ f _ _ _ (omega (arith, room, k .kept .1 .0))
-    (c .before .before .before .before .before .before .before .put-body .ensures) (c .before .before .copy2 .ensures) refl
+    (c .before .before .before .before .before .before .before .put-body .ensures) (c .before .before .settle .ensures) refl
 
 pub write-spec : {M : Type 1} → statement M
 write-spec =
@@ -142,7 +148,7 @@ write-spec =
     (λ c. search needs)
     returns-3
     put-body-requires
-    copy-requires-2
+    settle-requires
     (λ c. search needs)
     (λ c. search needs)
     (λ c. search needs)

@@ -6,15 +6,13 @@ use Prim.Native.Nat.{ℕ, _+_, _*_, _≤_, _<_}
 use native.Mathlib.Omega.{arith}
 use lib.ListN.{length, set}
 use lib.Seq.{sets}
-use borrow.Author.Tests.{lt-ltb, le-ltb}
 use Rattle.t800.specs.declared.Band.{Band}
-use Rattle.t800.specs.Base.{sum}
 use Rattle.t800.specs.Bits.{pack}
 use Rattle.t800.specs.State.{writer, layer, bands, blocks, stateLength, notYetIncluded}
 use Rattle.t800.specs.TagTree.{Coded}
 use Rattle.t800.specs.WriteHeader.{Contribution, setNewBlocks, contributes, codePresent, codeAbsent, codeHeader}
 use Rattle.t800_laws.proofs.Laws.Tests.{either}
-use Rattle.t800_laws.proofs.Laws.Contributes.{contributes-by-sum, present-header, absent-header, single-bit-packed}
+use Rattle.t800_laws.proofs.Laws.Contributes.{present-header, absent-header, single-bit-packed}
 use Rattle.t800_laws.proofs.Laws.HeaderBits.{bits-blocks}
 use Rattle.t800_laws.proofs.Laws.Layout.{layoutOf, blocks-placed}
 use Rattle.t800_laws.proofs.Laws.Pack.{AreBits}
@@ -24,7 +22,7 @@ use Rattle.bio_bytes.specs.Writing.{Output, output, emptyAt, lastPlace, putBit,
 use Rattle.bio_write.proofs.Laws.Packed.{flushed-is-packed, packed-place}
 use Rattle.tcd_laws.proofs.Laws.ValidStates.{valid-state, block-known, block-bounds}
 use Rattle.tgt_write.specs.Coding.{LeafCoded, putCoded}
-use Rattle.t2_refusal_laws.proofs.Laws.NotRefused.{NotRefused}
+use Rattle.t2_refusal_laws.proofs.Laws.NotRefused.{NotRefused, no-passes, some-passes}
 use Rattle.tcd_laws.proofs.Laws.ValidStates.{blocks-of-valid}
 use Rattle.t2_write_header.specs.Header.{headerCoded, putAt, putHeader}
 
@@ -64,20 +62,17 @@ module _ (ws : List ℕ) (n : ℕ) (p : Contribution) (r : NotRefused ws n p) wh
         (setNewBlocks (layer ws) (blocks (bands ws)) (p .counts) ws),
   )
 
-  -- passes have lengths, so that there are none where no length is
   pub without-passes : length (p .lengths) ≡ 0 → (start : ℕ) (bytes : List ℕ) → putAt (codeAbsent ws) start bytes
       ≡ putHeader p ws start bytes
   unfolding putHeader
   without-passes e start bytes =
-      ap (λ (c : Coded). putAt c start bytes)
-      (sym (absent-header p ws (contributes-by-sum p ∙ le-ltb 0 (sum (p .counts)) (omega (arith, r .lengths-are)))))
+      ap (λ (c : Coded). putAt c start bytes) (sym (absent-header p ws (no-passes ws n p r e)))
 
   pub with-passes : length (p .lengths) ≢ 0 → (start : ℕ) (bytes : List ℕ) → putAt (codePresent p ws) start bytes
       ≡ putHeader p ws start bytes
   unfolding putHeader
   with-passes e start bytes =
-      ap (λ (c : Coded). putAt c start bytes)
-      (sym (present-header p ws (contributes-by-sum p ∙ lt-ltb 0 (sum (p .counts)) (omega (arith, r .lengths-are)))))
+      ap (λ (c : Coded). putAt c start bytes) (sym (present-header p ws (some-passes ws n p r e)))
 
   -- the first bit, the blocks, the last byte, and the next layer
   pub header-is : (start : ℕ) (bytes : List ℕ) (bs : List Band) (o e : Output) (x : LeafCoded) (vs : List ℕ) → start ≤ 6
