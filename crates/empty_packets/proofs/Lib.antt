@@ -1,3 +1,4 @@
+pub mod BlockParts
 pub mod Settled
 pub mod NewBlocks
 pub mod Between
