@@ -29,8 +29,8 @@ use Rattle.empty_packets.specs.LaterPackets.{Accepted, stateBehind, stat
 use Rattle.empty_packets.proofs.Settled.{settled, Tidied, path-settled, block-tidied}
 use Rattle.empty_packets.proofs.BlockParts.{new-inclusion, old-inclusion}
 use Rattle.empty_packets.proofs.NewBlocks.{AllOnNew, on-new-after, on-new-before, blocks-keep-passes}
-use Rattle.empty_packets.proofs.NewBlocks.{coding-keeps-passes, setting-keeps-passes}
-use Rattle.empty_packets.proofs.Between.{layer-set, layer-off-passes, new-blocks-tidied, Reached, reached-started, absent-is}
+use Rattle.empty_packets.proofs.NewBlocks.{coding-keeps-passes}
+use Rattle.empty_packets.proofs.Between.{setting-keeps-passes, layer-set, layer-off-passes, new-blocks-tidied, Reached, reached-started, absent-is}
 use Rattle.empty_packets.proofs.Between.{present-is, reached-present, reached-header, accepted-here}
 use Rattle.empty_packets.proofs.Alike.{Alike, same-alike, alike-at, set-alike, Shared, NoLow, shared-no-low, value-no-low}
 use Rattle.empty_packets.proofs.Alike.{passes-same, block-alike, new-blocks-alike}
@@ -147,7 +147,7 @@ module _ (bs : List Band) (s t : ℕ) (ws vs : List ℕ) (y : Ahead bs s t ws vs
       let ys : List ℕ = setNewBlocks t ks cs vs in
       let a = new-blocks-alike L (OffNewLows ws ks) (λ i h. off-new-wide L ws ks i f h) t ks cs ws vs f (y .alike) in
       let b = alike-at (OffNewLows ws ks) (OffNewLows us ks) us ys
-      (λ i. on-new-before (OffLow i) ws us ks (setting-keeps-passes L t ks cs ws f)) a in
+      (λ i. on-new-before (OffLow i) ws us ks (setting-keeps-passes L t ks cs ws f (y .rule .between))) a in
       let c = blocks-alike L t ks cs (p .lengths) (p .marks) us ys f e (new-blocks-tidied L t ks cs ws f l (y .rule .between))
       (new-blocks-tidied L t ks cs vs f l (y .present .between)) b in
       ext-getD 0 (headerBlocks t ks p ws .words) (headerBlocks t ks p vs .words) (c .long) (λ i h. c .words i tt)

@@ -29,14 +29,14 @@ use Rattle.round_trip.proofs.Trip.Nodes.{Node, node}
 use Rattle.round_trip.proofs.Trip.NodeWords.{nodeAt}
 use Rattle.round_trip.proofs.Trip.Trees.{ordered-same}
 use Rattle.round_trip.proofs.Trip.Changes.{nodes-only, first-stays, low-stays, known-stays, block-coded, blocks-coded}
-use Rattle.round_trip.proofs.Trip.SetLeaves.{new-blocks-set, planes-set}
+use Rattle.round_trip.proofs.Trip.SetLeaves.{LeavesSet, new-blocks-set, planes-set}
 use Rattle.round_trip.proofs.Trip.WriterState.{headerBlocks}
 use Rattle.round_trip.proofs.Trip.WriterInRange.{writer-after-start}
 use Rattle.round_trip.proofs.Trip.Start.{started-in-step}
 use Rattle.empty_packets.specs.LaterPackets.{Accepted, stateBehind, Started, startedState}
 use Rattle.empty_packets.proofs.Settled.{Tidy, settled, Tidied, settled-or-same, block-tidied}
-use Rattle.empty_packets.proofs.NewBlocks.{AllOnNew, on-new-before, coding-keeps-passes, new-blocks-only}
-use Rattle.empty_packets.proofs.NewBlocks.{setting-keeps-passes, every-word-set, off-new-stays}
+use Rattle.empty_packets.proofs.NewBlocks.{AllOnNew, SamePasses, on-new-before, values-keep-passes}
+use Rattle.empty_packets.proofs.NewBlocks.{coding-keeps-passes, every-word-set, off-new-stays}
 
 -- with next layer t: its value is known, and lies below t
 pub record Told (t : ℕ) (n : Node) : Type 0 where
@@ -144,11 +144,21 @@ settled-done t v l (inl h) =
 settled-done t v l (inr h) =
     inr (record { no-value = h; not-known = if-ge v (t + 1) 1 0 (omega arith); low-in = omega arith })
 
+new-blocks-leaves : (L : Layout) (t : ℕ) (ks : List Block) (cs ws : List ℕ) → AllPlaced L ks → Between L t ws
+    → LeavesSet L inclusion ws (setNewBlocks t ks cs ws) ks
+new-blocks-leaves L t ks cs ws f y =
+    new-blocks-set L t ks cs ws f (y .long) (λ a n. low-in-layer t (nodeAt ws a) (y .nodes a n)) .0
+
+pub setting-keeps-passes : (L : Layout) (t : ℕ) (ks : List Block) (cs ws : List ℕ) → AllPlaced L ks → Between L t ws
+    → SamePasses ws (setNewBlocks t ks cs ws) ks
+setting-keeps-passes L t ks cs ws f y =
+    values-keep-passes L ws (setNewBlocks t ks cs ws) ks f (new-blocks-leaves L t ks cs ws f y .only)
+
 during-set : (L : Layout) (t : ℕ) (ks : List Block) (cs ws : List ℕ) → AllPlaced L ks → t < notYetIncluded → Between L t ws
     → During L t ks (setNewBlocks t ks cs ws)
 during-set L t ks cs ws f l y =
     let us : List ℕ = setNewBlocks t ks cs ws in
-    let s = new-blocks-set L t ks cs ws f (y .long) (λ a n. low-in-layer t (nodeAt ws a) (y .nodes a n)) .0 in
+    let s = new-blocks-leaves L t ks cs ws f y in
     let lo : (a : ℕ) → L .Node inclusion a → low us a ≡ low ws a = low-stays L inclusion ws us (s .only) inclusion in
     let kn : (a : ℕ) → L .Node inclusion a → known us a ≡ known ws a = known-stays L inclusion ws us (s .only) inclusion in
     record {
@@ -162,8 +172,7 @@ during-set L t ks cs ws f l y =
             (between-tidy t (nodeAt ws a) l (y .nodes a n)));
       };
       values = λ a n. every-word-set (Value t) t ks cs ws a (λ _. inl (omega arith)) (value-of t (nodeAt ws a) (y .nodes a n));
-      done = λ a n o. let before = on-new-before (λ b. a ≢ b) ws us ks
-          (setting-keeps-passes L t ks cs ws f) o in
+      done = λ a n o. let before = on-new-before (λ b. a ≢ b) ws us ks (setting-keeps-passes L t ks cs ws f y) o in
           let v : value us a ≡ value ws a = off-new-stays L t ks cs ws a f before in
           let e : nodeAt ws a ≡ nodeAt us a = λ i. node (sym v i) (sym (lo a n) i) (sym (kn a n) i) in
           subst (ToldOrOpen (t + 1)) e (still-told-or-open t (nodeAt ws a) (y .nodes a n));
@@ -265,7 +274,7 @@ module _ (bs : List Band) (s t : ℕ) (ws : List ℕ) (y : Reached bs s t ws) wh
 
   pub absent-is : codeAbsent ws .words ≡ set ws 3 (t + 1)
   unfolding codeAbsent
-  absent-is = ap (λ (z : ℕ). set ws 3 (z + 1)) (y .first-words .layer-is)
+  absent-is = rw (y .first-words .layer-is)
 
   pub reached-absent : t < notYetIncluded → Reached bs s (t + 1) (codeAbsent ws .words)
   reached-absent l =
@@ -275,13 +284,17 @@ module _ (bs : List Band) (s t : ℕ) (ws : List ℕ) (y : Reached bs s t ws) wh
   unfolding codePresent
   present-is p = rw (y .first-words .layer-is, reached-blocks)
 
+  pub present-bits-are : (p : Contribution) → codePresent p ws .bits ≡ 1 ∷ headerBlocks t (blocks bs) p ws .bits
+  unfolding codePresent
+  present-bits-are p = rw (y .first-words .layer-is, reached-blocks)
+
   -- the first words stay
   first-words-stay : (p : Contribution) (j : ℕ) → j < 13 → getD (headerBlocks t (blocks bs) p ws .words) j 0 ≡ getD ws j 0
   first-words-stay p j h =
       let L : Layout = layoutOf bs in
       let f = blocks-placed bs in
       let us : List ℕ = setNewBlocks t (blocks bs) (p .counts) ws in
-      let o = new-blocks-only L t (blocks bs) (p .counts) ws f in
+      let o = new-blocks-leaves L t (blocks bs) (p .counts) ws f (y .between) .only in
       blocks-coded L t (blocks bs) (p .counts) (p .lengths) (p .marks) us f (o .long ∙ y .between .long) .first j h
       ∙ first-stays L ws us (nodes-only L inclusion ws us o) j h
 

@@ -22,7 +22,7 @@ use Rattle.round_trip.proofs.Trip.NodeWords.{nodeAt}
 use Rattle.round_trip.proofs.Trip.WriterState.{headerBlocks}
 use Rattle.empty_packets.specs.LaterPackets.{Accepted, headers, stateBehind, blockBitsFrom, blockBits, joined, othersOf}
 use Rattle.empty_packets.specs.LaterPackets.{startedState, ChangesAtMost, InsertionChangesAtMost}
-use Rattle.empty_packets.proofs.Between.{ToldOrOpen, layer-set, Reached, reached-started, reached-blocks, absent-is, reached-absent, present-is}
+use Rattle.empty_packets.proofs.Between.{ToldOrOpen, layer-set, Reached, reached-started, reached-blocks, absent-is, reached-absent, present-is, present-bits-are}
 use Rattle.empty_packets.proofs.Between.{reached-header, accepted-here, reached-list}
 use Rattle.empty_packets.proofs.BlockParts.{blocks-joined}
 use Rattle.empty_packets.proofs.Alike.{same-alike, both-branches}
@@ -138,17 +138,13 @@ module _ (bs : List Band) (s t n : ℕ) (ws vs : List ℕ) (x : OnePacketApart b
         not-fresh-kept L t _ _ _ _ ks (blocks-placed bs) last-step
         (blocks-not-fresh L t n (x .since) soon ks (p .counts) (p .lengths) (p .marks) _ _ (blocks-placed bs) e (new-blocks .shift))
 
-    bits-are : (us : List ℕ) (m : ℕ) → Reached bs s m us → codePresent p us .bits ≡ 1 ∷ headerBlocks m ks p us .bits
-    unfolding codePresent
-    bits-are us m y = rw (y .first-words .layer-is, reached-blocks bs s m us y)
-
     present-bits : BlocksNotFresh t ws vs ks → codePresent p vs .bits ≡ codePresent p ws .bits
     present-bits h =
-        bits-are vs (n + 1) (x .added)
+        present-bits-are bs s (n + 1) vs (x .added) p
         ∙ ap (λ (z : List ℕ). 1 ∷ z)
         (blocks-bits L t n (x .since) soon ks (p .counts) (p .lengths) (p .marks) _ _ (blocks-placed bs) (new-blocks .shift)
         (not-fresh-kept L t ws vs _ _ ks (blocks-placed bs) new-blocks h))
-        ∙ sym (bits-are ws n (x .without))
+        ∙ sym (present-bits-are bs s n ws (x .without) p)
 
     block-bits-are : (us : List ℕ) (m : ℕ) → Reached bs s m us
         → blockBits p us ≡ blockBitsFrom m ks (p .counts) (p .lengths) (p .marks) (setNewBlocks m ks (p .counts) us)

@@ -14,7 +14,7 @@ use Rattle.t800_laws.proofs.Laws.Tests.{either, either-by, and-left}
 use Rattle.t800_laws.proofs.Laws.Paths.{All, addresses}
 use Rattle.t800_laws.proofs.Laws.Layout.{inclusion, Layout, Placed, SeparateFromAll, AllPlaced, rootToLeaf, leafToRoot}
 use Rattle.t800_laws.proofs.Laws.SetLeaf.{off-path-stays, every-word}
-use Rattle.round_trip.proofs.Trip.Changes.{block-stays, BlockCoded, ValuesOnly, no-values, values-then, leaf-set, nodes-only}
+use Rattle.round_trip.proofs.Trip.Changes.{block-stays, BlockCoded, ValuesOnly, no-values, leaf-set, nodes-only}
 
 -- ---- the nodes on new blocks' paths
 
@@ -41,7 +41,7 @@ pub blocks-keep-passes : (L : Layout) (ws vs : List ℕ) (ks : List Block) → A
 blocks-keep-passes L ws vs [] f o = tt
 blocks-keep-passes L ws vs (k ∷ ks) f o = (o (k .at) (f .0 .0 .block), blocks-keep-passes L ws vs ks (f .1) o)
 
-values-keep-passes : (L : Layout) (ws vs : List ℕ) (ks : List Block) → AllPlaced L ks → ValuesOnly L inclusion ws vs
+pub values-keep-passes : (L : Layout) (ws vs : List ℕ) (ks : List Block) → AllPlaced L ks → ValuesOnly L inclusion ws vs
     → SamePasses ws vs ks
 values-keep-passes L ws vs ks f o =
     blocks-keep-passes L ws vs ks f (λ p b. block-stays L ws vs (nodes-only L inclusion ws vs o) p b .0)
@@ -71,20 +71,6 @@ setNew t k c ws = cond (isNew ws k && ltb 0 c) (setValue (k .inclTree) (k .path)
 new-set-only : (L : Layout) (k : Block) (P : Placed L k) (t c : ℕ) (ws : List ℕ) → ValuesOnly L inclusion ws (setNew t k c ws)
 new-set-only L k P t c ws =
     either (ValuesOnly L inclusion ws) (isNew ws k && ltb 0 c) _ _ (leaf-set L inclusion k P t ws) (no-values L inclusion ws)
-
-pub new-blocks-only : (L : Layout) (t : ℕ) (ks : List Block) (cs ws : List ℕ) → AllPlaced L ks
-    → ValuesOnly L inclusion ws (setNewBlocks t ks cs ws)
-unfolding setNewBlocks
-new-blocks-only L t [] cs ws f = no-values L inclusion ws
-new-blocks-only L t (k ∷ ks) [] ws f = no-values L inclusion ws
-new-blocks-only L t (k ∷ ks) (c ∷ cs) ws f =
-    let vs : List ℕ = setNew t k c ws in
-    values-then L inclusion ws vs (setNewBlocks t ks cs vs) (new-set-only L k (f .0 .0) t c ws) (new-blocks-only L t ks cs vs (f .1))
-
-pub setting-keeps-passes : (L : Layout) (t : ℕ) (ks : List Block) (cs ws : List ℕ) → AllPlaced L ks
-    → SamePasses ws (setNewBlocks t ks cs ws) ks
-setting-keeps-passes L t ks cs ws f =
-    values-keep-passes L ws (setNewBlocks t ks cs ws) ks f (new-blocks-only L t ks cs ws f)
 
 -- what holds of t and of each word before holds of each word after
 pub every-word-set : (P : ℕ → Type 0) (t : ℕ) (ks : List Block) (cs ws : List ℕ) (i : ℕ) → (t < getD ws i 0 → P t) → P (getD ws i 0)

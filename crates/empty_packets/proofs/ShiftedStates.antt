@@ -159,14 +159,10 @@ module _ (L : Layout) (t now : ℕ) (from : t ≤ now) (soon : now + 1 < notYetI
 abbrev pub NoneFresh : (t : ℕ) (ws vs xs : List ℕ) → Type 0
 NoneFresh t ws vs xs = All (λ a. Shifted t false (nodeAt ws a) (nodeAt vs a)) xs
 
-on-path : (L : Layout) (t : ℕ) (ws vs xs : List ℕ) → All (L .Node inclusion) xs → Shift L t ws vs
-    → AllShifted t true (nodesAt ws xs) (nodesAt vs xs)
-on-path L t ws vs [] h s = nil
-on-path L t ws vs (a ∷ xs) h s = cons (s .nodes a (h .0)) (on-path L t ws vs xs (h .1) s)
-
-not-fresh-nodes : (t : ℕ) (ws vs xs : List ℕ) → NoneFresh t ws vs xs → AllShifted t false (nodesAt ws xs) (nodesAt vs xs)
-not-fresh-nodes t ws vs [] h = nil
-not-fresh-nodes t ws vs (a ∷ xs) h = cons (h .0) (not-fresh-nodes t ws vs xs (h .1))
+nodes-shifted : (t : ℕ) (may : Bool) (ws vs xs : List ℕ) → All (λ a. Shifted t may (nodeAt ws a) (nodeAt vs a)) xs
+    → AllShifted t may (nodesAt ws xs) (nodesAt vs xs)
+nodes-shifted t may ws vs [] h = nil
+nodes-shifted t may ws vs (a ∷ xs) h = cons (h .0) (nodes-shifted t may ws vs xs (h .1))
 
 nodes-not-fresh : (t : ℕ) (ws vs xs : List ℕ) → AllShifted t false (nodesAt ws xs) (nodesAt vs xs) → NoneFresh t ws vs xs
 nodes-not-fresh t ws vs [] h = tt
@@ -190,7 +186,7 @@ module _ (L : Layout) (t u : ℕ) (from : t < u) (soon : u < notYetIncluded) (k 
       let d = path-coded L inclusion k P (u + 1) vs (other-long L t ws vs s) in
       nodes-not-fresh t ws′ vs′ xs (subst₂ (AllShifted t false) (sym (c .words .nodes)) (sym (d .words .nodes))
       (path-after t u from soon true 0 0 0 (increasing-path L inclusion k P ws (s .order)) (equal zero-le refl)
-      (on-path L t ws vs xs (from-root-nodes L inclusion k P) s)))
+      (nodes-shifted t true ws vs xs (all-so _ (λ a. Shifted t true (nodeAt ws a) (nodeAt vs a)) xs (s .nodes) (from-root-nodes L inclusion k P)))))
 
   -- the bits are the same if it was before
   pub not-fresh-bits : NoneFresh t ws vs xs → codePath (k .inclTree) (u + 1) (reverse (k .path)) 0 vs .bits
@@ -198,7 +194,7 @@ module _ (L : Layout) (t u : ℕ) (from : t < u) (soon : u < notYetIncluded) (k 
   not-fresh-bits h =
       let c = path-coded L inclusion k P u ws (s .long) in
       let d = path-coded L inclusion k P (u + 1) vs (other-long L t ws vs s) in
-      d .bits ∙ path-bits t u from soon 0 0 0 (increasing-path L inclusion k P ws (s .order)) (equal zero-le refl) (not-fresh-nodes t ws vs xs h)
+      d .bits ∙ path-bits t u from soon 0 0 0 (increasing-path L inclusion k P ws (s .order)) (equal zero-le refl) (nodes-shifted t false ws vs xs h)
       ∙ sym (c .bits)
 
   pub path-step : Step L t ws vs ws′ vs′
