@@ -30,8 +30,8 @@ use Rattle.empty_packets.proofs.Settled.{settled, Tidied, path-settled,
 use Rattle.empty_packets.proofs.BlockParts.{new-inclusion, old-inclusion}
 use Rattle.empty_packets.proofs.NewBlocks.{AllOnNew, on-new-after, on-new-before, blocks-keep-passes}
 use Rattle.empty_packets.proofs.NewBlocks.{coding-keeps-passes}
-use Rattle.empty_packets.proofs.Between.{setting-keeps-passes, layer-set, layer-off-passes, new-blocks-tidied, Reached, reached-started, absent-is}
-use Rattle.empty_packets.proofs.Between.{present-is, reached-present, reached-header, accepted-here}
+use Rattle.empty_packets.proofs.Between.{layer-set, layer-off-passes, setting-keeps-passes, new-blocks-tidied, Reached}
+use Rattle.empty_packets.proofs.Between.{reached-started, absent-is, present-is, reached-present, reached-header, accepted-here}
 use Rattle.empty_packets.proofs.Alike.{Alike, same-alike, alike-at, set-alike, Shared, NoLow, shared-no-low, value-no-low}
 use Rattle.empty_packets.proofs.Alike.{passes-same, block-alike, new-blocks-alike}
 

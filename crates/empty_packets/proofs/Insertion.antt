@@ -22,8 +22,8 @@ use Rattle.round_trip.proofs.Trip.NodeWords.{nodeAt}
 use Rattle.round_trip.proofs.Trip.WriterState.{headerBlocks}
 use Rattle.empty_packets.specs.LaterPackets.{Accepted, headers, stateBehind, blockBitsFrom, blockBits, joined, othersOf}
 use Rattle.empty_packets.specs.LaterPackets.{startedState, ChangesAtMost, InsertionChangesAtMost}
-use Rattle.empty_packets.proofs.Between.{ToldOrOpen, layer-set, Reached, reached-started, reached-blocks, absent-is, reached-absent, present-is, present-bits-are}
-use Rattle.empty_packets.proofs.Between.{reached-header, accepted-here, reached-list}
+use Rattle.empty_packets.proofs.Between.{ToldOrOpen, layer-set, Reached, reached-started, reached-blocks, absent-is, reached-absent}
+use Rattle.empty_packets.proofs.Between.{present-is, present-bits-are, reached-header, accepted-here, reached-list}
 use Rattle.empty_packets.proofs.BlockParts.{blocks-joined}
 use Rattle.empty_packets.proofs.Alike.{same-alike, both-branches}
 use Rattle.empty_packets.proofs.ShiftedNodes.{neither, Shifted, same, fresh}

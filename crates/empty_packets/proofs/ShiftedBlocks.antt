@@ -42,13 +42,21 @@ none-fresh-kept L t ws vs ws′ vs′ (a ∷ xs) s h z = (s false a (h .0) (z .0
 block-kept : (L : Layout) (t : ℕ) (ws vs ws′ vs′ : List ℕ) (k : Block) → Placed L k → Step L t ws vs ws′ vs′ → BlockNotFresh t ws vs k
     → BlockNotFresh t ws′ vs′ k
 block-kept L t ws vs ws′ vs′ k P s h e =
-    none-fresh-kept L t ws vs ws′ vs′ (rootToLeaf inclusion k) (s .nodes) (from-root-nodes L inclusion k P) (h (s .passes (k .at) (P .block) e))
+    none-fresh-kept L t ws vs ws′ vs′ (rootToLeaf inclusion k) (s .nodes) (from-root-nodes L inclusion k P)
+    (h (s .passes (k .at) (P .block) e))
 
 pub not-fresh-kept : (L : Layout) (t : ℕ) (ws vs ws′ vs′ : List ℕ) (ks : List Block) → AllPlaced L ks → Step L t ws vs ws′ vs′
     → BlocksNotFresh t ws vs ks → BlocksNotFresh t ws′ vs′ ks
 not-fresh-kept L t ws vs ws′ vs′ [] f s h = tt
 not-fresh-kept L t ws vs ws′ vs′ (k ∷ ks) f s h =
     (block-kept L t ws vs ws′ vs′ k (f .0 .0) s (h .0), not-fresh-kept L t ws vs ws′ vs′ ks (f .1) s (h .1))
+
+module _ (L : Layout) (t : ℕ) (k : Block) (P : Placed L k) (ws vs : List ℕ) (s : Shift L t ws vs) where
+  same-passes : passesSoFar vs (k .at) ≡ passesSoFar ws (k .at)
+  same-passes = passes-same L (Shared L) (λ i h. h) vs ws (s .agree) (k .at) (P .block)
+
+  same-new : isNew ws k ≡ isNew vs k
+  same-new = sym (new-same L (Shared L) (λ i h. h) k P vs ws (s .agree))
 
 -- ---- in layer now without the packet, and in the next with it
 
@@ -64,24 +72,22 @@ module _ (L : Layout) (t now : ℕ) (from : t ≤ now) (soon : now + 1 < notYetI
     unfolding codeInclusion
     inclusion-step =
         both-branches (λ (x y : Coded). Step L t ws vs (x .words) (y .words)) (isNew ws k) (isNew vs k) _ _ _ _
-        (sym (new-same L (Shared L) (λ i h. h) k P vs ws (s .agree)))
+        (same-new L t k P ws vs s)
         (path-step L t (now + 1) (omega arith) soon k P ws vs s) (no-step L t ws vs s)
-
-    same-passes : passesSoFar vs (k .at) ≡ passesSoFar ws (k .at)
-    same-passes = passes-same L (Shared L) (λ i h. h) vs ws (s .agree) (k .at) (P .block)
 
     inclusion-not-fresh : passesSoFar ws (k .at) ≡ 0 → NoneFresh t ws₁ vs₁ (rootToLeaf inclusion k)
     inclusion-not-fresh z =
         subst₂ (λ (x y : Coded). NoneFresh t (x .words) (y .words) (rootToLeaf inclusion k)) (sym (new-inclusion now k c ws z))
-        (sym (new-inclusion (now + 1) k c vs (same-passes ∙ z)))
+        (sym (new-inclusion (now + 1) k c vs (same-passes L t k P ws vs s ∙ z)))
         (path-not-fresh L t (now + 1) (omega arith) soon k P ws vs s)
 
     tree-bits : BlockNotFresh t ws vs k → treeBits (now + 1) k c vs ≡ treeBits now k c ws
     tree-bits h =
         on-eq (passesSoFar ws (k .at)) 0
-        (λ z. new-tree-bits (now + 1) k c vs (same-passes ∙ z) ∙ not-fresh-bits L t (now + 1) (omega arith) soon k P ws vs s (h z)
+        (λ z. new-tree-bits (now + 1) k c vs (same-passes L t k P ws vs s ∙ z)
+        ∙ not-fresh-bits L t (now + 1) (omega arith) soon k P ws vs s (h z)
         ∙ sym (new-tree-bits now k c ws z))
-        (λ z. old-tree-bits (now + 1) k c vs (λ e. z (sym same-passes ∙ e)) ∙ sym (old-tree-bits now k c ws z))
+        (λ z. old-tree-bits (now + 1) k c vs (λ e. z (sym (same-passes L t k P ws vs s) ∙ e)) ∙ sym (old-tree-bits now k c ws z))
 
     module _ (gs : List Segment) where
       abbrev ws₂ : List ℕ
@@ -93,7 +99,7 @@ module _ (L : Layout) (t now : ℕ) (from : t ≤ now) (soon : now + 1 < notYetI
       other-bits : otherBits (now + 1) k c gs vs ≡ otherBits now k c gs ws
       other-bits =
           ap₂ (λ (b : Bool) (x : List ℕ). cond b [] (cond (ltb 0 c) 1 0 ∷ []) ++ x)
-          (new-same L (Shared L) (λ i h. h) k P vs ws (s .agree))
+          (sym (same-new L t k P ws vs s))
           (rest-alike L (Shared L) (λ i h. h) k P c gs vs₁ ws₁ (inclusion-step .shift .agree) .bits)
 
       block-bits : BlockNotFresh t ws vs k → codeBlock (now + 1) k c gs vs .bits ≡ codeBlock now k c gs ws .bits
@@ -193,6 +199,6 @@ module _ (L : Layout) (t now : ℕ) (from : t ≤ now) (soon : now + 1 < notYetI
       let ws′ : List ℕ = setNew now k c ws in
       let vs′ : List ℕ = setNew (now + 1) k c vs in
       let x : Step L t ws vs ws′ vs′ = both-branches (Step L t ws vs) (isNew ws k && ltb 0 c) (isNew vs k && ltb 0 c) _ _ _ _
-      (ap (λ (b : Bool). b && ltb 0 c) (sym (new-same L (Shared L) (λ i h. h) k P vs ws (s .agree)))) (leaf-step L t now from soon k P ws vs s)
+      (ap (λ (b : Bool). b && ltb 0 c) (same-new L t k P ws vs s)) (leaf-step L t now from soon k P ws vs s)
       (no-step L t ws vs s) in
       step-then L t ws vs ws′ vs′ _ _ x (new-blocks-step ks cs ws′ vs′ (f .1) (x .shift))

@@ -186,7 +186,8 @@ module _ (L : Layout) (t u : ℕ) (from : t < u) (soon : u < notYetIncluded) (k 
       let d = path-coded L inclusion k P (u + 1) vs (other-long L t ws vs s) in
       nodes-not-fresh t ws′ vs′ xs (subst₂ (AllShifted t false) (sym (c .words .nodes)) (sym (d .words .nodes))
       (path-after t u from soon true 0 0 0 (increasing-path L inclusion k P ws (s .order)) (equal zero-le refl)
-      (nodes-shifted t true ws vs xs (all-so _ (λ a. Shifted t true (nodeAt ws a) (nodeAt vs a)) xs (s .nodes) (from-root-nodes L inclusion k P)))))
+      (nodes-shifted t true ws vs xs
+      (all-so _ (λ a. Shifted t true (nodeAt ws a) (nodeAt vs a)) xs (s .nodes) (from-root-nodes L inclusion k P)))))
 
   -- the bits are the same if it was before
   pub not-fresh-bits : NoneFresh t ws vs xs → codePath (k .inclTree) (u + 1) (reverse (k .path)) 0 vs .bits
@@ -194,7 +195,9 @@ module _ (L : Layout) (t u : ℕ) (from : t < u) (soon : u < notYetIncluded) (k 
   not-fresh-bits h =
       let c = path-coded L inclusion k P u ws (s .long) in
       let d = path-coded L inclusion k P (u + 1) vs (other-long L t ws vs s) in
-      d .bits ∙ path-bits t u from soon 0 0 0 (increasing-path L inclusion k P ws (s .order)) (equal zero-le refl) (nodes-shifted t false ws vs xs h)
+      d .bits
+      ∙ path-bits t u from soon 0 0 0 (increasing-path L inclusion k P ws (s .order)) (equal zero-le refl)
+      (nodes-shifted t false ws vs xs h)
       ∙ sym (c .bits)
 
   pub path-step : Step L t ws vs ws′ vs′

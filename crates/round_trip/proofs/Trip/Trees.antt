@@ -94,7 +94,8 @@ last-of base ws [] j v below = refl
 last-of base ws (i ∷ js) j v below = last-of base ws js i v (j ∷ below)
 
 -- where no value changes, the order stays
-pub ordered-same : (L : Layout) (ws vs : List ℕ) → ((u : Tree) (a : ℕ) → L .Node u a → value vs a ≡ value ws a) → Ordered L ws → Ordered L vs
+pub ordered-same : (L : Layout) (ws vs : List ℕ) → ((u : Tree) (a : ℕ) → L .Node u a → value vs a ≡ value ws a) → Ordered L ws
+    → Ordered L vs
 ordered-same L ws vs s o u a n =
     le-trans (le-of-eq (s u (L .parent a) (L .parent-node u a n))) (le-trans (o u a n) (le-of-eq (sym (s u a n))))
 
