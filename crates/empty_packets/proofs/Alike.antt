@@ -1,5 +1,5 @@
--- Two states as long with the same words at the places in S: coding a path in S, a block's zero planes and its passes puts the same bits in
--- both and keeps them so, and setting new blocks does.
+-- Two states of one length that have the same words at the places in S: a path in S, a block's zero planes and its passes are coded as the
+-- same bits and leave the states so, and so does setting new blocks.
 use mathlib.Core.Path.{_≡_, refl, sym, ap, ap₂, _∙_, subst, subst₂}
 use mathlib.Core.Logic.{_≢_}
 use mathlib.Core.Bool.{Bool, true, false, cond, _&&_}

@@ -1,5 +1,5 @@
 -- The inclusion trees between packets: each node is told or open, whatever packets came, and the values are in order.
-use mathlib.Core.Path.{_≡_, refl, sym, ap, _∙_, subst}
+use mathlib.Core.Path.{_≡_, refl, sym, ap, _∙_, subst, subst₂}
 use mathlib.Core.Logic.{_≢_, _⊎_, inl, inr}
 use mathlib.Core.Bool.{not}
 use mathlib.Core.List.{List, [], _∷_}
@@ -24,11 +24,13 @@ use Rattle.t800_laws.proofs.Laws.Layout.{Tree, inclusion, zeroPlanes, Layout, A
 use Rattle.t800_laws.proofs.Laws.FirstWords.{FirstWords, next-layer}
 use Rattle.t800_laws.proofs.Laws.FreshState.{fresh-length, fresh-node}
 use Rattle.t800_laws.proofs.Laws.SetLeaf.{Ordered}
+use Rattle.t800_laws.proofs.Laws.Kept.{Kept}
+use Rattle.t800_laws.proofs.Laws.HeaderKept.{header-coded}
 use Rattle.t800_laws.proofs.Laws.Accepted.{start-accepted}
 use Rattle.round_trip.proofs.Trip.Nodes.{Node, node}
 use Rattle.round_trip.proofs.Trip.NodeWords.{nodeAt}
 use Rattle.round_trip.proofs.Trip.Trees.{ordered-same}
-use Rattle.round_trip.proofs.Trip.Changes.{nodes-only, first-stays, low-stays, known-stays, block-coded, blocks-coded}
+use Rattle.round_trip.proofs.Trip.Changes.{low-stays, known-stays, block-coded}
 use Rattle.round_trip.proofs.Trip.SetLeaves.{LeavesSet, new-blocks-set, planes-set}
 use Rattle.round_trip.proofs.Trip.WriterState.{headerBlocks}
 use Rattle.round_trip.proofs.Trip.WriterInRange.{writer-after-start}
@@ -288,21 +290,16 @@ module _ (bs : List Band) (s t : ℕ) (ws : List ℕ) (y : Reached bs s t ws) wh
   unfolding codePresent
   present-bits-are p = rw (y .first-words .layer-is, reached-blocks)
 
-  -- the first words stay
-  first-words-stay : (p : Contribution) (j : ℕ) → j < 13 → getD (headerBlocks t (blocks bs) p ws .words) j 0 ≡ getD ws j 0
-  first-words-stay p j h =
-      let L : Layout = layoutOf bs in
-      let f = blocks-placed bs in
-      let us : List ℕ = setNewBlocks t (blocks bs) (p .counts) ws in
-      let o = new-blocks-leaves L t (blocks bs) (p .counts) ws f (y .between) .only in
-      blocks-coded L t (blocks bs) (p .counts) (p .lengths) (p .marks) us f (o .long ∙ y .between .long) .first j h
-      ∙ first-stays L ws us (nodes-only L inclusion ws us o) j h
+  header-kept : (p : Contribution) → Kept 13 ws (headerBlocks t (blocks bs) p ws .words)
+  header-kept p =
+      subst₂ (λ (n : ℕ) (ks : List Block). Kept 13 ws (headerBlocks n ks p ws .words)) (y .first-words .layer-is) reached-blocks
+      (header-coded p ws)
 
   pub reached-present : (p : Contribution) → length (p .counts) ≡ length (blocks bs) → t < notYetIncluded
       → Reached bs s (t + 1) (codePresent p ws .words)
   reached-present p e l =
       subst (Reached bs s (t + 1)) (sym (present-is p))
-      (next (headerBlocks t (blocks bs) p ws .words) l (first-words-stay p)
+      (next (headerBlocks t (blocks bs) p ws .words) l (header-kept p .same)
       (between-coded (layoutOf bs) t (blocks bs) p ws (blocks-placed bs) e l (y .between)))
 
   pub reached-header : (p : Contribution) → length (p .counts) ≡ length (blocks bs) → t < notYetIncluded

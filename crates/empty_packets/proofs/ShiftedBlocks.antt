@@ -1,5 +1,5 @@
--- Blocks coded without a packet and with it: their bits are those of the inclusion tree and the others behind them, and the others are the
--- same; all are, where no node of a new block's path is fresh.
+-- Blocks coded without a packet and with it: the bits behind those of the inclusion tree are the same, and all are where no node of a new
+-- block's path is fresh.
 use mathlib.Core.Path.{_≡_, refl, sym, ap, ap₂, _∙_, subst₂}
 use mathlib.Core.Bool.{Bool, false, cond, _&&_}
 use mathlib.Core.List.{List, [], _∷_, _++_}
@@ -15,24 +15,25 @@ use Rattle.t800.specs.WriteHeader.{isNew, setNewBlocks, codeInclusion, codeBloc
 use Rattle.t800_laws.proofs.Laws.Tests.{on-eq}
 use Rattle.t800_laws.proofs.Laws.Paths.{All}
 use Rattle.t800_laws.proofs.Laws.Layout.{inclusion, Layout, Placed, AllPlaced, rootToLeaf, from-root-nodes}
+use Rattle.round_trip.proofs.Trip.NodeWords.{nodeAt}
 use Rattle.round_trip.proofs.Trip.Trees.{ordered-same}
 use Rattle.round_trip.proofs.Trip.Changes.{block-coded}
 use Rattle.empty_packets.specs.LaterPackets.{blockBitsFrom, othersOf}
 use Rattle.empty_packets.proofs.BlockParts.{new-inclusion, treeBits, otherBits, new-tree-bits, old-tree-bits, block-bits-split}
 use Rattle.empty_packets.proofs.BlockParts.{others-are}
 use Rattle.empty_packets.proofs.Settled.{block-off-inclusion}
-use Rattle.empty_packets.proofs.NewBlocks.{setNew}
+use Rattle.empty_packets.proofs.NewBlocks.{AllOnNew, setNew}
 use Rattle.empty_packets.proofs.Alike.{both-branches, Shared, passes-same, new-same, rest-alike, block-alike}
+use Rattle.empty_packets.proofs.ShiftedNodes.{Shifted}
 use Rattle.empty_packets.proofs.ShiftedStates.{Shift, other-long, NodesKept, Step, no-step, step-then, stepped, kept-by, leaf-step}
 use Rattle.empty_packets.proofs.ShiftedStates.{NoneFresh, path-not-fresh, not-fresh-bits, path-step}
 
 -- if it is new, none of its path's nodes is fresh
-abbrev pub BlockNotFresh : (t : ℕ) (ws vs : List ℕ) → Block → Type 0
+abbrev BlockNotFresh : (t : ℕ) (ws vs : List ℕ) → Block → Type 0
 BlockNotFresh t ws vs k = passesSoFar ws (k .at) ≡ 0 → NoneFresh t ws vs (rootToLeaf inclusion k)
 
 abbrev pub BlocksNotFresh : (t : ℕ) (ws vs : List ℕ) → List Block → Type 0
-BlocksNotFresh t ws vs [] = Unit {0}
-BlocksNotFresh t ws vs (k ∷ ks) = BlockNotFresh t ws vs k × BlocksNotFresh t ws vs ks
+BlocksNotFresh t ws vs ks = AllOnNew (λ a. Shifted t false (nodeAt ws a) (nodeAt vs a)) ws ks
 
 none-fresh-kept : (L : Layout) (t : ℕ) (ws vs ws′ vs′ xs : List ℕ) → NodesKept L t ws vs ws′ vs′ → All (L .Node inclusion) xs
     → NoneFresh t ws vs xs → NoneFresh t ws′ vs′ xs

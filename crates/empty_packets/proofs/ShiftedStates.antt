@@ -1,5 +1,5 @@
 -- A state without a packet put in at layer t, and one with it: all words but the layer and the inclusion nodes agree, and those nodes are
--- shifted. Setting a leaf, coding a path and storing a block's passes on both sides keep that.
+-- shifted. Setting a leaf, coding an inclusion path and setting the layer on both sides keep that.
 use mathlib.Core.Path.{_≡_, refl, sym, _∙_, subst, subst₂}
 use mathlib.Core.Bool.{Bool, true, false}
 use mathlib.Core.List.{List, [], _∷_, reverse}
@@ -11,8 +11,7 @@ use Rattle.t800.specs.TagTree.{value, setValue, codePath}
 use Rattle.t800.specs.State.{Block, notYetIncluded, passesSoFar}
 use Rattle.t800_laws.proofs.Laws.Tests.{on-eq, on-lt}
 use Rattle.t800_laws.proofs.Laws.Paths.{All, all-so, addresses, Clear}
-use Rattle.t800_laws.proofs.Laws.Layout.{inclusion, Layout, Placed, rootToLeaf, path-nodes}
-use Rattle.t800_laws.proofs.Laws.Layout.{from-root-nodes}
+use Rattle.t800_laws.proofs.Laws.Layout.{inclusion, Layout, Placed, rootToLeaf, path-nodes, from-root-nodes}
 use Rattle.t800_laws.proofs.Laws.SetLeaf.{lowers, ends, Ordered, setValue-ordered}
 use Rattle.round_trip.proofs.Trip.Nodes.{Node}
 use Rattle.round_trip.proofs.Trip.NodeWords.{nodeAt, nodesAt}
