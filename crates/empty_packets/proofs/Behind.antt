@@ -1,52 +1,41 @@
 -- The state behind a packet with passes is that of packets all coded block by block: packets without passes leave behind them the lows and
 -- knowns on new blocks' inclusion paths alone, and a packet with passes settles these.
 use mathlib.Core.Path.{_≡_, refl, sym, ap, _∙_, subst, subst₂}
-use mathlib.Core.Logic.{_≢_}
 use mathlib.Core.Bool.{Bool, true, false, _&&_}
 use mathlib.Core.List.{List, [], _∷_, _++_, reverse}
-use Prim.Native.Nat.{ℕ, _+_, _*_, _<_, max}
+use Prim.Native.Nat.{ℕ, _+_, _<_}
 use native.Mathlib.Omega.{arith}
 use lib.ListN.{length, getD, set, take, drop}
-use lib.Seq.{getD-set-other, ext-getD}
+use lib.Seq.{ext-getD}
 use lib.Dec.{ltb}
 use borrow.Author.Tests.{ltb-false}
 use Rattle.t800.specs.declared.Band.{Band}
 use Rattle.t800.specs.Base.{any}
-use Rattle.t800.specs.TagTree.{Coded, value, lowAfter, codePath}
+use Rattle.t800.specs.TagTree.{Coded, value, codePath}
 use Rattle.t800.specs.Segments.{Segment, segmentsOf}
 use Rattle.t800.specs.State.{Block, notYetIncluded, blocks, passesSoFar}
-use Rattle.t800.specs.WriteHeader.{Contribution, isNew, setNewBlocks, codeInclusion, codeZeroPlanes, codeBlock, codeBlocks}
+use Rattle.t800.specs.WriteHeader.{Contribution, isNew, setNewBlocks, codeInclusion, codeBlock, codeBlocks}
 use Rattle.t800.specs.WriteHeader.{contributes, codePresent, codeHeader}
-use Rattle.t800_laws.proofs.Laws.Tests.{on-eq, if-eq, if-ne, if-false, or-left, or-right}
-use Rattle.t800_laws.proofs.Laws.Paths.{All, all-so, addresses}
+use Rattle.t800_laws.proofs.Laws.Tests.{on-eq, if-eq, if-false, or-left, or-right}
+use Rattle.t800_laws.proofs.Laws.Paths.{All, all-so}
 use Rattle.t800_laws.proofs.Laws.Layout.{inclusion, Layout, Placed, AllPlaced, rootToLeaf, from-root-nodes, layoutOf, blocks-placed}
 use Rattle.round_trip.proofs.Trip.Nodes.{Node}
 use Rattle.round_trip.proofs.Trip.NodeWords.{nodeAt}
-use Rattle.round_trip.proofs.Trip.Trees.{path-coded}
+use Rattle.round_trip.proofs.Trip.Trees.{OffLow, off-lows-stay, path-coded}
 use Rattle.round_trip.proofs.Trip.Changes.{block-coded, blocks-coded}
 use Rattle.round_trip.proofs.Trip.WriterState.{headerBlocks}
 use Rattle.t800_laws.proofs.Laws.Contributes.{present-header, absent-header}
 use Rattle.empty_packets.specs.LaterPackets.{Accepted, stateBehind, stateBehindPresent, startedState, StateAsIfPresent}
 use Rattle.empty_packets.proofs.Settled.{settled, Tidied, path-settled, block-tidied}
-use Rattle.empty_packets.proofs.NewBlocks.{AllOnNew, SamePasses, on-new-after, on-new-before}
-use Rattle.empty_packets.proofs.NewBlocks.{coding-keeps-passes, setting-keeps-passes}
-use Rattle.empty_packets.proofs.Between.{new-blocks-tidied, Reached, reached-started, absent-is, present-is, reached-present}
-use Rattle.empty_packets.proofs.Between.{reached-header, accepted-here}
-use Rattle.empty_packets.proofs.Alike.{Alike, set-alike, OffLow, NoLow, value-no-low, passes-same, planes-alike}
-use Rattle.empty_packets.proofs.Alike.{passes-alike, new-blocks-alike}
+use Rattle.empty_packets.proofs.BlockParts.{new-inclusion, old-inclusion}
+use Rattle.empty_packets.proofs.NewBlocks.{AllOnNew, on-new-after, on-new-before, blocks-keep-passes}
+use Rattle.empty_packets.proofs.NewBlocks.{coding-keeps-passes}
+use Rattle.empty_packets.proofs.Between.{layer-set, layer-off-passes, setting-keeps-passes, new-blocks-tidied, Reached}
+use Rattle.empty_packets.proofs.Between.{reached-started, absent-is, present-is, reached-present, reached-header, accepted-here}
+use Rattle.empty_packets.proofs.Alike.{Alike, same-alike, alike-at, set-alike, Shared, NoLow, shared-no-low, value-no-low}
+use Rattle.empty_packets.proofs.Alike.{passes-same, block-alike, new-blocks-alike}
 
 -- ---- lows and knowns of a path
-
-off-lows-stay : (base t : ℕ) (ns : List ℕ) (l : ℕ) (ws : List ℕ) (i : ℕ) → All (OffLow i) (addresses base ns)
-    → getD (codePath base t ns l ws .words) i 0 ≡ getD ws i 0
-unfolding codePath
-off-lows-stay base t [] l ws i h = refl
-off-lows-stay base t (n ∷ ns) l ws i h =
-    let a : ℕ = base + 3 * n in
-    let to : ℕ = lowAfter (getD ws a 0) (max l (getD ws (a + 1) 0)) t in
-    off-lows-stay base t ns to _ i (h .1)
-    ∙ getD-set-other (set ws (a + 1) to) (a + 2) i _ 0 (h .0 .1)
-    ∙ getD-set-other ws (a + 1) i to 0 (h .0 .0)
 
 -- what holds of all lows and knowns of a path holds of word i, or it is none of them
 low-or-off {ℓ} : {X : Type ℓ} (Q : ℕ → Type 0) (i : ℕ) (xs : List ℕ) → All (λ b. Q (b + 1) × Q (b + 2)) xs → (Q i → X)
@@ -67,15 +56,6 @@ settled-same t ws vs us ys (b ∷ xs) p q v =
 
 -- ---- one block, in two states
 
-new-inclusion : (t : ℕ) (k : Block) (c : ℕ) (ws : List ℕ) → passesSoFar ws (k .at) ≡ 0
-    → codeInclusion t k c ws .words ≡ codePath (k .inclTree) (t + 1) (reverse (k .path)) 0 ws .words
-unfolding codeInclusion isNew
-new-inclusion t k c ws z = ap (λ (x : Coded). x .words) (if-eq (passesSoFar ws (k .at)) 0 _ _ z)
-
-old-inclusion : (t : ℕ) (k : Block) (c : ℕ) (ws : List ℕ) → passesSoFar ws (k .at) ≢ 0 → codeInclusion t k c ws .words ≡ ws
-unfolding codeInclusion isNew
-old-inclusion t k c ws z = ap (λ (x : Coded). x .words) (if-ne (passesSoFar ws (k .at)) 0 _ _ z)
-
 module _ (L : Layout) (S : ℕ → Type 0) (wide : (i : ℕ) → NoLow L i → S i) (k : Block) (P : Placed L k) (t : ℕ) (ws vs : List ℕ)
     (w : Tidied L t ws) (v : Tidied L t vs) where
   abbrev xs : List ℕ
@@ -91,7 +71,7 @@ module _ (L : Layout) (S : ℕ → Type 0) (wide : (i : ℕ) → NoLow L i → S
   module _ (y : Alike Fewer ws vs) where
     inclusion-alike : (c : ℕ) → Alike S (codeInclusion t k c ws .words) (codeInclusion t k c vs .words)
     inclusion-alike c =
-        let p = passes-same L Fewer fewer-wide k P ws vs y in
+        let p = passes-same L Fewer (λ i h. fewer-wide i (shared-no-low L i h)) ws vs y (k .at) (P .block) in
         let us : List ℕ = codePath (k .inclTree) (t + 1) (reverse (k .path)) 0 ws .words in
         let ys : List ℕ = codePath (k .inclTree) (t + 1) (reverse (k .path)) 0 vs .words in
         let values : All (λ b. value ws b ≡ value vs b) xs =
@@ -99,7 +79,8 @@ module _ (L : Layout) (S : ℕ → Type 0) (wide : (i : ℕ) → NoLow L i → S
         (λ b n. y .words b (fewer-wide b (value-no-low L inclusion b n))) (from-root-nodes L inclusion k P) in
         let same = settled-same t ws vs us ys xs (path-settled L k P t ws w) (path-settled L k P t vs v) values in
         on-eq (passesSoFar ws (k .at)) 0
-        (λ z. subst₂ (Alike S) (sym (new-inclusion t k c ws z)) (sym (new-inclusion t k c vs (sym p ∙ z)))
+        (λ z. subst₂ (λ (x u : Coded). Alike S (x .words) (u .words)) (sym (new-inclusion t k c ws z))
+        (sym (new-inclusion t k c vs (sym p ∙ z)))
         (record {
           long = path-coded L inclusion k P (t + 1) ws (w .long) .words .long ∙ y .long
               ∙ sym (path-coded L inclusion k P (t + 1) vs (v .long) .words .long);
@@ -108,19 +89,7 @@ module _ (L : Layout) (S : ℕ → Type 0) (wide : (i : ℕ) → NoLow L i → S
               ∙ sym (off-lows-stay (k .inclTree) (t + 1) (reverse (k .path)) 0 vs i o));
         }))
         (λ z. subst₂ (Alike S) (sym (old-inclusion t k c ws z)) (sym (old-inclusion t k c vs (λ e. z (p ∙ e))))
-        (record { long = y .long; words = λ i s. y .words i ((λ e. absurd (z e)), s) }))
-
-    block-alike : (c : ℕ) (segments : List Segment) → Alike S (codeBlock t k c segments ws .words) (codeBlock t k c segments vs .words)
-    unfolding codeBlock
-    block-alike c segments =
-        let a = inclusion-alike c in
-        let ws₁ : List ℕ = codeInclusion t k c ws .words in
-        let vs₁ : List ℕ = codeInclusion t k c vs .words in
-        let b = planes-alike L S wide k P ws₁ vs₁ a in
-        on-eq c 0
-        (λ e. rw (if-eq c 0 (codeInclusion t k c ws) _ e, if-eq c 0 (codeInclusion t k c vs) _ e) a)
-        (λ e. rw (if-ne c 0 (codeInclusion t k c ws) _ e, if-ne c 0 (codeInclusion t k c vs) _ e)
-        (passes-alike L S wide k P (codeZeroPlanes k ws₁ .words) (codeZeroPlanes k vs₁ .words) b c segments))
+        (alike-at Fewer S ws vs (λ i s. ((λ e. absurd (z e)), s)) y))
 
 -- ---- all blocks
 
@@ -146,11 +115,13 @@ blocks-alike L t (k ∷ ks) (c ∷ cs) ls ms ws vs f e w v y =
     let segments : List Segment = segmentsOf (take c ls) (take c ms) in
     let ws₁ : List ℕ = codeBlock t k c segments ws .words in
     let vs₁ : List ℕ = codeBlock t k c segments vs .words in
-    let a = block-alike L (OffNewLows ws ks) (λ i h. off-new-wide L ws ks i (f .1) h) k P t ws vs w v y c segments in
+    let wide : (i : ℕ) → NoLow L i → OffNewLows ws ks i = λ i h. off-new-wide L ws ks i (f .1) h in
+    let a = block-alike L (OffNewLows ws ks) (λ i h. wide i (shared-no-low L i h)) k P c segments t t ws vs
+    (inclusion-alike L (OffNewLows ws ks) wide k P t ws vs w v y c) in
     let same = coding-keeps-passes L ws ws₁ k c ks (block-coded L k P c t segments ws (w .long)) (f .0 .1) (f .1) in
     blocks-alike L t ks cs (drop c ls) (drop c ms) ws₁ vs₁ (f .1) (omega arith) (block-tidied L k P t c segments ws w)
     (block-tidied L k P t c segments vs v)
-    (record { long = a .long; words = λ i o. a .words i (on-new-before (OffLow i) ws ws₁ ks same o) })
+    (alike-at (OffNewLows ws ks) (OffNewLows ws₁ ks) ws₁ vs₁ (λ i. on-new-before (OffLow i) ws ws₁ ks same) a)
 
 -- ---- a packet with passes
 
@@ -175,10 +146,8 @@ module _ (bs : List Band) (s t : ℕ) (ws vs : List ℕ) (y : Ahead bs s t ws vs
       let us : List ℕ = setNewBlocks t ks cs ws in
       let ys : List ℕ = setNewBlocks t ks cs vs in
       let a = new-blocks-alike L (OffNewLows ws ks) (λ i h. off-new-wide L ws ks i f h) t ks cs ws vs f (y .alike) in
-      let b : Alike (OffNewLows us ks) us ys = record {
-        long = a .long;
-        words = λ i o. a .words i (on-new-before (OffLow i) ws us ks (setting-keeps-passes L t ks cs ws f) o);
-      } in
+      let b = alike-at (OffNewLows ws ks) (OffNewLows us ks) us ys
+      (λ i. on-new-before (OffLow i) ws us ks (setting-keeps-passes L t ks cs ws f (y .rule .between))) a in
       let c = blocks-alike L t ks cs (p .lengths) (p .marks) us ys f e (new-blocks-tidied L t ks cs ws f l (y .rule .between))
       (new-blocks-tidied L t ks cs vs f l (y .present .between)) b in
       ext-getD 0 (headerBlocks t ks p ws .words) (headerBlocks t ks p vs .words) (c .long) (λ i h. c .words i tt)
@@ -213,7 +182,7 @@ unfolding codeBlock
 absent-stays t k c segments ws i z o =
     ap (λ (x : Coded). getD (x .words) i 0) (if-eq c 0 (codeInclusion t k c ws) _ z)
     ∙ on-eq (passesSoFar ws (k .at)) 0
-    (λ n. ap (λ (x : List ℕ). getD x i 0) (new-inclusion t k c ws n)
+    (λ n. ap (λ (x : Coded). getD (x .words) i 0) (new-inclusion t k c ws n)
     ∙ off-lows-stay (k .inclTree) (t + 1) (reverse (k .path)) 0 ws i (o n))
     (λ n. ap (λ (x : List ℕ). getD x i 0) (old-inclusion t k c ws n))
 
@@ -233,17 +202,6 @@ none-stays L t (k ∷ ks) (c ∷ cs) ls ms ws i f l h o =
     (on-new-after (OffLow i) ws vs ks (coding-keeps-passes L ws vs k c ks b (f .0 .1) (f .1)) (o .1))
     ∙ absent-stays t k c segments ws i z (o .0)
 
-alike-passes : (L : Layout) (S : ℕ → Type 0) → ((i : ℕ) → NoLow L i → S i) → (ks : List Block) (ws vs : List ℕ) → AllPlaced L ks
-    → Alike S ws vs → SamePasses ws vs ks
-alike-passes L S wide [] ws vs f y = tt
-alike-passes L S wide (k ∷ ks) ws vs f y = (sym (passes-same L S wide k (f .0 .0) ws vs y), alike-passes L S wide ks ws vs (f .1) y)
-
-layer-keeps-passes : (L : Layout) (v : ℕ) (ks : List Block) (ws : List ℕ) → AllPlaced L ks → SamePasses ws (set ws 3 v) ks
-layer-keeps-passes L v [] ws f = tt
-layer-keeps-passes L v (k ∷ ks) ws f =
-    let h = L .block-in (k .at) (f .0 .0 .block) .0 in
-    (getD-set-other ws 3 (k .at) v 0 (omega arith), layer-keeps-passes L v ks ws (f .1))
-
 module _ (bs : List Band) (s t : ℕ) (ws vs : List ℕ) (y : Ahead bs s t ws vs) (p : Contribution)
     (e : length (p .counts) ≡ length (blocks bs)) (l : t < notYetIncluded) where
   without-passes : contributes p ≡ false → Alike (OffNewLows (set ws 3 (t + 1)) (blocks bs)) (set ws 3 (t + 1)) (codePresent p vs .words)
@@ -258,26 +216,23 @@ module _ (bs : List Band) (s t : ℕ) (ws vs : List ℕ) (y : Ahead bs s t ws vs
       ap (λ (z : List ℕ). codeBlocks t ks (p .counts) (p .lengths) (p .marks) z .words) (none-set t ks (p .counts) vs h) in
       let long : length ws ≡ length us = y .alike .long
       ∙ sym (blocks-coded L t ks (p .counts) (p .lengths) (p .marks) vs f vl .long) ∙ ap length (sym none) in
-      let same = alike-passes L (OffNewLows ws ks) (λ i n. off-new-wide L ws ks i f n) ks ws vs f (y .alike) in
+      let wide : (i : ℕ) → Shared L i → OffNewLows ws ks i = λ i h. off-new-wide L ws ks i f (shared-no-low L i h) in
+      let same = blocks-keep-passes L ws vs ks f (λ q b. sym (passes-same L (OffNewLows ws ks) wide ws vs (y .alike) q b)) in
+      let later = blocks-keep-passes L ws (set ws 3 (t + 1)) ks f (layer-off-passes L ws (set ws 3 (t + 1)) (layer-set ws (t + 1))) in
       let words : (i : ℕ) → OffNewLows ws ks i → getD ws i 0 ≡ getD us i 0 =
       λ i o. y .alike .words i o
       ∙ sym (none-stays L t ks (p .counts) (p .lengths) (p .marks) vs i f vl h (on-new-after (OffLow i) ws vs ks same o))
       ∙ ap (λ (z : List ℕ). getD z i 0) (sym none) in
       let a = set-alike (OffNewLows ws ks) ws us 3 (t + 1) (record { long = long; words = words }) in
       subst (Alike (OffNewLows (set ws 3 (t + 1)) ks) (set ws 3 (t + 1))) (sym (present-is bs s t vs (y .present) p))
-      (record {
-        long = a .long;
-        words = λ i o. a .words i (on-new-before (OffLow i) ws (set ws 3 (t + 1)) ks (layer-keeps-passes L (t + 1) ks ws f) o);
-      })
+      (alike-at (OffNewLows ws ks) (OffNewLows (set ws 3 (t + 1)) ks) _ _ (λ i. on-new-before (OffLow i) ws (set ws 3 (t + 1)) ks later) a)
 
   next-alike : Alike (OffNewLows (codeHeader p ws .words) (blocks bs)) (codeHeader p ws .words) (codePresent p vs .words)
   next-alike = go (contributes p) refl
     where
       go : (b : Bool) → contributes p ≡ b
           → Alike (OffNewLows (codeHeader p ws .words) (blocks bs)) (codeHeader p ws .words) (codePresent p vs .words)
-      go true h =
-          let q = with-passes bs s t ws vs y p e l h in
-          record { long = ap length q; words = λ i o. ap (λ (z : List ℕ). getD z i 0) q }
+      go true h = same-alike _ _ _ (with-passes bs s t ws vs y p e l h)
       go false h =
           let q : codeHeader p ws .words ≡ set ws 3 (t + 1) =
           ap (λ (x : Coded). x .words) (absent-header p ws h) ∙ absent-is bs s t ws (y .rule) in
@@ -309,4 +264,4 @@ state-as-if-present count given style planes lent started before p a h =
     let y = reached-started count given style planes lent started in
     let ws : List ℕ = startedState count given style planes lent in
     same-behind (take count given) style 0 ws ws before p
-    (record { rule = y; present = y; alike = record { long = refl; words = λ i o. refl } }) a h
+    (record { rule = y; present = y; alike = same-alike _ ws ws refl }) a h

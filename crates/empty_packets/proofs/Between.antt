@@ -1,7 +1,7 @@
 -- The inclusion trees between packets: each node is told or open, whatever packets came, and the values are in order.
-use mathlib.Core.Path.{_≡_, refl, sym, ap, _∙_, subst}
+use mathlib.Core.Path.{_≡_, refl, sym, ap, _∙_, subst, subst₂}
 use mathlib.Core.Logic.{_≢_, _⊎_, inl, inr}
-use mathlib.Core.Bool.{true, false, not}
+use mathlib.Core.Bool.{not}
 use mathlib.Core.List.{List, [], _∷_}
 use Prim.Native.Nat.{ℕ, _+_, _≤_, _<_}
 use native.Mathlib.Nat.{le-trans, le-of-eq}
@@ -13,29 +13,32 @@ use borrow.Author.Tests.{eqb-false}
 use Rattle.t800.specs.declared.Band.{Band}
 use Rattle.t800.specs.TagTree.{Coded, value, low, known}
 use Rattle.t800.specs.Segments.{Segment, segmentsOf}
-use Rattle.t800.specs.State.{Block, notYetIncluded, writer, blocks, bands, layer}
+use Rattle.t800.specs.State.{Block, notYetIncluded, writer, blocks, bands, layer, passesSoFar}
 use Rattle.t800.specs.Ranges.{validState}
 use Rattle.t800.specs.Start.{freshState, setZeroPlanes}
 use Rattle.t800.specs.WriteHeader.{Contribution, setNewBlocks, codeBlock, codeBlocks, contributes, codePresent, codeAbsent, codeHeader}
 use Rattle.t800.specs.Packet.{wrongLists, measureRefusal, measureRefusalWith}
-use Rattle.t800_laws.proofs.Laws.Tests.{not-refused, if-true, if-false, if-lt, if-ge, either}
+use Rattle.t800_laws.proofs.Laws.Tests.{not-refused, if-lt, if-ge, either}
 use Rattle.t800_laws.proofs.Laws.Lists.{lists-right}
-use Rattle.t800_laws.proofs.Laws.Layout.{inclusion, zeroPlanes, Layout, AllPlaced, layoutOf, blocks-placed, end-after}
+use Rattle.t800_laws.proofs.Laws.Layout.{Tree, inclusion, zeroPlanes, Layout, AllPlaced, layoutOf, blocks-placed, end-after}
 use Rattle.t800_laws.proofs.Laws.FirstWords.{FirstWords, next-layer}
 use Rattle.t800_laws.proofs.Laws.FreshState.{fresh-length, fresh-node}
 use Rattle.t800_laws.proofs.Laws.SetLeaf.{Ordered}
+use Rattle.t800_laws.proofs.Laws.Kept.{Kept}
+use Rattle.t800_laws.proofs.Laws.HeaderKept.{header-coded}
 use Rattle.t800_laws.proofs.Laws.Accepted.{start-accepted}
 use Rattle.round_trip.proofs.Trip.Nodes.{Node, node}
 use Rattle.round_trip.proofs.Trip.NodeWords.{nodeAt}
-use Rattle.round_trip.proofs.Trip.Changes.{nodes-only, first-stays, low-stays, known-stays, block-coded, blocks-coded}
-use Rattle.round_trip.proofs.Trip.SetLeaves.{new-blocks-set, planes-set}
+use Rattle.round_trip.proofs.Trip.Trees.{ordered-same}
+use Rattle.round_trip.proofs.Trip.Changes.{low-stays, known-stays, block-coded}
+use Rattle.round_trip.proofs.Trip.SetLeaves.{LeavesSet, new-blocks-set, planes-set}
 use Rattle.round_trip.proofs.Trip.WriterState.{headerBlocks}
 use Rattle.round_trip.proofs.Trip.WriterInRange.{writer-after-start}
 use Rattle.round_trip.proofs.Trip.Start.{started-in-step}
 use Rattle.empty_packets.specs.LaterPackets.{Accepted, stateBehind, Started, startedState}
 use Rattle.empty_packets.proofs.Settled.{Tidy, settled, Tidied, settled-or-same, block-tidied}
-use Rattle.empty_packets.proofs.NewBlocks.{AllOnNew, on-new-before, coding-keeps-passes, new-blocks-only}
-use Rattle.empty_packets.proofs.NewBlocks.{setting-keeps-passes, every-word-set, off-new-stays}
+use Rattle.empty_packets.proofs.NewBlocks.{AllOnNew, SamePasses, on-new-before, values-keep-passes}
+use Rattle.empty_packets.proofs.NewBlocks.{coding-keeps-passes, every-word-set, off-new-stays}
 
 -- with next layer t: its value is known, and lies below t
 pub record Told (t : ℕ) (n : Node) : Type 0 where
@@ -49,38 +52,52 @@ pub record Open (t : ℕ) (n : Node) : Type 0 where
   pub not-known : n .known ≡ 0
   pub low-in : n .low ≤ t
 
-pub record Between (L : Layout) (t : ℕ) (ws : List ℕ) : Type 0 where
-  pub long : length ws ≡ L .size
-  pub order : Ordered L ws
-  pub nodes : (a : ℕ) → L .Node inclusion a → Told t (nodeAt ws a) ⊎ Open t (nodeAt ws a)
-
 abbrev pub ToldOrOpen : (t : ℕ) → Node → Type 0
 ToldOrOpen t n = Told t n ⊎ Open t n
 
+pub record Between (L : Layout) (t : ℕ) (ws : List ℕ) : Type 0 where
+  pub long : length ws ≡ L .size
+  pub order : Ordered L ws
+  pub nodes : (a : ℕ) → L .Node inclusion a → ToldOrOpen t (nodeAt ws a)
+
 -- ---- the next layer moves
 
-pub still-told-or-open : (t : ℕ) (n : Node) → ToldOrOpen t n → ToldOrOpen (t + 1) n
+still-told-or-open : (t : ℕ) (n : Node) → ToldOrOpen t n → ToldOrOpen (t + 1) n
 still-told-or-open t n (inl h) =
     inl (record { is-known = h .is-known; at-value = h .at-value; before-now = le-trans (h .before-now) (omega arith) })
 still-told-or-open t n (inr h) =
     inr (record { no-value = h .no-value; not-known = h .not-known; low-in = le-trans (h .low-in) (omega arith) })
 
-pub between-later : (L : Layout) (t : ℕ) (ws : List ℕ) → Between L t ws → Between L (t + 1) ws
+between-later : (L : Layout) (t : ℕ) (ws : List ℕ) → Between L t ws → Between L (t + 1) ws
 between-later L t ws y =
     record { long = y .long; order = y .order; nodes = λ a n. still-told-or-open t (nodeAt ws a) (y .nodes a n) }
 
--- word 3, the layer, is no node's
-pub between-layer-word : (L : Layout) (t v : ℕ) (ws : List ℕ) → Between L t ws → Between L t (set ws 3 v)
-between-layer-word L t v ws y =
-    let w : (i : ℕ) → 13 ≤ i → getD (set ws 3 v) i 0 ≡ getD ws i 0 = λ i h. getD-set-other ws 3 i v 0 (omega arith) in
+-- nothing but the layer, word 3, changes
+abbrev pub LayerOnly : List ℕ → List ℕ → Type 0
+LayerOnly ws vs = (length vs ≡ length ws) × ((i : ℕ) → i ≢ 3 → getD vs i 0 ≡ getD ws i 0)
+
+pub layer-set : (ws : List ℕ) (x : ℕ) → LayerOnly ws (set ws 3 x)
+layer-set ws x = (length-set ws 3 x, λ i e. getD-set-other ws 3 i x 0 e)
+
+module _ (L : Layout) (ws vs : List ℕ) (o : LayerOnly ws vs) where
+  pub layer-off-nodes : (u : Tree) (a : ℕ) → L .Node u a → nodeAt vs a ≡ nodeAt ws a
+  layer-off-nodes u a n =
+      let h = L .node-in u a n .0 in
+      λ i. node (o .1 a (omega arith) i) (o .1 (a + 1) (omega arith) i) (o .1 (a + 2) (omega arith) i)
+
+  pub layer-off-passes : (p : ℕ) → L .BlockAt p → passesSoFar vs p ≡ passesSoFar ws p
+  layer-off-passes p b = let h = L .block-in p b .0 in o .1 p (omega arith)
+
+  pub layer-keeps-order : Ordered L ws → Ordered L vs
+  layer-keeps-order = ordered-same L ws vs (λ u a n. ap (λ (m : Node). m .value) (layer-off-nodes u a n))
+
+between-layer-set : (L : Layout) (t x : ℕ) (ws : List ℕ) → Between L t ws → Between L t (set ws 3 x)
+between-layer-set L t x ws y =
+    let o = layer-set ws x in
     record {
-      long = length-set ws 3 v ∙ y .long;
-      order = λ u a n. le-trans (le-of-eq (w (L .parent a) (L .node-in u (L .parent a) (L .parent-node u a n) .0)))
-          (le-trans (y .order u a n) (le-of-eq (sym (w a (L .node-in u a n .0)))));
-      nodes = λ a n. let h = L .node-in inclusion a n .0 in
-          let e : nodeAt ws a ≡ nodeAt (set ws 3 v) a =
-          λ i. node (sym (w a h) i) (sym (w (a + 1) (omega arith)) i) (sym (w (a + 2) (omega arith)) i) in
-          subst (ToldOrOpen t) e (y .nodes a n);
+      long = o .0 ∙ y .long;
+      order = layer-keeps-order L ws (set ws 3 x) o (y .order);
+      nodes = λ a n. subst (ToldOrOpen t) (sym (layer-off-nodes L ws (set ws 3 x) o inclusion a n)) (y .nodes a n);
     }
 
 -- ---- a packet is coded in layer t
@@ -95,11 +112,11 @@ record During (L : Layout) (t : ℕ) (ks : List Block) (ws : List ℕ) : Type 0 
   values : (a : ℕ) → L .Node inclusion a → Value t (value ws a)
   done : (a : ℕ) → L .Node inclusion a → AllOnNew (λ b. a ≢ b) ws ks → ToldOrOpen (t + 1) (nodeAt ws a)
 
-pub low-in-layer : (t : ℕ) (n : Node) → ToldOrOpen t n → n .low ≤ t
+low-in-layer : (t : ℕ) (n : Node) → ToldOrOpen t n → n .low ≤ t
 low-in-layer t n (inl h) = omega (arith, h .at-value, h .before-now)
 low-in-layer t n (inr h) = h .low-in
 
-pub between-tidy : (t : ℕ) (n : Node) → t < notYetIncluded → ToldOrOpen t n → Tidy t n
+between-tidy : (t : ℕ) (n : Node) → t < notYetIncluded → ToldOrOpen t n → Tidy t n
 between-tidy t n l (inl h) =
     record {
       low-value = le-of-eq (h .at-value);
@@ -129,11 +146,21 @@ settled-done t v l (inl h) =
 settled-done t v l (inr h) =
     inr (record { no-value = h; not-known = if-ge v (t + 1) 1 0 (omega arith); low-in = omega arith })
 
+new-blocks-leaves : (L : Layout) (t : ℕ) (ks : List Block) (cs ws : List ℕ) → AllPlaced L ks → Between L t ws
+    → LeavesSet L inclusion ws (setNewBlocks t ks cs ws) ks
+new-blocks-leaves L t ks cs ws f y =
+    new-blocks-set L t ks cs ws f (y .long) (λ a n. low-in-layer t (nodeAt ws a) (y .nodes a n)) .0
+
+pub setting-keeps-passes : (L : Layout) (t : ℕ) (ks : List Block) (cs ws : List ℕ) → AllPlaced L ks → Between L t ws
+    → SamePasses ws (setNewBlocks t ks cs ws) ks
+setting-keeps-passes L t ks cs ws f y =
+    values-keep-passes L ws (setNewBlocks t ks cs ws) ks f (new-blocks-leaves L t ks cs ws f y .only)
+
 during-set : (L : Layout) (t : ℕ) (ks : List Block) (cs ws : List ℕ) → AllPlaced L ks → t < notYetIncluded → Between L t ws
     → During L t ks (setNewBlocks t ks cs ws)
 during-set L t ks cs ws f l y =
     let us : List ℕ = setNewBlocks t ks cs ws in
-    let s = new-blocks-set L t ks cs ws f (y .long) (λ a n. low-in-layer t (nodeAt ws a) (y .nodes a n)) .0 in
+    let s = new-blocks-leaves L t ks cs ws f y in
     let lo : (a : ℕ) → L .Node inclusion a → low us a ≡ low ws a = low-stays L inclusion ws us (s .only) inclusion in
     let kn : (a : ℕ) → L .Node inclusion a → known us a ≡ known ws a = known-stays L inclusion ws us (s .only) inclusion in
     record {
@@ -147,8 +174,7 @@ during-set L t ks cs ws f l y =
             (between-tidy t (nodeAt ws a) l (y .nodes a n)));
       };
       values = λ a n. every-word-set (Value t) t ks cs ws a (λ _. inl (omega arith)) (value-of t (nodeAt ws a) (y .nodes a n));
-      done = λ a n o. let before = on-new-before (λ b. a ≢ b) ws us ks
-          (setting-keeps-passes L t ks cs ws f) o in
+      done = λ a n o. let before = on-new-before (λ b. a ≢ b) ws us ks (setting-keeps-passes L t ks cs ws f y) o in
           let v : value us a ≡ value ws a = off-new-stays L t ks cs ws a f before in
           let e : nodeAt ws a ≡ nodeAt us a = λ i. node (sym v i) (sym (lo a n) i) (sym (kn a n) i) in
           subst (ToldOrOpen (t + 1)) e (still-told-or-open t (nodeAt ws a) (y .nodes a n));
@@ -183,7 +209,7 @@ during-blocks L t (k ∷ ks) (c ∷ cs) ls ms ws f e l y =
     during-blocks L t ks cs (drop c ls) (drop c ms) (codeBlock t k c segments ws .words) (f .1) (omega arith) l
     (during-block L t k ks c segments ws f l y)
 
-pub between-coded : (L : Layout) (t : ℕ) (ks : List Block) (p : Contribution) (ws : List ℕ) → AllPlaced L ks
+between-coded : (L : Layout) (t : ℕ) (ks : List Block) (p : Contribution) (ws : List ℕ) → AllPlaced L ks
     → length (p .counts) ≡ length ks → t < notYetIncluded → Between L t ws
     → Between L (t + 1) (headerBlocks t ks p ws .words)
 between-coded L t ks p ws f e l y =
@@ -193,7 +219,7 @@ between-coded L t ks p ws f e l y =
 
 -- ---- a started writer
 
-pub between-started : (bs : List Band) (s : ℕ) (planes : List ℕ)
+between-started : (bs : List Band) (s : ℕ) (planes : List ℕ)
     → Between (layoutOf bs) 0 (setZeroPlanes (blocks bs) planes (freshState 1 s bs))
 between-started bs s planes =
     let L : Layout = layoutOf bs in
@@ -245,12 +271,12 @@ module _ (bs : List Band) (s t : ℕ) (ws : List ℕ) (y : Reached bs s t ws) wh
       record {
         first-words = next-layer 1 bs s t (t + 1) ws vs (long-enough vs b) e (y .first-words);
         layers = omega (arith, l);
-        between = between-layer-word (layoutOf bs) (t + 1) (t + 1) vs b;
+        between = between-layer-set (layoutOf bs) (t + 1) (t + 1) vs b;
       }
 
   pub absent-is : codeAbsent ws .words ≡ set ws 3 (t + 1)
   unfolding codeAbsent
-  absent-is = ap (λ (z : ℕ). set ws 3 (z + 1)) (y .first-words .layer-is)
+  absent-is = rw (y .first-words .layer-is)
 
   pub reached-absent : t < notYetIncluded → Reached bs s (t + 1) (codeAbsent ws .words)
   reached-absent l =
@@ -260,21 +286,20 @@ module _ (bs : List Band) (s t : ℕ) (ws : List ℕ) (y : Reached bs s t ws) wh
   unfolding codePresent
   present-is p = rw (y .first-words .layer-is, reached-blocks)
 
-  -- the first words stay
-  pub first-words-stay : (p : Contribution) (j : ℕ) → j < 13 → getD (headerBlocks t (blocks bs) p ws .words) j 0 ≡ getD ws j 0
-  first-words-stay p j h =
-      let L : Layout = layoutOf bs in
-      let f = blocks-placed bs in
-      let us : List ℕ = setNewBlocks t (blocks bs) (p .counts) ws in
-      let o = new-blocks-only L t (blocks bs) (p .counts) ws f in
-      blocks-coded L t (blocks bs) (p .counts) (p .lengths) (p .marks) us f (o .long ∙ y .between .long) .first j h
-      ∙ first-stays L ws us (nodes-only L inclusion ws us o) j h
+  pub present-bits-are : (p : Contribution) → codePresent p ws .bits ≡ 1 ∷ headerBlocks t (blocks bs) p ws .bits
+  unfolding codePresent
+  present-bits-are p = rw (y .first-words .layer-is, reached-blocks)
+
+  header-kept : (p : Contribution) → Kept 13 ws (headerBlocks t (blocks bs) p ws .words)
+  header-kept p =
+      subst₂ (λ (n : ℕ) (ks : List Block). Kept 13 ws (headerBlocks n ks p ws .words)) (y .first-words .layer-is) reached-blocks
+      (header-coded p ws)
 
   pub reached-present : (p : Contribution) → length (p .counts) ≡ length (blocks bs) → t < notYetIncluded
       → Reached bs s (t + 1) (codePresent p ws .words)
   reached-present p e l =
       subst (Reached bs s (t + 1)) (sym (present-is p))
-      (next (headerBlocks t (blocks bs) p ws .words) l (first-words-stay p)
+      (next (headerBlocks t (blocks bs) p ws .words) l (header-kept p .same)
       (between-coded (layoutOf bs) t (blocks bs) p ws (blocks-placed bs) e l (y .between)))
 
   pub reached-header : (p : Contribution) → length (p .counts) ≡ length (blocks bs) → t < notYetIncluded

@@ -1,5 +1,5 @@
--- The premises of the statements can be met, and a last packet with passes is needed, by computing on one block: behind a packet without
--- passes the two states differ, and behind one more with a pass they are the same.
+-- One block, by computing: the premises of both statements can be met. Behind a packet without passes the state is another than of packets
+-- all coded block by block, and the first header with passes behind it is another than without it.
 use mathlib.Core.Path.{_≡_, refl, ap}
 use mathlib.Core.Logic.{_≢_}
 use mathlib.Core.Bool.{true, false}
@@ -8,10 +8,13 @@ use Prim.Native.Nat.{ℕ}
 use native.Mathlib.Omega.{arith}
 use lib.ListN.{getD, replicate}
 use Rattle.t800.specs.declared.Band.{Band}
+use Rattle.t800.specs.Base.{any}
+use Rattle.t800.specs.Bits.{pack}
 use Rattle.t800.specs.WriteHeader.{Contribution, contribution, contributes}
 use Rattle.t800.proofs.Table.{rowHolds}
-use Rattle.empty_packets.specs.LaterPackets.{Accepted, stateBehind, stateBehindPresent, Started, startedState}
+use Rattle.empty_packets.specs.LaterPackets.{Accepted, headers, stateBehind, stateBehindPresent, Started, startedState, ChangesAtMost}
 use Rattle.empty_packets.proofs.Behind.{state-as-if-present}
+use Rattle.empty_packets.proofs.Insertion.{insertion-changes-at-most}
 
 -- one band of one block and 5 planes, style 0
 abbrev given : List Band
@@ -27,28 +30,66 @@ started : Started 1 given 0 (5 ∷ []) lent
 unfolding rowHolds
 started = refl
 
--- without passes, and with one pass of 5 bytes
-abbrev without : Contribution
-without = contribution (0 ∷ []) [] []
+-- no passes, one of 5 bytes, and one of 3
+abbrev none : Contribution
+none = contribution (0 ∷ []) [] []
 
-abbrev with : Contribution
-with = contribution (1 ∷ []) (5 ∷ []) (0 ∷ [])
+abbrev first : Contribution
+first = contribution (1 ∷ []) (5 ∷ []) (0 ∷ [])
 
-premises-met : Accepted state (without ∷ with ∷ []) × (contributes with ≡ true) × (contributes without ≡ false)
-unfolding Accepted rowHolds
-premises-met = ((refl, (refl, tt)), refl, refl)
+abbrev second : Contribution
+second = contribution (1 ∷ []) (3 ∷ []) (0 ∷ [])
+
+accepted-with : Accepted state (none ∷ first ∷ second ∷ [])
+unfolding rowHolds Accepted
+accepted-with = (refl, (refl, (refl, tt)))
+
+accepted-without : Accepted state (first ∷ second ∷ [])
+unfolding rowHolds Accepted
+accepted-without = (refl, (refl, tt))
+
+first-contributes : (contributes none ≡ false) × (contributes first ≡ true)
+unfolding contributes any
+first-contributes = (refl, refl)
+
+-- ---- the state behind a packet
+
+same-state : stateBehind state (none ∷ first ∷ []) ≡ stateBehindPresent state (none ∷ first ∷ [])
+unfolding Accepted
+same-state =
+    state-as-if-present 1 given 0 (5 ∷ []) lent started (none ∷ []) first (accepted-with .0, (accepted-with .1 .0, tt))
+    (first-contributes .1)
+
+-- layer 2, the inclusion node told with value 1, the zero-plane node with value 0, the block with one pass and 3 length bits
+state-computed : (stateBehind state (none ∷ first ∷ []) ≡ stateBehindPresent state (none ∷ first ∷ []))
+    × (stateBehind state (none ∷ first ∷ [])
+    ≡ 1 ∷ 1 ∷ 0 ∷ 2 ∷ 1 ∷ 1 ∷ 5 ∷ 0 ∷ 0 ∷ 0 ∷ 0 ∷ 0 ∷ 0 ∷ 1 ∷ 1 ∷ 1 ∷ 0 ∷ 0 ∷ 1 ∷ 1 ∷ 3 ∷ 0 ∷ 0 ∷ [])
+unfolding stateBehind stateBehindPresent rowHolds
+state-computed = (refl, refl)
 
 -- the low of the inclusion tree's only node stays 0 by the rule, and is 1 if the packet is coded block by block
-states-differ : stateBehind state (without ∷ []) ≢ stateBehindPresent state (without ∷ [])
+states-differ : stateBehind state (none ∷ []) ≢ stateBehindPresent state (none ∷ [])
 unfolding stateBehind stateBehindPresent rowHolds
 states-differ e = let z : _≡_ {A = ℕ} 0 1 = ap (λ (ws : List ℕ). getD ws 14 0) e in absurd (omega arith)
 
-applies : stateBehind state (without ∷ with ∷ []) ≡ stateBehindPresent state (without ∷ with ∷ [])
-applies = state-as-if-present 1 given 0 (5 ∷ []) lent started (without ∷ []) with (premises-met .0) (premises-met .1)
+-- ---- a packet put in
 
--- the same by computing: layer 2, the node told with value 1, the block with one pass and 3 length bits
-computed : (stateBehind state (without ∷ with ∷ []) ≡ stateBehindPresent state (without ∷ with ∷ []))
-    × (stateBehind state (without ∷ with ∷ [])
-    ≡ 1 ∷ 1 ∷ 0 ∷ 2 ∷ 1 ∷ 1 ∷ 5 ∷ 0 ∷ 0 ∷ 0 ∷ 0 ∷ 0 ∷ 0 ∷ 1 ∷ 1 ∷ 1 ∷ 0 ∷ 0 ∷ 1 ∷ 1 ∷ 3 ∷ 0 ∷ 0 ∷ [])
-unfolding stateBehind stateBehindPresent rowHolds
-computed = (refl, refl)
+changes : ChangesAtMost state none [] first (second ∷ [])
+unfolding any stateBehind
+changes =
+    insertion-changes-at-most 1 given 0 (5 ∷ []) lent started [] none [] first (second ∷ []) accepted-with
+    (first-contributes .0) refl (first-contributes .1)
+
+headers-without : headers state (first ∷ second ∷ []) ≡ (1 ∷ 1 ∷ 1 ∷ 0 ∷ 0 ∷ 1 ∷ 0 ∷ 1 ∷ []) ∷ (1 ∷ 1 ∷ 0 ∷ 0 ∷ 0 ∷ 1 ∷ 1 ∷ []) ∷ []
+unfolding rowHolds headers
+headers-without = refl
+
+headers-with : headers state (none ∷ first ∷ second ∷ [])
+    ≡ (0 ∷ []) ∷ (1 ∷ 0 ∷ 1 ∷ 1 ∷ 0 ∷ 0 ∷ 1 ∷ 0 ∷ 1 ∷ []) ∷ (1 ∷ 1 ∷ 0 ∷ 0 ∷ 0 ∷ 1 ∷ 1 ∷ []) ∷ []
+unfolding rowHolds headers
+headers-with = refl
+
+-- the first header with passes is E5, and B2 80 behind the packet without passes
+as-bytes : (pack (1 ∷ 1 ∷ 1 ∷ 0 ∷ 0 ∷ 1 ∷ 0 ∷ 1 ∷ []) ≡ 0xe5 ∷ []) × (pack (1 ∷ 0 ∷ 1 ∷ 1 ∷ 0 ∷ 0 ∷ 1 ∷ 0 ∷ 1 ∷ []) ≡ 0xb2 ∷ 0x80 ∷ [])
+unfolding rowHolds
+as-bytes = (refl, refl)

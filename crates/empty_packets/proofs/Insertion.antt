@@ -1,7 +1,7 @@
 -- A packet without passes put in a list: the headers of the packets behind it stay but for the next one with passes, of which the inclusion
 -- trees' bits may change.
 use mathlib.Core.Path.{_≡_, refl, sym, ap, ap₂, _∙_, subst, subst₂}
-use mathlib.Core.Logic.{_⊎_, inl, inr}
+use mathlib.Core.Logic.{inl, inr}
 use mathlib.Core.Bool.{true, false}
 use mathlib.Core.List.{List, [], _∷_, _++_, append-assoc}
 use Prim.Native.Nat.{ℕ, _+_, _≤_, _<_}
@@ -22,22 +22,23 @@ use Rattle.round_trip.proofs.Trip.NodeWords.{nodeAt}
 use Rattle.round_trip.proofs.Trip.WriterState.{headerBlocks}
 use Rattle.empty_packets.specs.LaterPackets.{Accepted, headers, stateBehind, blockBitsFrom, blockBits, joined, othersOf}
 use Rattle.empty_packets.specs.LaterPackets.{startedState, ChangesAtMost, InsertionChangesAtMost}
-use Rattle.empty_packets.proofs.Between.{Told, Open, Reached, reached-started, reached-blocks, absent-is, reached-absent, present-is}
-use Rattle.empty_packets.proofs.Between.{reached-header, accepted-here, reached-list}
-use Rattle.empty_packets.proofs.Alike.{both-branches}
+use Rattle.empty_packets.proofs.Between.{ToldOrOpen, layer-set, Reached, reached-started, reached-blocks, absent-is, reached-absent}
+use Rattle.empty_packets.proofs.Between.{present-is, present-bits-are, reached-header, accepted-here, reached-list}
+use Rattle.empty_packets.proofs.BlockParts.{blocks-joined}
+use Rattle.empty_packets.proofs.Alike.{same-alike, both-branches}
 use Rattle.empty_packets.proofs.ShiftedNodes.{neither, Shifted, same, fresh}
-use Rattle.empty_packets.proofs.ShiftedStates.{Shift, Step, step-then, layer-set, layer-step}
-use Rattle.empty_packets.proofs.ShiftedBlocks.{BlocksNotFresh, not-fresh-kept, blocks-joined, blocks-step}
+use Rattle.empty_packets.proofs.ShiftedStates.{Shift, Step, step-then, layer-step}
+use Rattle.empty_packets.proofs.ShiftedBlocks.{BlocksNotFresh, not-fresh-kept, blocks-step}
 use Rattle.empty_packets.proofs.ShiftedBlocks.{blocks-not-fresh, blocks-bits, blocks-others, new-blocks-step}
 
 -- ---- lists of packets
 
-pub behind-append : (ws : List ℕ) (ps qs : List Contribution) → stateBehind ws (ps ++ qs) ≡ stateBehind (stateBehind ws ps) qs
+behind-append : (ws : List ℕ) (ps qs : List Contribution) → stateBehind ws (ps ++ qs) ≡ stateBehind (stateBehind ws ps) qs
 unfolding stateBehind
 behind-append ws [] qs = refl
 behind-append ws (p ∷ ps) qs = behind-append (codeHeader p ws .words) ps qs
 
-pub accepted-append : (ws : List ℕ) (ps qs : List Contribution) → Accepted ws (ps ++ qs) → Accepted ws ps × Accepted (stateBehind ws ps) qs
+accepted-append : (ws : List ℕ) (ps qs : List Contribution) → Accepted ws (ps ++ qs) → Accepted ws ps × Accepted (stateBehind ws ps) qs
 unfolding Accepted stateBehind
 accepted-append ws [] qs a = (tt, a)
 accepted-append ws (p ∷ ps) qs a = let r = accepted-append (codeHeader p ws .words) ps qs (a .1) in ((a .0, r .0), r .1)
@@ -73,7 +74,7 @@ record OnePacketApart (bs : List Band) (s t n : ℕ) (ws vs : List ℕ) : Type 0
   since : t ≤ n
 
 -- where it is put in
-told-or-open : (t : ℕ) (n : Node) → t ≤ notYetIncluded → Told t n ⊎ Open t n → Shifted t true n n
+told-or-open : (t : ℕ) (n : Node) → t ≤ notYetIncluded → ToldOrOpen t n → Shifted t true n n
 told-or-open t n h (inl w) = same (w .before-now) (le-of-eq (sym (w .at-value))) (omega (arith, w .at-value, w .before-now)) (w .is-known)
     refl refl (w .is-known)
 told-or-open t n h (inr w) = fresh refl (neither (omega (arith, w .no-value)) (w .no-value) (w .no-value)) refl (w .low-in) refl
@@ -84,9 +85,8 @@ module _ (bs : List Band) (s t : ℕ) (ws : List ℕ) (y : Reached bs s t ws) wh
       let L : Layout = layoutOf bs in
       let here : Shift L t ws ws = record {
         long = y .between .long;
-        other-long = y .between .long;
         order = y .between .order;
-        agree = λ i h. refl;
+        agree = same-alike _ ws ws refl;
         nodes = λ a n. told-or-open t (nodeAt ws a) (y .layers) (y .between .nodes a n);
       } in
       let absent : codeHeader e ws .words ≡ codeAbsent ws .words = ap (λ (x : Coded). x .words) (absent-header e ws none) in
@@ -138,17 +138,13 @@ module _ (bs : List Band) (s t n : ℕ) (ws vs : List ℕ) (x : OnePacketApart b
         not-fresh-kept L t _ _ _ _ ks (blocks-placed bs) last-step
         (blocks-not-fresh L t n (x .since) soon ks (p .counts) (p .lengths) (p .marks) _ _ (blocks-placed bs) e (new-blocks .shift))
 
-    bits-are : (us : List ℕ) (m : ℕ) → Reached bs s m us → codePresent p us .bits ≡ 1 ∷ headerBlocks m ks p us .bits
-    unfolding codePresent
-    bits-are us m y = rw (y .first-words .layer-is, reached-blocks bs s m us y)
-
     present-bits : BlocksNotFresh t ws vs ks → codePresent p vs .bits ≡ codePresent p ws .bits
     present-bits h =
-        bits-are vs (n + 1) (x .added)
+        present-bits-are bs s (n + 1) vs (x .added) p
         ∙ ap (λ (z : List ℕ). 1 ∷ z)
         (blocks-bits L t n (x .since) soon ks (p .counts) (p .lengths) (p .marks) _ _ (blocks-placed bs) (new-blocks .shift)
         (not-fresh-kept L t ws vs _ _ ks (blocks-placed bs) new-blocks h))
-        ∙ sym (bits-are ws n (x .without))
+        ∙ sym (present-bits-are bs s n ws (x .without) p)
 
     block-bits-are : (us : List ℕ) (m : ℕ) → Reached bs s m us
         → blockBits p us ≡ blockBitsFrom m ks (p .counts) (p .lengths) (p .marks) (setNewBlocks m ks (p .counts) us)

@@ -1,11 +1,11 @@
-pub mod Settled
+pub mod BlockParts
 pub mod NewBlocks
+pub mod Settled
 pub mod Between
 pub mod Alike
 pub mod Behind
-pub mod Examples
 pub mod ShiftedNodes
 pub mod ShiftedStates
 pub mod ShiftedBlocks
 pub mod Insertion
-pub mod InsertionExample
+pub mod Examples

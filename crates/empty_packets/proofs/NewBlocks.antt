@@ -14,8 +14,7 @@ use Rattle.t800_laws.proofs.Laws.Tests.{either, either-by, and-left}
 use Rattle.t800_laws.proofs.Laws.Paths.{All, addresses}
 use Rattle.t800_laws.proofs.Laws.Layout.{inclusion, Layout, Placed, SeparateFromAll, AllPlaced, rootToLeaf, leafToRoot}
 use Rattle.t800_laws.proofs.Laws.SetLeaf.{off-path-stays, every-word}
-use Rattle.round_trip.proofs.Trip.Trees.{NodesOnly}
-use Rattle.round_trip.proofs.Trip.Changes.{block-stays, BlockCoded, ValuesOnly, no-values, values-then, leaf-set, nodes-only}
+use Rattle.round_trip.proofs.Trip.Changes.{block-stays, BlockCoded, ValuesOnly, no-values, leaf-set, nodes-only}
 
 -- ---- the nodes on new blocks' paths
 
@@ -37,9 +36,15 @@ pub on-new-before : (Q : ℕ → Type 0) (ws vs : List ℕ) (ks : List Block) �
 on-new-before Q ws vs [] p q = tt
 on-new-before Q ws vs (k ∷ ks) p q = (λ z. q .0 (p .0 ∙ z), on-new-before Q ws vs ks (p .1) (q .1))
 
-pub nodes-keep-passes : (L : Layout) (ws vs : List ℕ) (ks : List Block) → AllPlaced L ks → NodesOnly L ws vs → SamePasses ws vs ks
-nodes-keep-passes L ws vs [] f o = tt
-nodes-keep-passes L ws vs (k ∷ ks) f o = (block-stays L ws vs o (k .at) (f .0 .0 .block) .0, nodes-keep-passes L ws vs ks (f .1) o)
+pub blocks-keep-passes : (L : Layout) (ws vs : List ℕ) (ks : List Block) → AllPlaced L ks
+    → ((p : ℕ) → L .BlockAt p → passesSoFar vs p ≡ passesSoFar ws p) → SamePasses ws vs ks
+blocks-keep-passes L ws vs [] f o = tt
+blocks-keep-passes L ws vs (k ∷ ks) f o = (o (k .at) (f .0 .0 .block), blocks-keep-passes L ws vs ks (f .1) o)
+
+pub values-keep-passes : (L : Layout) (ws vs : List ℕ) (ks : List Block) → AllPlaced L ks → ValuesOnly L inclusion ws vs
+    → SamePasses ws vs ks
+values-keep-passes L ws vs ks f o =
+    blocks-keep-passes L ws vs ks f (λ p b. block-stays L ws vs (nodes-only L inclusion ws vs o) p b .0)
 
 pub coding-keeps-passes : (L : Layout) (ws vs : List ℕ) (k : Block) (c : ℕ) (ks : List Block) → BlockCoded L ws vs k c
     → SeparateFromAll k ks → AllPlaced L ks → SamePasses ws vs ks
@@ -54,7 +59,7 @@ all-back : (P : ℕ → Type 0) (base : ℕ) (js ks : List ℕ) → All P (addre
 all-back P base [] ks h = (tt, h)
 all-back P base (j ∷ js) ks h = let r = all-back P base js (j ∷ ks) h in ((r .1 .0, r .0), r .1 .1)
 
-pub from-leaf : (P : ℕ → Type 0) (k : Block) → All P (rootToLeaf inclusion k) → All P (leafToRoot inclusion k)
+from-leaf : (P : ℕ → Type 0) (k : Block) → All P (rootToLeaf inclusion k) → All P (leafToRoot inclusion k)
 from-leaf P k h = all-back P (k .inclTree) (k .path) [] h .0
 
 -- ---- setting them
@@ -66,21 +71,6 @@ setNew t k c ws = cond (isNew ws k && ltb 0 c) (setValue (k .inclTree) (k .path)
 new-set-only : (L : Layout) (k : Block) (P : Placed L k) (t c : ℕ) (ws : List ℕ) → ValuesOnly L inclusion ws (setNew t k c ws)
 new-set-only L k P t c ws =
     either (ValuesOnly L inclusion ws) (isNew ws k && ltb 0 c) _ _ (leaf-set L inclusion k P t ws) (no-values L inclusion ws)
-
-pub new-blocks-only : (L : Layout) (t : ℕ) (ks : List Block) (cs ws : List ℕ) → AllPlaced L ks
-    → ValuesOnly L inclusion ws (setNewBlocks t ks cs ws)
-unfolding setNewBlocks
-new-blocks-only L t [] cs ws f = no-values L inclusion ws
-new-blocks-only L t (k ∷ ks) [] ws f = no-values L inclusion ws
-new-blocks-only L t (k ∷ ks) (c ∷ cs) ws f =
-    let vs : List ℕ = setNew t k c ws in
-    values-then L inclusion ws vs (setNewBlocks t ks cs vs) (new-set-only L k (f .0 .0) t c ws) (new-blocks-only L t ks cs vs (f .1))
-
-pub setting-keeps-passes : (L : Layout) (t : ℕ) (ks : List Block) (cs ws : List ℕ) → AllPlaced L ks
-    → SamePasses ws (setNewBlocks t ks cs ws) ks
-setting-keeps-passes L t ks cs ws f =
-    nodes-keep-passes L ws (setNewBlocks t ks cs ws) ks f
-    (nodes-only L inclusion ws (setNewBlocks t ks cs ws) (new-blocks-only L t ks cs ws f))
 
 -- what holds of t and of each word before holds of each word after
 pub every-word-set : (P : ℕ → Type 0) (t : ℕ) (ks : List Block) (cs ws : List ℕ) (i : ℕ) → (t < getD ws i 0 → P t) → P (getD ws i 0)
@@ -114,5 +104,5 @@ off-new-stays L t (k ∷ ks) (c ∷ cs) ws i f o =
     (from-leaf (λ b. i ≢ b) k (o .0 (new-by-passes ws k (and-left (isNew ws k) (ltb 0 c) e)))))
     (λ e. refl) in
     off-new-stays L t ks cs vs i (f .1)
-    (on-new-after (λ b. i ≢ b) ws vs ks (nodes-keep-passes L ws vs ks (f .1) (nodes-only L inclusion ws vs only)) (o .1))
+    (on-new-after (λ b. i ≢ b) ws vs ks (values-keep-passes L ws vs ks (f .1) only) (o .1))
     ∙ here

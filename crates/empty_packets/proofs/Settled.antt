@@ -1,25 +1,26 @@
 -- A path of an inclusion tree coded in layer t: each of its nodes ends as its value alone says, and no other node of these trees changes.
 use mathlib.Core.Path.{_≡_, refl, sym, ap₂, _∙_, subst}
 use mathlib.Core.Bool.{cond}
-use mathlib.Core.List.{List, [], _∷_, reverse, reverseAux}
-use Prim.Native.Nat.{ℕ, _+_, _*_, _≤_, _<_, max, min, zero-le}
+use mathlib.Core.List.{List, [], _∷_, reverse}
+use Prim.Native.Nat.{ℕ, _+_, _≤_, _<_, max, min, zero-le}
 use native.Mathlib.Nat.{le-trans, le-of-eq}
 use native.Mathlib.Omega.{arith}
-use lib.ListN.{length, getD}
+use lib.ListN.{length}
 use lib.Dec.{ltb, eqb}
 use borrow.Author.Tests.{eqb-true, eqb-false}
 use Rattle.t800.specs.TagTree.{Coded, value, codePath}
 use Rattle.t800.specs.Segments.{Segment, increment}
 use Rattle.t800.specs.State.{Block, notYetPlanes, passesSoFar}
 use Rattle.t800.specs.WriteHeader.{isNew, lengthBitsBefore, codeInclusion, codeZeroPlanes, codePasses, codeBlock}
-use Rattle.t800_laws.proofs.Laws.Tests.{on-eq, on-lt, if-eq, if-ne, if-lt, if-ge, either, either-by}
-use Rattle.t800_laws.proofs.Laws.Paths.{All, NotIn, Ancestors, ApartFromAll, addresses}
+use Rattle.t800_laws.proofs.Laws.Tests.{on-eq, on-lt, if-lt, if-ge, either, either-by}
+use Rattle.t800_laws.proofs.Laws.Paths.{All, NotIn, ApartFromAll}
 use Rattle.t800_laws.proofs.Laws.Layout.{Tree, inclusion, zeroPlanes, Layout, Placed, rootToLeaf, from-root-nodes}
 use Rattle.t800_laws.proofs.Laws.SetLeaf.{Ordered}
 use Rattle.round_trip.proofs.Trip.Nodes.{Node, node, lowOut, nodeAfter, nodesAfter, Increasing}
 use Rattle.round_trip.proofs.Trip.NodeWords.{nodeAt, nodesAt}
-use Rattle.round_trip.proofs.Trip.Trees.{all-apart, path-coded}
-use Rattle.round_trip.proofs.Trip.Changes.{node-stays, stored, stored-others, inclusion-keeps, paths-keep, block-coded}
+use Rattle.round_trip.proofs.Trip.Trees.{ordered-same, increasing-path, all-apart, path-coded}
+use Rattle.round_trip.proofs.Trip.Changes.{node-stays, stored, stored-others, inclusion-keeps, planes-keep, block-coded}
+use Rattle.empty_packets.proofs.BlockParts.{codeRest, block-parts}
 
 -- ---- one node
 
@@ -33,7 +34,7 @@ pub record Tidy (t : ℕ) (n : Node) : Type 0 where
 abbrev pub settled : (t v : ℕ) → Node
 settled t v = node v (min v (t + 1)) (cond (ltb v (t + 1)) 1 0)
 
-pub settled-tidy : (t v : ℕ) → Tidy t (settled t v)
+settled-tidy : (t v : ℕ) → Tidy t (settled t v)
 settled-tidy t v =
     record { low-value = omega arith; low-in = omega arith; not-known = λ h. if-ge v (t + 1) 1 0 (omega arith) }
 
@@ -74,14 +75,6 @@ nodes-settled t l m (n ∷ ns) a b i y =
     (i .1) (y .1))
 
 -- ---- a path in words
-
-increases : (L : Layout) (t : Tree) (base : ℕ) (ws js : List ℕ) (j : ℕ) (below : List ℕ) → All (L .Node t) (addresses base (j ∷ js))
-    → Ancestors (L .parent) (base + 3 * j) (addresses base js) → Ordered L ws
-    → Increasing (getD ws (base + 3 * j) 0) (nodesAt ws (addresses base below))
-    → Increasing 0 (nodesAt ws (addresses base (reverseAux (j ∷ js) below)))
-increases L t base ws [] j below h c o d = (zero-le, d)
-increases L t base ws (k ∷ ks) j below h c o d =
-    increases L t base ws ks k (j ∷ below) (h .1) (c .1) o ((rw (c .0) (o t (base + 3 * j) (h .0))), d)
 
 all-tidy : (L : Layout) (t : ℕ) (ws xs : List ℕ) → All (L .Node inclusion) xs → ((a : ℕ) → L .Node inclusion a → Tidy t (nodeAt ws a))
     → AllTidy t (nodesAt ws xs)
@@ -136,10 +129,7 @@ module _ (L : Layout) (k : Block) (P : Placed L k) (t : ℕ) where
   path-settled ws y =
       let c = path-coded L inclusion k P (t + 1) ws (y .long) in
       let vs : List ℕ = codePath (k .inclTree) (t + 1) (reverse (k .path)) 0 ws .words in
-      let i : Increasing 0 (nodesAt ws xs) =
-      subst (λ (z : List ℕ). Increasing 0 (nodesAt ws (addresses (k .inclTree) (reverse z)))) (sym (P .path-is))
-      (increases L inclusion (k .inclTree) ws (P .above) (k .leaf) [] (P .path inclusion .nodes) (P .path inclusion .ancestors)
-      (y .order) tt) in
+      let i = increasing-path L inclusion k P ws (y .order) in
       each-settled t ws vs xs
       (c .words .nodes
       ∙ nodes-settled t 0 0 (nodesAt ws xs) zero-le zero-le i (all-tidy L t ws xs (from-root-nodes L inclusion k P) (y .tidy)))
@@ -155,7 +145,7 @@ module _ (L : Layout) (k : Block) (P : Placed L k) (t : ℕ) where
       })
       (λ e. record { on = λ z. absurd (eqb-false (passesSoFar ws (k .at)) 0 e z); off = λ a n o. refl })
 
-  pub planes-off-inclusion : (ws : List ℕ) → length ws ≡ L .size → InclusionStays L ws (codeZeroPlanes k ws .words)
+  planes-off-inclusion : (ws : List ℕ) → length ws ≡ L .size → InclusionStays L ws (codeZeroPlanes k ws .words)
   unfolding codeZeroPlanes
   planes-off-inclusion ws l a n =
       either (λ (x : Coded). nodeAt (x .words) a ≡ nodeAt ws a) (isNew ws k) _ _
@@ -163,7 +153,7 @@ module _ (L : Layout) (k : Block) (P : Placed L k) (t : ℕ) where
       (all-apart L inclusion zeroPlanes a (rootToLeaf zeroPlanes k) n (from-root-nodes L zeroPlanes k P) (L .other-tree)))
       refl
 
-  pub passes-off-inclusion : (c : ℕ) (segments : List Segment) (ws : List ℕ) → length ws ≡ L .size
+  passes-off-inclusion : (c : ℕ) (segments : List Segment) (ws : List ℕ) → length ws ≡ L .size
       → InclusionStays L ws (codePasses k c segments ws .words)
   unfolding codePasses
   passes-off-inclusion c segments ws l a n =
@@ -173,30 +163,34 @@ module _ (L : Layout) (k : Block) (P : Placed L k) (t : ℕ) where
       let n₂ : ℕ = b + increment b segments in
       node-stays L ws (stored ws (k .at) n₁ n₂ h) (k .at) (P .block) (λ i x y d e. stored-others ws (k .at) n₁ n₂ h i x y) inclusion a n
 
-  pub block-settled : (c : ℕ) (segments : List Segment) (ws : List ℕ) → Tidied L t ws
+  -- a block's zero planes and passes
+  rest-off-inclusion : (c : ℕ) (segments : List Segment) (ws : List ℕ) → length ws ≡ L .size
+      → InclusionStays L ws (codeRest k c segments ws .words)
+  unfolding codeRest
+  rest-off-inclusion c segments ws l a n =
+      let us : List ℕ = codeZeroPlanes k ws .words in
+      either (λ (x : Coded). nodeAt (x .words) a ≡ nodeAt ws a) (eqb c 0) _ _ refl
+      (passes-off-inclusion c segments us (planes-keep L k P ws l .long ∙ l) a n ∙ planes-off-inclusion ws l a n)
+
+  -- behind its inclusion
+  pub block-off-inclusion : (c : ℕ) (segments : List Segment) (ws : List ℕ) → length ws ≡ L .size
+      → InclusionStays L (codeInclusion t k c ws .words) (codeBlock t k c segments ws .words)
+  block-off-inclusion c segments ws l =
+      let us : List ℕ = codeInclusion t k c ws .words in
+      subst (λ (x : Coded). InclusionStays L us (x .words)) (sym (block-parts t k c segments ws))
+      (rest-off-inclusion c segments us (inclusion-keeps L k P t c ws l .long ∙ l))
+
+  block-settled : (c : ℕ) (segments : List Segment) (ws : List ℕ) → Tidied L t ws
       → BlockSettled L t k ws (codeBlock t k c segments ws .words)
-  unfolding codeBlock
   block-settled c segments ws y =
-      let ws₁ : List ℕ = codeInclusion t k c ws .words in
-      let ws₂ : List ℕ = codeZeroPlanes k ws₁ .words in
-      let l₁ : length ws₁ ≡ L .size = inclusion-keeps L k P t c ws (y .long) .long ∙ y .long in
-      let l₂ : length ws₂ ≡ L .size = paths-keep L k P t c ws (y .long) .long ∙ y .long in
-      let b = inclusion-settled c ws y in
-      on-eq c 0
-      (λ e. rw (if-eq c 0 (codeInclusion t k c ws) _ e) b)
-      (λ e. rw (if-ne c 0 (codeInclusion t k c ws) _ e)
-      (settled-then ws ws₁ (codePasses k c segments ws₂ .words) b
-      (λ a n. passes-off-inclusion c segments ws₂ l₂ a n ∙ planes-off-inclusion ws₁ l₁ a n)))
+      settled-then ws (codeInclusion t k c ws .words) (codeBlock t k c segments ws .words) (inclusion-settled c ws y)
+      (block-off-inclusion c segments ws (y .long))
 
 -- what holds of all nodes on a path holds of a, or a is not on it
 pub on-path-or-off {ℓ} : {X : Type ℓ} (Q : ℕ → Type 0) (a : ℕ) (xs : List ℕ) → All Q xs → (Q a → X) → (NotIn a xs → X) → X
 on-path-or-off Q a [] q f g = g tt
 on-path-or-off Q a (b ∷ xs) q f g =
     on-eq a b (λ e. f (subst Q (sym e) (q .0))) (λ e. on-path-or-off Q a xs (q .1) f (λ h. g (e, h)))
-
-pub same-order : (L : Layout) (ws vs : List ℕ) → ((u : Tree) (a : ℕ) → L .Node u a → value vs a ≡ value ws a) → Ordered L ws → Ordered L vs
-same-order L ws vs s o u a n =
-    le-trans (le-of-eq (s u (L .parent a) (L .parent-node u a n))) (le-trans (o u a n) (le-of-eq (sym (s u a n))))
 
 module _ (L : Layout) (k : Block) (P : Placed L k) (t c : ℕ) (segments : List Segment) (ws : List ℕ) (y : Tidied L t ws) where
   abbrev vs : List ℕ
@@ -217,7 +211,7 @@ module _ (L : Layout) (k : Block) (P : Placed L k) (t c : ℕ) (segments : List 
       let b = block-coded L k P c t segments ws (y .long) in
       record {
         long = b .long ∙ y .long;
-        order = same-order L ws vs (b .values) (y .order);
+        order = ordered-same L ws vs (b .values) (y .order);
         tidy = λ a n. settled-or-same a n (λ e. subst (Tidy t) (sym e) (settled-tidy t (value ws a)))
             (λ o e. subst (Tidy t) (sym e) (y .tidy a n));
       }

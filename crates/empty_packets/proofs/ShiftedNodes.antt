@@ -33,7 +33,7 @@ pub data Lows (t v l m : ℕ) : Type 0 where
   equal : l ≤ t → m ≡ l → Lows t v l m
   one-up : t ≤ v → m ≡ l + 1 → Lows t v l m
 
-pub later-from : {t v w : ℕ} → Later t v w → t ≤ v
+later-from : {t v w : ℕ} → Later t v w → t ≤ v
 later-from (one-more h e) = h
 later-from (neither h e f) = h
 
@@ -131,7 +131,7 @@ module _ (t u : ℕ) (h : t < u) (g : u < notYetIncluded) where
             (no-one (ltb (lowOut (u + 1) l′ m) (u + 1)) (m .known) ek ∙ sym (no-one (ltb (lowOut u l n) u) (n .known) k));
       }
 
-  pub node-coded : (may : Bool) (v l l′ : ℕ) {n m : Node} → v ≤ n .value → Lows t v l l′ → Shifted t may n m → NodeCoded t u l l′ n m may
+  node-coded : (may : Bool) (v l l′ : ℕ) {n m : Node} → v ≤ n .value → Lows t v l l′ → Shifted t may n m → NodeCoded t u l l′ n m may
   node-coded may v l l′ {n} {m} w (equal a b) (same c d e f p q r) = stays-told l l′ n m may a b c d e f p q r
   node-coded may v l l′ w (one-up a b) (same c d e f p q r) = absurd (omega arith)
   node-coded may v l l′ {n} {m} w (equal a b) (fresh f c d e p) =

@@ -1,10 +1,10 @@
--- All trees of a state at once. Coding a block's path changes lows and knowns of its nodes alone; the reader of its bits ends where
--- they end,
--- sees the same side of the threshold, and every node is in sync again. Zero planes likewise, read by raising the threshold.
+-- All trees of a state at once. Coding a block's path changes lows and knowns of its nodes alone; the reader of its bits ends where they
+-- end, sees the same side of the threshold, and every node is in sync again. Zero planes likewise, read by raising the threshold.
 use mathlib.Core.Path.{_≡_, refl, sym, ap, ap₂, _∙_, subst, subst₂}
 use mathlib.Core.Logic.{_≢_}
 use mathlib.Core.List.{List, [], _∷_, reverse, reverseAux}
 use Prim.Native.Nat.{ℕ, zero, suc, _+_, _*_, _≤_, _<_, max, zero-le}
+use native.Mathlib.Nat.{le-trans, le-of-eq}
 use native.Mathlib.Omega.{arith}
 use lib.ListN.{length, getD, set}
 use lib.Seq.{getD-set-other}
@@ -14,9 +14,9 @@ use Rattle.t800.specs.TagTree.{PathRead, value, lowAfter, codePath, readPath}
 use Rattle.t800.specs.State.{Block, notYetPlanes}
 use Rattle.t800.specs.ReadHeader.{readZeroPlanesFrom}
 use Rattle.t800_laws.proofs.Laws.Tests.{on-eq, on-lt, if-lt, if-ge}
-use Rattle.t800_laws.proofs.Laws.Paths.{All, addresses, Clear, ApartFromAll, AllApart, Ancestors}
+use Rattle.t800_laws.proofs.Laws.Paths.{All, all-so, addresses, Clear, Apart, ApartFromAll, AllApart, Ancestors}
 use Rattle.t800_laws.proofs.Laws.Layout.{Tree, zeroPlanes, notYet, treeOf, leafOf, Layout, Placed, on-tree, rootToLeaf, from-root-nodes}
-use Rattle.t800_laws.proofs.Laws.Layout.{from-root-apart}
+use Rattle.t800_laws.proofs.Laws.Layout.{from-root-apart, second-no-node, third-no-node}
 use Rattle.t800_laws.proofs.Laws.SetLeaf.{Ordered}
 use Rattle.round_trip.proofs.Trip.Bits.{Reads}
 use Rattle.round_trip.proofs.Trip.Nodes.{Node, NodesRead, readAll, leafValue, raiseFrom, Sync, AllSync, nil, cons, Increasing}
@@ -35,12 +35,10 @@ abbrev pub NodesOnly : Layout → List ℕ → List ℕ → Type 0
 NodesOnly L ws vs = (i : ℕ) → OffNodes L i → getD vs i 0 ≡ getD ws i 0
 
 all-clear : (L : Layout) (t : Tree) (i : ℕ) (xs : List ℕ) → OffNodes L i → All (L .Node t) xs → All (Clear i) xs
-all-clear L t i [] f h = tt
-all-clear L t i (a ∷ xs) f h = (f t a (h .0), all-clear L t i xs f (h .1))
+all-clear L t i xs f h = all-so (L .Node t) (Clear i) xs (f t) h
 
 inside : (L : Layout) (t : Tree) (n : ℕ) (xs : List ℕ) → n ≡ L .size → All (L .Node t) xs → All (λ a. a + 3 ≤ n) xs
-inside L t n [] e h = tt
-inside L t n (a ∷ xs) e h = (omega (arith, L .node-in t a (h .0) .1), inside L t n xs e (h .1))
+inside L t n xs e h = all-so (L .Node t) (λ a. a + 3 ≤ n) xs (λ a m. omega (arith, L .node-in t a m .1)) h
 
 -- ---- what coding a path keeps
 
@@ -49,25 +47,21 @@ pub record LowsOnly (L : Layout) (ws vs : List ℕ) : Type 0 where
   pub off : NodesOnly L ws vs
   pub values : (t : Tree) (a : ℕ) → L .Node t a → value vs a ≡ value ws a
 
--- i is no node's second or third word
-abbrev NoLow : ℕ → List ℕ → Type 0
-NoLow i xs = All (λ a. (i ≢ a + 1) × (i ≢ a + 2)) xs
+-- word i is neither the low nor the known of the node at a
+abbrev pub OffLow : (i a : ℕ) → Type 0
+OffLow i a = (i ≢ a + 1) × (i ≢ a + 2)
 
-no-low : (L : Layout) (t u : Tree) (a : ℕ) (xs : List ℕ) → L .Node t a → All (L .Node u) xs → NoLow a xs
-no-low L t u a [] n h = tt
-no-low L t u a (b ∷ xs) n h =
-    on-eq a b
-    (λ e. ((omega arith, omega arith), no-low L t u a xs n (h .1)))
-    (λ e. let p = L .nodes-apart t u a b n (h .0) e in ((omega arith, omega arith), no-low L t u a xs n (h .1)))
+pub value-off-low : (L : Layout) (t u : Tree) (a b : ℕ) → L .Node t a → L .Node u b → OffLow a b
+value-off-low L t u a b n m = ((λ e. second-no-node L u t b a m n (sym e)), (λ e. third-no-node L u t b a m n (sym e)))
 
-value-kept : (base t : ℕ) (ns : List ℕ) (l : ℕ) (ws : List ℕ) (i : ℕ) → NoLow i (addresses base ns)
+pub off-lows-stay : (base t : ℕ) (ns : List ℕ) (l : ℕ) (ws : List ℕ) (i : ℕ) → All (OffLow i) (addresses base ns)
     → getD (codePath base t ns l ws .words) i 0 ≡ getD ws i 0
 unfolding codePath
-value-kept base t [] l ws i h = refl
-value-kept base t (n ∷ ns) l ws i h =
+off-lows-stay base t [] l ws i h = refl
+off-lows-stay base t (n ∷ ns) l ws i h =
     let a : ℕ = base + 3 * n in
     let to : ℕ = lowAfter (getD ws a 0) (max l (getD ws (a + 1) 0)) t in
-    value-kept base t ns to _ i (h .1)
+    off-lows-stay base t ns to _ i (h .1)
     ∙ getD-set-other (set ws (a + 1) to) (a + 2) i _ 0 (h .0 .1)
     ∙ getD-set-other ws (a + 1) i to 0 (h .0 .0)
 
@@ -83,8 +77,8 @@ module _ (L : Layout) (u : Tree) (k : Block) (P : Placed L k) where
       record {
         long = c .words .long;
         off = λ i f. c .words .clear i (all-clear L u i (rootToLeaf u k) f (from-root-nodes L u k P));
-        values = λ x a n. value-kept (treeOf u k) t (reverse (k .path)) 0 ws a
-            (no-low L x u a (rootToLeaf u k) n (from-root-nodes L u k P));
+        values = λ x a n. off-lows-stay (treeOf u k) t (reverse (k .path)) 0 ws a
+            (all-so (L .Node u) (OffLow a) (rootToLeaf u k) (λ b m. value-off-low L x u a b n m) (from-root-nodes L u k P));
       }
 
 -- ---- sync
@@ -99,6 +93,12 @@ last-of : (base : ℕ) (ws js : List ℕ) (j v : ℕ) (below : List ℕ)
 last-of base ws [] j v below = refl
 last-of base ws (i ∷ js) j v below = last-of base ws js i v (j ∷ below)
 
+-- where no value changes, the order stays
+pub ordered-same : (L : Layout) (ws vs : List ℕ) → ((u : Tree) (a : ℕ) → L .Node u a → value vs a ≡ value ws a) → Ordered L ws
+    → Ordered L vs
+ordered-same L ws vs s o u a n =
+    le-trans (le-of-eq (s u (L .parent a) (L .parent-node u a n))) (le-trans (o u a n) (le-of-eq (sym (s u a n))))
+
 -- in an ordered tree values increase from the root
 increases : (L : Layout) (t : Tree) (base : ℕ) (ws js : List ℕ) (j : ℕ) (below : List ℕ) → All (L .Node t) (addresses base (j ∷ js))
     → Ancestors (L .parent) (base + 3 * j) (addresses base js) → Ordered L ws
@@ -107,6 +107,12 @@ increases : (L : Layout) (t : Tree) (base : ℕ) (ws js : List ℕ) (j : ℕ) (b
 increases L t base ws [] j below h c o d = (zero-le, d)
 increases L t base ws (k ∷ ks) j below h c o d =
     increases L t base ws ks k (j ∷ below) (h .1) (c .1) o ((rw (c .0) (o t (base + 3 * j) (h .0))), d)
+
+pub increasing-path : (L : Layout) (u : Tree) (k : Block) → Placed L k → (ws : List ℕ) → Ordered L ws
+    → Increasing 0 (nodesAt ws (rootToLeaf u k))
+increasing-path L u k P ws o =
+    subst (λ (z : List ℕ). Increasing 0 (nodesAt ws (addresses (treeOf u k) (reverse z)))) (sym (P .path-is))
+    (increases L u (treeOf u k) ws (P .above) (k .leaf) [] (P .path u .nodes) (P .path u .ancestors) o tt)
 
 to-path : (L : Layout) (t : Tree) (ws rs xs : List ℕ) → All (L .Node t) xs → SyncAll L ws rs
     → AllSync (notYet t) (nodesAt ws xs) (nodesAt rs xs)
@@ -125,8 +131,7 @@ from-path L t a ws rs (b ∷ xs) n h (cons y ys) f =
 
 pub all-apart : (L : Layout) (t u : Tree) (a : ℕ) (xs : List ℕ) → L .Node t a → All (L .Node u) xs
     → ((a b : ℕ) → L .Node t a → L .Node u b → a ≢ b) → ApartFromAll a xs
-all-apart L t u a [] n h f = tt
-all-apart L t u a (b ∷ xs) n h f = (L .nodes-apart t u a b n (h .0) (f a b n (h .0)), all-apart L t u a xs n (h .1) f)
+all-apart L t u a xs n h f = all-so (L .Node u) (Apart a) xs (λ b m. L .nodes-apart t u a b n m (f a b n m)) h
 
 -- both sides changed the nodes at xs, which are in sync; so all are
 rejoin : (L : Layout) (u : Tree) (ws rs vs us xs : List ℕ) (ns ms : List Node) → All (L .Node u) xs → SyncAll L ws rs
@@ -152,10 +157,6 @@ module _ (L : Layout) (u : Tree) (k : Block) (P : Placed L k) (ws rs : List ℕ)
   abbrev xs : List ℕ
   xs = rootToLeaf u k
 
-  increasing : Increasing 0 (nodesAt ws xs)
-  increasing = subst (λ (z : List ℕ). Increasing 0 (nodesAt ws (addresses (treeOf u k) (reverse z)))) (sym (P .path-is))
-      (increases L u (treeOf u k) ws (P .above) (k .leaf) [] (P .path u .nodes) (P .path u .ancestors) o tt)
-
   leaf-last : (vs : List ℕ) → leafValue 0 (nodesAt vs xs) ≡ value vs (leafOf u k)
   leaf-last vs = subst (λ (z : List ℕ). leafValue 0 (nodesAt vs (addresses (treeOf u k) (reverse z))) ≡ value vs (leafOf u k))
       (sym (P .path-is)) (last-of (treeOf u k) vs (P .above) (k .leaf) 0 [])
@@ -175,8 +176,9 @@ module _ (L : Layout) (u : Tree) (k : Block) (P : Placed L k) (ws rs : List ℕ)
       let c = path-coded L u k P t ws wl in
       let us : List ℕ = readPath s (treeOf u k) t (reverse (k .path)) 0 rs b .words in
       let d = read-as s (treeOf u k) t (reverse (k .path)) 0 rs b (from-root-apart L u k P) path-in-reader in
-      let q = path-sync (notYet u) s t 0 b e ht increasing on-path (rw (c .bits) at r) in
-      let side = same-side t 0 increasing on-path (q .1) in (
+      let i = increasing-path L u k P ws o in
+      let q = path-sync (notYet u) s t 0 b e ht i on-path (rw (c .bits) at r) in
+      let side = same-side t 0 i on-path (q .1) in (
         d .bio ∙ q .0,
         rejoin L u ws rs _ _ xs _ _ (from-root-nodes L u k P) y (c .words) (d .words) (q .1),
         record { long = d .words .long; off = λ i f. d .words .clear i (all-clear L u i xs f (from-root-nodes L u k P)) },
@@ -256,7 +258,7 @@ module _ (L : Layout) (k : Block) (P : Placed L k) (ws rs : List ℕ) (wl : leng
       let c = path-coded L zeroPlanes k P notYetPlanes ws wl in
       let d = raised-as L k P s (notYetPlanes + 2) 0 rs b (from-root-apart L zeroPlanes k P)
       (path-in-reader L zeroPlanes k P ws rs wl rl y o) in
-      let q = zero-planes-read s b e (increasing L zeroPlanes k P ws rs wl rl y o) (on-path L zeroPlanes k P ws rs wl rl y o)
+      let q = zero-planes-read s b e (increasing-path L zeroPlanes k P ws o) (on-path L zeroPlanes k P ws rs wl rl y o)
       (rw (last ws) small) (rw (c .bits) at r) in (
         d .bio ∙ q .ends,
         rejoin L zeroPlanes ws rs _ _ xs _ _ ns y (c .words) (d .words) (q .sync),
