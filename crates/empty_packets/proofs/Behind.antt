@@ -1,7 +1,7 @@
 -- The state behind a packet with passes is that of packets all coded block by block: packets without passes leave behind them the lows and
 -- knowns on new blocks' inclusion paths alone, and a packet with passes settles these.
-use mathlib.Core.Path.{_≡_, refl, sym, ap, _∙_, subst, subst₂}
-use mathlib.Core.Bool.{Bool, true, false, _&&_}
+use mathlib.Core.Path.{_≡_, refl, sym, ap, ap₂, _∙_, subst, subst₂}
+use mathlib.Core.Bool.{Bool, true, false, cond, _&&_}
 use mathlib.Core.List.{List, [], _∷_, _++_, reverse}
 use Prim.Native.Nat.{ℕ, _+_, _<_}
 use native.Mathlib.Omega.{arith}
@@ -10,7 +10,7 @@ use lib.Seq.{ext-getD}
 use lib.Dec.{ltb}
 use borrow.Author.Tests.{ltb-false}
 use Rattle.t800.specs.declared.Band.{Band}
-use Rattle.t800.specs.Base.{any}
+use Rattle.t800.specs.Base.{Bits, any}
 use Rattle.t800.specs.TagTree.{Coded, value, codePath}
 use Rattle.t800.specs.Segments.{Segment, segmentsOf}
 use Rattle.t800.specs.State.{Block, notYetIncluded, blocks, passesSoFar}
@@ -25,15 +25,17 @@ use Rattle.round_trip.proofs.Trip.Trees.{OffLow, off-lows-stay, path-coded}
 use Rattle.round_trip.proofs.Trip.Changes.{block-coded, blocks-coded}
 use Rattle.round_trip.proofs.Trip.WriterState.{headerBlocks}
 use Rattle.t800_laws.proofs.Laws.Contributes.{present-header, absent-header}
-use Rattle.empty_packets.specs.LaterPackets.{Accepted, stateBehind, stateBehindPresent, startedState, StateAsIfPresent}
+use Rattle.empty_packets.specs.LaterPackets.{Accepted, stateBehind, stateBehindPresent, blockBitsFrom, blockBits, othersOf}
+use Rattle.empty_packets.specs.LaterPackets.{Started, startedState, StateAsIfPresent, HeaderAsIfPresent}
 use Rattle.empty_packets.proofs.Settled.{settled, Tidied, path-settled, block-tidied}
-use Rattle.empty_packets.proofs.BlockParts.{new-inclusion, old-inclusion}
+use Rattle.empty_packets.proofs.BlockParts.{new-inclusion, old-inclusion, otherBits, others-are, present-joined}
 use Rattle.empty_packets.proofs.NewBlocks.{AllOnNew, on-new-after, on-new-before, blocks-keep-passes}
 use Rattle.empty_packets.proofs.NewBlocks.{coding-keeps-passes}
 use Rattle.empty_packets.proofs.Between.{layer-set, layer-off-passes, setting-keeps-passes, new-blocks-tidied, Reached}
-use Rattle.empty_packets.proofs.Between.{reached-started, absent-is, present-is, reached-present, reached-header, accepted-here}
+use Rattle.empty_packets.proofs.Between.{reached-started, absent-is, present-is, block-bits-are, reached-present}
+use Rattle.empty_packets.proofs.Between.{reached-header, accepted-here}
 use Rattle.empty_packets.proofs.Alike.{Alike, same-alike, alike-at, set-alike, Shared, NoLow, shared-no-low, value-no-low}
-use Rattle.empty_packets.proofs.Alike.{passes-same, block-alike, new-blocks-alike}
+use Rattle.empty_packets.proofs.Alike.{passes-same, new-same, rest-alike, block-alike, new-blocks-alike}
 
 -- ---- lows and knowns of a path
 
@@ -104,11 +106,13 @@ off-new-wide L ws (k ∷ ks) i f h = (
   off-new-wide L ws ks i (f .1) h,
 )
 
+-- all words are the same behind them, and so are the bits that are no inclusion tree's
 blocks-alike : (L : Layout) (t : ℕ) (ks : List Block) (cs ls ms ws vs : List ℕ) → AllPlaced L ks → length cs ≡ length ks → Tidied L t ws
     → Tidied L t vs → Alike (OffNewLows ws ks) ws vs
     → Alike (λ _. Unit {0}) (codeBlocks t ks cs ls ms ws .words) (codeBlocks t ks cs ls ms vs .words)
-unfolding codeBlocks
-blocks-alike L t [] cs ls ms ws vs f e w v y = y
+    × (othersOf (blockBitsFrom t ks cs ls ms ws) ≡ othersOf (blockBitsFrom t ks cs ls ms vs))
+unfolding codeBlocks blockBitsFrom othersOf
+blocks-alike L t [] cs ls ms ws vs f e w v y = (y, refl)
 blocks-alike L t (k ∷ ks) [] ls ms ws vs f e w v y = absurd (omega arith)
 blocks-alike L t (k ∷ ks) (c ∷ cs) ls ms ws vs f e w v y =
     let P = f .0 .0 in
@@ -116,12 +120,20 @@ blocks-alike L t (k ∷ ks) (c ∷ cs) ls ms ws vs f e w v y =
     let ws₁ : List ℕ = codeBlock t k c segments ws .words in
     let vs₁ : List ℕ = codeBlock t k c segments vs .words in
     let wide : (i : ℕ) → NoLow L i → OffNewLows ws ks i = λ i h. off-new-wide L ws ks i (f .1) h in
-    let a = block-alike L (OffNewLows ws ks) (λ i h. wide i (shared-no-low L i h)) k P c segments t t ws vs
-    (inclusion-alike L (OffNewLows ws ks) wide k P t ws vs w v y c) in
+    let included = inclusion-alike L (OffNewLows ws ks) wide k P t ws vs w v y c in
+    let a = block-alike L (OffNewLows ws ks) (λ i h. wide i (shared-no-low L i h)) k P c segments t t ws vs included in
+    let new = new-same L (OffNewLows ws (k ∷ ks)) (λ i h. off-new-wide L ws (k ∷ ks) i f (shared-no-low L i h)) k P ws vs y in
+    let others : otherBits t k c segments ws ≡ otherBits t k c segments vs =
+    ap₂ (λ (x z : List ℕ). x ++ z) (ap (λ (b : Bool). cond b [] (cond (ltb 0 c) 1 0 ∷ [])) new)
+    (rest-alike L (OffNewLows ws ks) (λ i h. wide i (shared-no-low L i h)) k P c segments _ _ included .bits) in
     let same = coding-keeps-passes L ws ws₁ k c ks (block-coded L k P c t segments ws (w .long)) (f .0 .1) (f .1) in
-    blocks-alike L t ks cs (drop c ls) (drop c ms) ws₁ vs₁ (f .1) (omega arith) (block-tidied L k P t c segments ws w)
+    let r = blocks-alike L t ks cs (drop c ls) (drop c ms) ws₁ vs₁ (f .1) (omega arith) (block-tidied L k P t c segments ws w)
     (block-tidied L k P t c segments vs v)
-    (alike-at (OffNewLows ws ks) (OffNewLows ws₁ ks) ws₁ vs₁ (λ i. on-new-before (OffLow i) ws ws₁ ks same) a)
+    (alike-at (OffNewLows ws ks) (OffNewLows ws₁ ks) ws₁ vs₁ (λ i. on-new-before (OffLow i) ws ws₁ ks same) a) in (
+      r .0,
+      ap₂ (λ (x : Bits) (z : List Bits). x ∷ z)
+          (others-are t k c segments ws ∙ others ∙ sym (others-are t k c segments vs)) (r .1),
+    )
 
 -- ---- a packet with passes
 
@@ -139,18 +151,32 @@ module _ (bs : List Band) (s t : ℕ) (ws vs : List ℕ) (y : Ahead bs s t ws vs
   abbrev ks : List Block
   ks = blocks bs
 
-  header-same : headerBlocks t ks p ws .words ≡ headerBlocks t ks p vs .words
-  header-same =
+  abbrev us : List ℕ
+  us = setNewBlocks t ks (p .counts) ws
+
+  abbrev ys : List ℕ
+  ys = setNewBlocks t ks (p .counts) vs
+
+  header-alike : Alike (λ _. Unit {0}) (headerBlocks t ks p ws .words) (headerBlocks t ks p vs .words)
+      × (othersOf (blockBitsFrom t ks (p .counts) (p .lengths) (p .marks) us)
+      ≡ othersOf (blockBitsFrom t ks (p .counts) (p .lengths) (p .marks) ys))
+  header-alike =
       let f = blocks-placed bs in
       let cs : List ℕ = p .counts in
-      let us : List ℕ = setNewBlocks t ks cs ws in
-      let ys : List ℕ = setNewBlocks t ks cs vs in
       let a = new-blocks-alike L (OffNewLows ws ks) (λ i h. off-new-wide L ws ks i f h) t ks cs ws vs f (y .alike) in
       let b = alike-at (OffNewLows ws ks) (OffNewLows us ks) us ys
       (λ i. on-new-before (OffLow i) ws us ks (setting-keeps-passes L t ks cs ws f (y .rule .between))) a in
-      let c = blocks-alike L t ks cs (p .lengths) (p .marks) us ys f e (new-blocks-tidied L t ks cs ws f l (y .rule .between))
-      (new-blocks-tidied L t ks cs vs f l (y .present .between)) b in
+      blocks-alike L t ks cs (p .lengths) (p .marks) us ys f e (new-blocks-tidied L t ks cs ws f l (y .rule .between))
+      (new-blocks-tidied L t ks cs vs f l (y .present .between)) b
+
+  header-same : headerBlocks t ks p ws .words ≡ headerBlocks t ks p vs .words
+  header-same =
+      let c = header-alike .0 in
       ext-getD 0 (headerBlocks t ks p ws .words) (headerBlocks t ks p vs .words) (c .long) (λ i h. c .words i tt)
+
+  others-same : othersOf (blockBits p ws) ≡ othersOf (blockBits p vs)
+  others-same =
+      ap othersOf (block-bits-are bs s t ws (y .rule) p) ∙ header-alike .1 ∙ ap othersOf (sym (block-bits-are bs s t vs (y .present) p))
 
   present-same : codePresent p ws .words ≡ codePresent p vs .words
   present-same =
@@ -259,9 +285,33 @@ same-behind bs s t ws vs (b ∷ before) p y a h =
     let next = next-ahead bs s t ws vs y b (q .0) (q .1) in
     same-behind bs s (t + 1) (codeHeader b ws .words) (codePresent b vs .words) before p next (a .1) h
 
-pub state-as-if-present : StateAsIfPresent
-state-as-if-present count given style planes lent started before p a h =
+-- at the last of them
+header-behind : (bs : List Band) (s t : ℕ) (ws vs : List ℕ) (before : List Contribution) (p : Contribution) → Ahead bs s t ws vs
+    → Accepted ws (before ++ p ∷ []) → othersOf (blockBits p (stateBehind ws before)) ≡ othersOf (blockBits p (stateBehindPresent vs before))
+unfolding Accepted stateBehind stateBehindPresent
+header-behind bs s t ws vs [] p y a =
+    let q = accepted-here bs s t ws (y .rule) p (a .0) in
+    others-same bs s t ws vs y p (q .0) (q .1)
+header-behind bs s t ws vs (b ∷ before) p y a =
+    let q = accepted-here bs s t ws (y .rule) b (a .0) in
+    let next = next-ahead bs s t ws vs y b (q .0) (q .1) in
+    header-behind bs s (t + 1) (codeHeader b ws .words) (codePresent b vs .words) before p next (a .1)
+
+started-ahead : (count : ℕ) (given : List Band) (style : ℕ) (planes lent : List ℕ) → Started count given style planes lent
+    → Ahead (take count given) style 0 (startedState count given style planes lent) (startedState count given style planes lent)
+started-ahead count given style planes lent started =
     let y = reached-started count given style planes lent started in
     let ws : List ℕ = startedState count given style planes lent in
-    same-behind (take count given) style 0 ws ws before p
-    (record { rule = y; present = y; alike = same-alike _ ws ws refl }) a h
+    record { rule = y; present = y; alike = same-alike _ ws ws refl }
+
+pub state-as-if-present : StateAsIfPresent
+state-as-if-present count given style planes lent started before p a h =
+    same-behind (take count given) style 0 _ _ before p (started-ahead count given style planes lent started) a h
+
+pub header-as-if-present : HeaderAsIfPresent
+header-as-if-present count given style planes lent started before p a =
+    record {
+      one-bits = present-joined p _;
+      other-bits = present-joined p _;
+      others-same = header-behind (take count given) style 0 _ _ before p (started-ahead count given style planes lent started) a;
+    }

@@ -1,25 +1,20 @@
 -- The inclusion trees between packets: each node is told or open, whatever packets came, and the values are in order.
 use mathlib.Core.Path.{_≡_, refl, sym, ap, _∙_, subst, subst₂}
 use mathlib.Core.Logic.{_≢_, _⊎_, inl, inr}
-use mathlib.Core.Bool.{not}
 use mathlib.Core.List.{List, [], _∷_}
 use Prim.Native.Nat.{ℕ, _+_, _≤_, _<_}
 use native.Mathlib.Nat.{le-trans, le-of-eq}
 use native.Mathlib.Omega.{arith}
 use lib.ListN.{length, getD, set, take, drop, length-set}
 use lib.Seq.{getD-set-other}
-use lib.Dec.{eqb}
-use borrow.Author.Tests.{eqb-false}
 use Rattle.t800.specs.declared.Band.{Band}
 use Rattle.t800.specs.TagTree.{Coded, value, low, known}
 use Rattle.t800.specs.Segments.{Segment, segmentsOf}
 use Rattle.t800.specs.State.{Block, notYetIncluded, writer, blocks, bands, layer, passesSoFar}
-use Rattle.t800.specs.Ranges.{validState}
 use Rattle.t800.specs.Start.{freshState, setZeroPlanes}
 use Rattle.t800.specs.WriteHeader.{Contribution, setNewBlocks, codeBlock, codeBlocks, contributes, codePresent, codeAbsent, codeHeader}
-use Rattle.t800.specs.Packet.{wrongLists, measureRefusal, measureRefusalWith}
-use Rattle.t800_laws.proofs.Laws.Tests.{not-refused, if-lt, if-ge, either}
-use Rattle.t800_laws.proofs.Laws.Lists.{lists-right}
+use Rattle.t800.specs.Packet.{measureRefusal}
+use Rattle.t800_laws.proofs.Laws.Tests.{if-lt, if-ge, either}
 use Rattle.t800_laws.proofs.Laws.Layout.{Tree, inclusion, zeroPlanes, Layout, AllPlaced, layoutOf, blocks-placed, end-after}
 use Rattle.t800_laws.proofs.Laws.FirstWords.{FirstWords, next-layer}
 use Rattle.t800_laws.proofs.Laws.FreshState.{fresh-length, fresh-node}
@@ -30,12 +25,13 @@ use Rattle.t800_laws.proofs.Laws.Accepted.{start-accepted}
 use Rattle.round_trip.proofs.Trip.Nodes.{Node, node}
 use Rattle.round_trip.proofs.Trip.NodeWords.{nodeAt}
 use Rattle.round_trip.proofs.Trip.Trees.{ordered-same}
+use Rattle.round_trip.proofs.Trip.Calls.{measured}
 use Rattle.round_trip.proofs.Trip.Changes.{low-stays, known-stays, block-coded}
 use Rattle.round_trip.proofs.Trip.SetLeaves.{LeavesSet, new-blocks-set, planes-set}
 use Rattle.round_trip.proofs.Trip.WriterState.{headerBlocks}
 use Rattle.round_trip.proofs.Trip.WriterInRange.{writer-after-start}
 use Rattle.round_trip.proofs.Trip.Start.{started-in-step}
-use Rattle.empty_packets.specs.LaterPackets.{Accepted, stateBehind, Started, startedState}
+use Rattle.empty_packets.specs.LaterPackets.{Accepted, stateBehind, blockBitsFrom, blockBits, Started, startedState}
 use Rattle.empty_packets.proofs.Settled.{Tidy, settled, Tidied, settled-or-same, block-tidied}
 use Rattle.empty_packets.proofs.NewBlocks.{AllOnNew, SamePasses, on-new-before, values-keep-passes}
 use Rattle.empty_packets.proofs.NewBlocks.{coding-keeps-passes, every-word-set, off-new-stays}
@@ -290,6 +286,11 @@ module _ (bs : List Band) (s t : ℕ) (ws : List ℕ) (y : Reached bs s t ws) wh
   unfolding codePresent
   present-bits-are p = rw (y .first-words .layer-is, reached-blocks)
 
+  pub block-bits-are : (p : Contribution) → blockBits p ws
+      ≡ blockBitsFrom t (blocks bs) (p .counts) (p .lengths) (p .marks) (setNewBlocks t (blocks bs) (p .counts) ws)
+  unfolding blockBits
+  block-bits-are p = rw (y .first-words .layer-is, reached-blocks)
+
   header-kept : (p : Contribution) → Kept 13 ws (headerBlocks t (blocks bs) p ws .words)
   header-kept p =
       subst₂ (λ (n : ℕ) (ks : List Block). Kept 13 ws (headerBlocks n ks p ws .words)) (y .first-words .layer-is) reached-blocks
@@ -313,13 +314,7 @@ module _ (bs : List Band) (s t : ℕ) (ws : List ℕ) (y : Reached bs s t ws) wh
 
   -- a packet that nothing refuses has a count for each block, and a layer is left for it
   pub accepted-here : (p : Contribution) → measureRefusal ws ws p ≡ 0 → (length (p .counts) ≡ length (blocks bs)) × (t < notYetIncluded)
-  unfolding measureRefusalWith
-  accepted-here p e =
-      let ks : List Block = blocks (bands ws) in
-      let c₁ = not-refused (not (validState writer ws (length ws))) 5 _ (omega arith) e in
-      let c₂ = not-refused (eqb (layer ws) notYetIncluded) 6 _ (omega arith) (c₁ .1) in
-      let c₃ = not-refused (wrongLists p (length ks)) 3 _ (omega arith) (c₂ .1) in
-      (lists-right p (length ks) (c₃ .0) .0 ∙ ap length reached-blocks, below (eqb-false (layer ws) notYetIncluded (c₂ .0)))
+  accepted-here p e = let m = measured ws ws p e in (m .1 .counts ∙ ap length reached-blocks, below (m .0))
 
 -- each packet moves the layer by one
 pub reached-list : (bs : List Band) (s t : ℕ) (ws : List ℕ) (ps : List Contribution) → Reached bs s t ws → Accepted ws ps

@@ -10,10 +10,10 @@ use lib.Seq.{drop-append-seam}
 use lib.Dec.{ltb, eqb}
 use Rattle.t800.specs.TagTree.{Coded, codePath}
 use Rattle.t800.specs.Segments.{Segment, segmentsOf}
-use Rattle.t800.specs.State.{Block, passesSoFar}
-use Rattle.t800.specs.WriteHeader.{isNew, codeInclusion, codeZeroPlanes, codePasses, codeBlock, codeBlocks}
+use Rattle.t800.specs.State.{Block, passesSoFar, blocks, bands, layer}
+use Rattle.t800.specs.WriteHeader.{Contribution, isNew, codeInclusion, codeZeroPlanes, codePasses, codeBlock, codeBlocks, codePresent}
 use Rattle.t800_laws.proofs.Laws.Tests.{if-eq, if-ne}
-use Rattle.empty_packets.specs.LaterPackets.{blockBitsFrom, joined}
+use Rattle.empty_packets.specs.LaterPackets.{blockBitsFrom, blockBits, joined}
 
 -- ---- the two parts
 
@@ -90,7 +90,7 @@ others-are t k c gs ws =
     ap (drop (length (treeBits t k c ws))) (block-bits-split t k c gs ws)
     ∙ drop-append-seam (treeBits t k c ws) (otherBits t k c gs ws)
 
-pub blocks-joined : (t : ℕ) (ks : List Block) (cs ls ms ws : List ℕ)
+blocks-joined : (t : ℕ) (ks : List Block) (cs ls ms ws : List ℕ)
     → codeBlocks t ks cs ls ms ws .bits ≡ joined (blockBitsFrom t ks cs ls ms ws)
 unfolding codeBlocks blockBitsFrom joined
 blocks-joined t [] cs ls ms ws = refl
@@ -100,3 +100,9 @@ blocks-joined t (k ∷ ks) (c ∷ cs) ls ms ws =
     ap₂ (λ (x y : List ℕ). x ++ y)
     (block-bits-split t k c gs ws ∙ ap (λ (z : List ℕ). treeBits t k c ws ++ z) (sym (others-are t k c gs ws)))
     (blocks-joined t ks cs (drop c ls) (drop c ms) (codeBlock t k c gs ws .words))
+
+-- a 1 and the blocks' bits
+pub present-joined : (p : Contribution) (ws : List ℕ) → codePresent p ws .bits ≡ 1 ∷ joined (blockBits p ws)
+unfolding codePresent blockBits
+present-joined p ws =
+    ap (λ (z : List ℕ). 1 ∷ z) (blocks-joined (layer ws) (blocks (bands ws)) (p .counts) (p .lengths) (p .marks) _)

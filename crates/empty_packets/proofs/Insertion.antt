@@ -11,7 +11,7 @@ use lib.ListN.{length, set, take}
 use Rattle.t800.specs.declared.Band.{Band}
 use Rattle.t800.specs.Base.{Bits, any}
 use Rattle.t800.specs.TagTree.{Coded}
-use Rattle.t800.specs.State.{Block, notYetIncluded, blocks, bands, layer}
+use Rattle.t800.specs.State.{Block, notYetIncluded, blocks, layer}
 use Rattle.t800.specs.WriteHeader.{Contribution, setNewBlocks, contributes, codePresent, codeAbsent, codeHeader}
 use Rattle.t800.specs.Packet.{measureRefusal}
 use Rattle.t800_laws.proofs.Laws.Tests.{or-left, or-right}
@@ -20,11 +20,11 @@ use Rattle.t800_laws.proofs.Laws.Layout.{Layout, layoutOf, blocks-placed}
 use Rattle.round_trip.proofs.Trip.Nodes.{Node}
 use Rattle.round_trip.proofs.Trip.NodeWords.{nodeAt}
 use Rattle.round_trip.proofs.Trip.WriterState.{headerBlocks}
-use Rattle.empty_packets.specs.LaterPackets.{Accepted, headers, stateBehind, blockBitsFrom, blockBits, joined, othersOf}
+use Rattle.empty_packets.specs.LaterPackets.{Accepted, headers, stateBehind, blockBits, othersOf}
 use Rattle.empty_packets.specs.LaterPackets.{startedState, ChangesAtMost, InsertionChangesAtMost}
-use Rattle.empty_packets.proofs.Between.{ToldOrOpen, layer-set, Reached, reached-started, reached-blocks, absent-is, reached-absent}
-use Rattle.empty_packets.proofs.Between.{present-is, present-bits-are, reached-header, accepted-here, reached-list}
-use Rattle.empty_packets.proofs.BlockParts.{blocks-joined}
+use Rattle.empty_packets.proofs.Between.{ToldOrOpen, layer-set, Reached, reached-started, absent-is, reached-absent}
+use Rattle.empty_packets.proofs.Between.{present-is, present-bits-are, block-bits-are, reached-header, accepted-here, reached-list}
+use Rattle.empty_packets.proofs.BlockParts.{present-joined}
 use Rattle.empty_packets.proofs.Alike.{same-alike, both-branches}
 use Rattle.empty_packets.proofs.ShiftedNodes.{neither, Shifted, same, fresh}
 use Rattle.empty_packets.proofs.ShiftedStates.{Shift, Step, step-then, layer-step}
@@ -48,13 +48,6 @@ accepted-append ws (p ∷ ps) qs a = let r = accepted-append (codeHeader p ws .w
 absent-bits : (p : Contribution) (ws : List ℕ) → contributes p ≡ false → codeHeader p ws .bits ≡ 0 ∷ []
 unfolding codeAbsent
 absent-bits p ws e = ap (λ (x : Coded). x .bits) (absent-header p ws e)
-
--- a 1 and the blocks' bits
-present-joined : (p : Contribution) (ws : List ℕ) → contributes p ≡ true → codeHeader p ws .bits ≡ 1 ∷ joined (blockBits p ws)
-unfolding codePresent blockBits
-present-joined p ws e =
-    ap (λ (x : Coded). x .bits) (present-header p ws e)
-    ∙ ap (λ (z : List ℕ). 1 ∷ z) (blocks-joined (layer ws) (blocks (bands ws)) (p .counts) (p .lengths) (p .marks) _)
 
 -- without passes all headers are alike
 absent-headers : (ws vs : List ℕ) (ps : List Contribution) → any contributes ps ≡ false → headers vs ps ≡ headers ws ps
@@ -146,16 +139,11 @@ module _ (bs : List Band) (s t n : ℕ) (ws vs : List ℕ) (x : OnePacketApart b
         (not-fresh-kept L t ws vs _ _ ks (blocks-placed bs) new-blocks h))
         ∙ sym (present-bits-are bs s n ws (x .without) p)
 
-    block-bits-are : (us : List ℕ) (m : ℕ) → Reached bs s m us
-        → blockBits p us ≡ blockBitsFrom m ks (p .counts) (p .lengths) (p .marks) (setNewBlocks m ks (p .counts) us)
-    unfolding blockBits
-    block-bits-are us m y = rw (y .first-words .layer-is, reached-blocks bs s m us y)
-
     others-same : othersOf (blockBits p vs) ≡ othersOf (blockBits p ws)
     others-same =
-        ap othersOf (block-bits-are vs (n + 1) (x .added))
+        ap othersOf (block-bits-are bs s (n + 1) vs (x .added) p)
         ∙ blocks-others L t n (x .since) soon ks (p .counts) (p .lengths) (p .marks) _ _ (blocks-placed bs) (new-blocks .shift)
-        ∙ ap othersOf (sym (block-bits-are ws n (x .without)))
+        ∙ ap othersOf (sym (block-bits-are bs s n ws (x .without) p))
 
 -- ---- an accepted header on both sides
 
@@ -248,9 +236,11 @@ changes-at-most bs s t ws e between p behind y a none nones some =
     record {
       single-bit = absent-bits e ws none;
       between-same = absent-headers ws vs between nones;
-      with-bits = present-joined p (stateBehind vs between) some;
-      without-bits = present-joined p (stateBehind ws between) some;
-      others-same = q .0;
+      next-changes = record {
+        one-bits = present-joined p (stateBehind vs between);
+        other-bits = present-joined p (stateBehind ws between);
+        others-same = q .0;
+      };
       behind-same = ap (λ (z : List ℕ). headers z behind) (behind-one vs between p) ∙ q .1
           ∙ ap (λ (z : List ℕ). headers z behind) (sym (behind-one ws between p));
     }

@@ -1,13 +1,12 @@
 -- What a packet without passes changes behind it (request No. 4). Of the later packets only the next one with passes, and of that one only
 -- the inclusion trees' bits; the state behind it is what it would be if packets without passes were coded block by block too.
 use mathlib.Core.Path.{_≡_}
-use mathlib.Core.Bool.{Bool, true, false, cond}
+use mathlib.Core.Bool.{true, false, cond}
 use mathlib.Core.List.{List, [], _∷_, _++_}
 use Prim.Native.Nat.{ℕ}
 use lib.ListN.{length, take, drop}
 use Rattle.t800.specs.declared.Band.{Band}
 use Rattle.t800.specs.Base.{Words, Bytes, Bits, any}
-use Rattle.t800.specs.TagTree.{Coded}
 use Rattle.t800.specs.Segments.{segmentsOf}
 use Rattle.t800.specs.State.{Block, writer, blocks, bands, layer}
 use Rattle.t800.specs.Start.{start}
@@ -65,6 +64,12 @@ unfoldable pub othersOf : List BlockBits → List Bits
 othersOf [] = []
 othersOf (b ∷ bs) = b .others ∷ othersOf bs
 
+-- in each of two states the packet's bits are a 1 and its blocks', and they differ in those of inclusion trees at most
+pub record SameButInclusionTrees (p : Contribution) (one other : Words) : Type 0 where
+  pub one-bits : codePresent p one .bits ≡ 1 ∷ joined (blockBits p one)
+  pub other-bits : codePresent p other .bits ≡ 1 ∷ joined (blockBits p other)
+  pub others-same : othersOf (blockBits p one) ≡ othersOf (blockBits p other)
+
 -- ---- the statements, behind an accepted start of a writer
 
 abbrev pub Started : (count : ℕ) (given : List Band) (style : ℕ) (planes lent : Words) → Type 0
@@ -81,17 +86,20 @@ StateAsIfPresent =
     (before : List Contribution) (p : Contribution) → Accepted state (before ++ p ∷ []) → contributes p ≡ true
     → stateBehind state (before ++ p ∷ []) ≡ stateBehindPresent state (before ++ p ∷ [])
 
+-- Its header is the same but for the inclusion trees' bits.
+abbrev pub HeaderAsIfPresent : Type 0
+HeaderAsIfPresent =
+    (count : ℕ) (given : List Band) (style : ℕ) (planes lent : Words) → Started count given style planes lent
+    → let state = startedState count given style planes lent in
+    (before : List Contribution) (p : Contribution) → Accepted state (before ++ p ∷ [])
+    → SameButInclusionTrees p (stateBehind state before) (stateBehindPresent state before)
+
 -- A packet e without passes is put in a list, in the state `state`: others without passes follow it, then p with passes, then any.
 pub record ChangesAtMost (state : Words) (e : Contribution) (between : List Contribution) (p : Contribution) (behind : List Contribution)
     : Type 0 where
   pub single-bit : codeHeader e state .bits ≡ 0 ∷ []
   pub between-same : headers (codeHeader e state .words) between ≡ headers state between
-  -- p's bits are a 1 and its blocks', of which those of inclusion trees may change
-  pub with-bits : codeHeader p (stateBehind (codeHeader e state .words) between) .bits
-      ≡ 1 ∷ joined (blockBits p (stateBehind (codeHeader e state .words) between))
-  pub without-bits : codeHeader p (stateBehind state between) .bits ≡ 1 ∷ joined (blockBits p (stateBehind state between))
-  pub others-same : othersOf (blockBits p (stateBehind (codeHeader e state .words) between))
-      ≡ othersOf (blockBits p (stateBehind state between))
+  pub next-changes : SameButInclusionTrees p (stateBehind (codeHeader e state .words) between) (stateBehind state between)
   pub behind-same : headers (stateBehind (codeHeader e state .words) (between ++ p ∷ [])) behind
       ≡ headers (stateBehind state (between ++ p ∷ [])) behind
 

@@ -2,18 +2,18 @@
 use mathlib.Core.Path.{_≡_, refl, sym, ap, ap₂, _∙_}
 use mathlib.Core.Bool.{false}
 use mathlib.Core.List.{List, [], _∷_, _++_}
-use Prim.Native.Nat.{ℕ, zero, suc, _+_, _*_, _≤_}
+use Prim.Native.Nat.{ℕ, zero, suc, _+_, _*_}
 use native.Mathlib.Omega.{arith}
-use lib.ListN.{length, replicate, set, take, drop}
+use lib.ListN.{length, replicate, set, take}
 use borrow.Author.Tests.{ltb-false}
 use Rattle.t800.specs.declared.Markers.{Markers}
 use Rattle.t800.specs.Base.{sum, wiped}
-use Rattle.t800.specs.Bits.{bytesTaken, bioAt, pack}
-use Rattle.t800.specs.Reports.{BlockReport, reportWidth, reportWords, RecordForm}
+use Rattle.t800.specs.Bits.{bytesTaken, bioAt}
+use Rattle.t800.specs.Reports.{reportWidth, reportWords, RecordForm}
 use Rattle.t800.specs.State.{layer}
 use Rattle.t800.specs.WriteHeader.{Contribution, contributes}
-use Rattle.t800.specs.MarkerSegments.{MarkerRead, withMarkers, readSop, readEph}
-use Rattle.t800.specs.Packet.{ReadResult, readRefusal, readAbsent, read, readWith}
+use Rattle.t800.specs.MarkerSegments.{withMarkers, readSop, readEph}
+use Rattle.t800.specs.Packet.{readRefusal, readAbsent, read, readWith}
 use Rattle.t800.specs.Book.{BlockEntry, reportOf, recordsOf, entryFrom, entry, addCounts}
 use Rattle.t800_laws.proofs.Laws.Contributes.{contributes-by-sum, single-bit-packed}
 use Rattle.round_trip.proofs.Trip.Bits.{nextBit, bioAfter, packed-bits-read}

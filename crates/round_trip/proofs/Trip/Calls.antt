@@ -32,7 +32,7 @@ use Rattle.round_trip.proofs.Trip.WriterState.{Acceptable}
 
 -- ---- writing
 
-measured : (ws scratch : List ℕ) (p : Contribution) → measureRefusal ws scratch p ≡ 0 → (layer ws ≢ notYetIncluded)
+pub measured : (ws scratch : List ℕ) (p : Contribution) → measureRefusal ws scratch p ≡ 0 → (layer ws ≢ notYetIncluded)
     × Acceptable ws (blocks (bands ws)) p
 unfolding measureRefusalWith
 measured ws scratch p e =

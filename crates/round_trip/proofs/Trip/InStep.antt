@@ -4,7 +4,6 @@
 use mathlib.Core.Path.{_≡_, sym, ap, _∙_, subst₂}
 use mathlib.Core.List.{List}
 use Prim.Native.Nat.{ℕ, _+_, _≤_}
-use native.Mathlib.Nat.{le-trans, le-of-eq}
 use native.Mathlib.Omega.{arith}
 use lib.ListN.{length, getD, set, length-set}
 use lib.Seq.{getD-set-other}
@@ -15,7 +14,7 @@ use Rattle.t800_laws.proofs.Laws.Layout.{Tree, notYet, Layout}
 use Rattle.t800_laws.proofs.Laws.SetLeaf.{Ordered}
 use Rattle.round_trip.proofs.Trip.Nodes.{Node, Sync}
 use Rattle.round_trip.proofs.Trip.NodeWords.{nodeAt}
-use Rattle.round_trip.proofs.Trip.Trees.{SyncAll, LowsOnly, NodesChanged}
+use Rattle.round_trip.proofs.Trip.Trees.{SyncAll, LowsOnly, NodesChanged, ordered-same}
 use Rattle.round_trip.proofs.Trip.Limits.{limitAfter, passesAfter}
 use Rattle.round_trip.proofs.Trip.Changes.{SameBlock, block-stays, first-stays, BlockOnly, node-stays, value-stays}
 use Rattle.round_trip.proofs.Trip.Changes.{other-block-stays, first-words-stay}
@@ -44,10 +43,6 @@ same-in-step s ws rs vs us p w r b =
       limit = r .2 ∙ b .limit ∙ ap (limitAfter s) (sym (w .0));
       used = r .3 ∙ b .used ∙ ap (passesAfter s) (sym (w .0));
     }
-
-ordered-same : (L : Layout) (ws vs : List ℕ) → ((t : Tree) (a : ℕ) → L .Node t a → value vs a ≡ value ws a) → Ordered L ws → Ordered L vs
-ordered-same L ws vs same o t a n =
-    le-trans (le-of-eq (same t (L .parent a) (L .parent-node t a n))) (le-trans (o t a n) (le-of-eq (sym (same t a n))))
 
 -- a path was coded and read
 pub path-in-step : (L : Layout) (s : ℕ) (ws rs vs us : List ℕ) → InStep L s ws rs → LowsOnly L ws vs → NodesChanged L rs us

@@ -48,8 +48,8 @@ use Rattle.t800_laws.proofs.Laws.Contributes.{single-bit-packed}
 use Rattle.round_trip.proofs.Trip.Calls.{is-accepted}
 use Rattle.t800_laws.proofs.Laws.Accepted.{start-accepted, few-bands}
 use Rattle.round_trip.proofs.Trip.Start.{started-in-step, started-booked}
-use Rattle.round_trip.proofs.Trip.WriterInRange.{WriterInvariant, writer-after-start, present-coded, absent-coded, blocks-are, layer-left}
-use Rattle.round_trip.proofs.Trip.WriterInRange.{acceptable, state-present, state-absent, writer-after}
+use Rattle.round_trip.proofs.Trip.WriterInRange.{WriterInvariant, writer-after-start, present-coded, absent-coded, blocks-are}
+use Rattle.round_trip.proofs.Trip.WriterInRange.{layer-left, acceptable, state-present, state-absent, writer-after}
 
 -- with bands bs, style s and next layer t: writer's words, reader's words, and the book
 pub record Invariant (bs : List Band) (s t : ℕ) (ws rs : List ℕ) (es : List BlockEntry) : Type 0 where
