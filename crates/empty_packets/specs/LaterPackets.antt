@@ -86,7 +86,7 @@ StateAsIfPresent =
     (before : List Contribution) (p : Contribution) → Accepted state (before ++ p ∷ []) → contributes p ≡ true
     → stateBehind state (before ++ p ∷ []) ≡ stateBehindPresent state (before ++ p ∷ [])
 
--- Its header is the same but for the inclusion trees' bits.
+-- At each packet of the two lists, coded block by block, the bits are the same but for those of inclusion trees.
 abbrev pub HeaderAsIfPresent : Type 0
 HeaderAsIfPresent =
     (count : ℕ) (given : List Band) (style : ℕ) (planes lent : Words) → Started count given style planes lent
@@ -99,6 +99,7 @@ pub record ChangesAtMost (state : Words) (e : Contribution) (between : List Cont
     : Type 0 where
   pub single-bit : codeHeader e state .bits ≡ 0 ∷ []
   pub between-same : headers (codeHeader e state .words) between ≡ headers state between
+  -- p has passes, so that its header is coded block by block
   pub next-changes : SameButInclusionTrees p (stateBehind (codeHeader e state .words) between) (stateBehind state between)
   pub behind-same : headers (stateBehind (codeHeader e state .words) (between ++ p ∷ [])) behind
       ≡ headers (stateBehind state (between ++ p ∷ [])) behind

@@ -39,7 +39,8 @@ unfoldable pub recordWords : List SegmentRecord → Words
 recordWords [] = []
 recordWords (r ∷ rs) = r .block ∷ r .opens ∷ r .passes ∷ r .bytes ∷ recordWords rs
 
--- How a lent list holds records: for how many it has room, what it holds with these at its front and the others as they were, and wiped.
+-- How a lent list holds records: for how many it has room, what it holds with these at its front and the others as they were, of which
+-- none leave the list, and wiped.
 pub record RecordForm : Type 1 where
   pub Lent : Type 0
   pub room : Lent → ℕ
