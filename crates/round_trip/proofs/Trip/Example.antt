@@ -1,10 +1,10 @@
 -- The round trip says something: fifteen calls over seven layers, measuring and refused ones between, that meet its premises and owe seven
--- packets, by computing. Two bands, one of them empty, and both markers.
+-- packets, one of them without passes, by computing. Two bands, one of them empty, and both markers.
 use mathlib.Core.Path.{_≡_, refl}
 use mathlib.Core.Bool.{true, false}
 use mathlib.Core.List.{List, [], _∷_}
 use Prim.Native.Nat.{ℕ}
-use lib.ListN.{length, replicate}
+use lib.ListN.{replicate}
 use lib.Dec.{T}
 use Rattle.t800.specs.declared.Band.{Band}
 use Rattle.t800.specs.declared.Markers.{Markers}
@@ -13,6 +13,7 @@ use Rattle.t800.specs.Start.{start}
 use Rattle.t800.specs.Reports.{RecordForm}
 use Rattle.t800.specs.Book.{BlockEntry, newBook, terminatedAt, terminatedAsStyle}
 use Rattle.t800.specs.Interface.{WriteCall, writeOf}
+use Rattle.t800.specs.RoundTrip.{Owed}
 use Rattle.round_trip.proofs.Trip.Lists.{WriterCall, measuring, writing, owedFor, owed, allTerminatedAsStyle, ReaderCall}
 use Rattle.round_trip.proofs.Trip.Lists.{ReadsAsOwed}
 use Rattle.t800.proofs.Table.{rowHolds}
@@ -85,8 +86,13 @@ refused-between : refusals state calls ≡ 11 ∷ 0 ∷ 3 ∷ 0 ∷ 0 ∷ 10 ∷
 unfolding rowHolds refusals
 refused-between = refl
 
-seven-owed : length (owed 1 state book calls) ≡ 7
-unfolding rowHolds owed owedFor
+-- which of the packets owed are present
+unfoldable presents : List Owed → List ℕ
+presents [] = []
+presents (o ∷ os) = o .present ∷ presents os
+
+seven-owed : presents (owed 1 state book calls) ≡ 1 ∷ 1 ∷ 0 ∷ 1 ∷ 1 ∷ 1 ∷ 1 ∷ []
+unfolding rowHolds owed owedFor presents
 seven-owed = refl
 
 -- so the round trip applies
