@@ -254,7 +254,7 @@ reached-started count given style planes lent e =
     }
 
 module _ (bs : List Band) (s t : ℕ) (ws : List ℕ) (y : Reached bs s t ws) where
-  pub reached-blocks : blocks (bands ws) ≡ blocks bs
+  reached-blocks : blocks (bands ws) ≡ blocks bs
   reached-blocks = ap blocks (y .first-words .bands-are)
 
   long-enough : (vs : List ℕ) → Between (layoutOf bs) (t + 1) vs → 13 ≤ length vs

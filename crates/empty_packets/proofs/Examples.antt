@@ -1,4 +1,4 @@
--- One block, by computing: the premises of both statements can be met. Behind a packet without passes the state is another than of packets
+-- One block, by computing: the premises of the statements can be met. Behind a packet without passes the state is another than of packets
 -- all coded block by block, and the first header with passes behind it is another than without it.
 use mathlib.Core.Path.{_≡_, refl, ap}
 use mathlib.Core.Logic.{_≢_}
@@ -12,8 +12,9 @@ use Rattle.t800.specs.Base.{any}
 use Rattle.t800.specs.Bits.{pack}
 use Rattle.t800.specs.WriteHeader.{Contribution, contribution, contributes}
 use Rattle.t800.proofs.Table.{rowHolds}
-use Rattle.empty_packets.specs.LaterPackets.{Accepted, headers, stateBehind, stateBehindPresent, Started, startedState, ChangesAtMost}
-use Rattle.empty_packets.proofs.Behind.{state-as-if-present}
+use Rattle.empty_packets.specs.LaterPackets.{Accepted, headers, stateBehind, stateBehindPresent, blockBitsFrom, blockBits}
+use Rattle.empty_packets.specs.LaterPackets.{SameButInclusionTrees, Started, startedState, ChangesAtMost}
+use Rattle.empty_packets.proofs.Behind.{state-as-if-present, header-as-if-present}
 use Rattle.empty_packets.proofs.Insertion.{insertion-changes-at-most}
 
 -- one band of one block and 5 planes, style 0
@@ -44,10 +45,6 @@ accepted-with : Accepted state (none ∷ first ∷ second ∷ [])
 unfolding rowHolds Accepted
 accepted-with = (refl, (refl, (refl, tt)))
 
-accepted-without : Accepted state (first ∷ second ∷ [])
-unfolding rowHolds Accepted
-accepted-without = (refl, (refl, tt))
-
 first-contributes : (contributes none ≡ false) × (contributes first ≡ true)
 unfolding contributes any
 first-contributes = (refl, refl)
@@ -71,6 +68,21 @@ state-computed = (refl, refl)
 states-differ : stateBehind state (none ∷ []) ≢ stateBehindPresent state (none ∷ [])
 unfolding stateBehind stateBehindPresent rowHolds
 states-differ e = let z : _≡_ {A = ℕ} 0 1 = ap (λ (ws : List ℕ). getD ws 14 0) e in absurd (omega arith)
+
+-- ---- the header behind it
+
+same-header : SameButInclusionTrees first (stateBehind state (none ∷ [])) (stateBehindPresent state (none ∷ []))
+unfolding Accepted
+same-header =
+    header-as-if-present 1 given 0 (5 ∷ []) lent started (none ∷ []) first (accepted-with .0, (accepted-with .1 .0, tt))
+
+-- one bit more of the inclusion tree; then zero planes, pass count, increment and length
+header-computed : (blockBits first (stateBehind state (none ∷ []))
+    ≡ record { inclusionTree = 0 ∷ 1 ∷ []; others = 1 ∷ 0 ∷ 0 ∷ 1 ∷ 0 ∷ 1 ∷ [] } ∷ [])
+    × (blockBits first (stateBehindPresent state (none ∷ []))
+    ≡ record { inclusionTree = 1 ∷ []; others = 1 ∷ 0 ∷ 0 ∷ 1 ∷ 0 ∷ 1 ∷ [] } ∷ [])
+unfolding stateBehind stateBehindPresent blockBits blockBitsFrom rowHolds
+header-computed = (refl, refl)
 
 -- ---- a packet put in
 
