@@ -133,7 +133,7 @@ fn field_too_wide(
 
 // ---- both
 
-// 8 and 9, of lists that 3 and 7 let pass: most packets are told by their sums alone.
+// 8 and 9, of lists that 3 and 7 let pass: without passes there is no segment, and most other packets are told by their sums alone.
 pub fn segments_refusal(
     state: &[u32],
     bands: [Band; 3],
@@ -148,6 +148,9 @@ pub fn segments_refusal(
     ensures { λ r. ⌜ r ≡ segmentsRefusal (now (state .entry)) (blocks (take n bands)) (now (counts .entry)) (now (lengths .entry))
         (now (marks .entry)) ⌝ }
 {
+    if lengths.len() == 0 {
+        return 0;
+    }
     if t2_narrow::surely_narrow(state, bands, n, lengths) {
         return 0;
     }
