@@ -25,7 +25,8 @@ rows() {
         $specs/Interface.antt $specs/Numbers.antt $specs/RoundTrip.antt
     row "the statement of the starts" "t800/specs/Starts.antt" $specs/Starts.antt
     row "the statement of fewer layers" "t800/specs/FewerLayers.antt" $specs/FewerLayers.antt
-    row "the statements of packets without passes" "empty_packets/specs/LaterPackets.antt" crates/empty_packets/specs/LaterPackets.antt
+    row "the statements of packets without passes" "empty_packets/specs/WithoutPasses.antt, LaterPackets.antt" \
+        crates/empty_packets/specs/WithoutPasses.antt crates/empty_packets/specs/LaterPackets.antt
     row "the statement of the walk down" "tgt/specs/Walk.antt, and Path.antt for what contracts call a path" \
         crates/tgt/specs/Walk.antt crates/tgt/specs/Path.antt
     row "what the calls and the exported calls are as interfaces" "theorems/specs/; the record \`exports\` at the end of theorems/proofs/Exports.antt puts it together" \

@@ -8,12 +8,16 @@ use Prim.Native.Nat.{ℕ}
 use native.Mathlib.Omega.{arith}
 use lib.ListN.{getD, replicate}
 use Rattle.t800.specs.declared.Band.{Band}
+use Rattle.t800.specs.declared.Markers.{Markers}
 use Rattle.t800.specs.Base.{any}
 use Rattle.t800.specs.Bits.{pack}
 use Rattle.t800.specs.WriteHeader.{Contribution, contribution, contributes}
+use Rattle.t800.specs.Packet.{WriteResult, write}
 use Rattle.t800.proofs.Table.{rowHolds}
+use Rattle.empty_packets.specs.WithoutPasses.{writtenAsOneByte}
 use Rattle.empty_packets.specs.LaterPackets.{Accepted, headers, stateBehind, stateBehindPresent, blockBitsFrom, blockBits}
 use Rattle.empty_packets.specs.LaterPackets.{SameButInclusionTrees, Started, startedState, ChangesAtMost}
+use Rattle.empty_packets.proofs.WithoutPasses.{written-without-passes}
 use Rattle.empty_packets.proofs.Behind.{state-as-if-present, header-as-if-present}
 use Rattle.empty_packets.proofs.Insertion.{insertion-changes-at-most}
 
@@ -48,6 +52,29 @@ accepted-with = (refl, (refl, (refl, tt)))
 first-contributes : (contributes none ≡ false) × (contributes first ≡ true)
 unfolding contributes any
 first-contributes = (refl, refl)
+
+-- ---- the packet itself, with both markers and number 1, in ten bytes of output
+
+abbrev both : Markers
+both = record { sop = true; eph = true }
+
+abbrev output : List ℕ
+output = replicate 10 7
+
+written : WriteResult
+written = write state lent none [] both 1 output
+
+written-accepted : written .answer .refusal ≡ 0
+unfolding written rowHolds
+written-accepted = refl
+
+as-one-byte : written ≡ writtenAsOneByte state both 1 output
+unfolding written
+as-one-byte = written-without-passes state lent none [] both 1 output (first-contributes .0) written-accepted
+
+bytes-computed : written .output ≡ 0xff ∷ 0x91 ∷ 0x00 ∷ 0x04 ∷ 0x00 ∷ 0x01 ∷ 0x00 ∷ 0xff ∷ 0x92 ∷ 7 ∷ []
+unfolding written rowHolds
+bytes-computed = refl
 
 -- ---- the state behind a packet
 

@@ -11,7 +11,7 @@ use lib.ListN.{length, set, take}
 use Rattle.t800.specs.declared.Band.{Band}
 use Rattle.t800.specs.Base.{Bits, any}
 use Rattle.t800.specs.TagTree.{Coded}
-use Rattle.t800.specs.State.{Block, notYetIncluded, blocks, layer}
+use Rattle.t800.specs.State.{Block, notYetIncluded, blocks}
 use Rattle.t800.specs.WriteHeader.{Contribution, setNewBlocks, contributes, codePresent, codeAbsent, codeHeader}
 use Rattle.t800.specs.Packet.{measureRefusal}
 use Rattle.t800_laws.proofs.Laws.Tests.{or-left, or-right}

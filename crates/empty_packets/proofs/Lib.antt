@@ -1,3 +1,4 @@
+pub mod WithoutPasses
 pub mod BlockParts
 pub mod NewBlocks
 pub mod Settled

@@ -1,1 +1,2 @@
+pub mod WithoutPasses
 pub mod LaterPackets

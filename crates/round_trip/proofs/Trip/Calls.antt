@@ -76,7 +76,7 @@ module _ (ws scratch : List ℕ) (p : Contribution) (body : List ℕ) (m : Marke
   why = writeRefusal ws scratch p body m number output
 
   -- the two ways that a call goes
-  write-done : eqb why 0 ≡ true → write ws scratch p body m number output
+  pub write-done : eqb why 0 ≡ true → write ws scratch p body m number output
       ≡ record {
         answer = record { refusal = 0; bytes = length (packet ws p body m number) };
         state = codeHeader p ws .words;
@@ -86,14 +86,14 @@ module _ (ws scratch : List ℕ) (p : Contribution) (body : List ℕ) (m : Marke
   unfolding writeWith
   write-done e = if-true (eqb why 0) _ _ e
 
-  write-refused : eqb why 0 ≡ false → (write ws scratch p body m number output .state ≡ ws)
+  pub write-refused : eqb why 0 ≡ false → (write ws scratch p body m number output .state ≡ ws)
       × (write ws scratch p body m number output .answer .refusal ≡ why)
   unfolding writeWith
   write-refused e =
       let P : WriteResult → Type 0 = λ w. (w .state ≡ ws) × (w .answer .refusal ≡ why) in
       of-false P (eqb why 0) _ _ e (either P (eqb why 11) _ _ (refl, refl) (refl, refl))
 
-  write-zero : why ≡ 0 → (measureRefusal ws scratch p ≡ 0) × (length body ≡ sum (p .lengths))
+  pub write-zero : why ≡ 0 → (measureRefusal ws scratch p ≡ 0) × (length body ≡ sum (p .lengths))
   unfolding measureRefusalWith writeRefusalWith
   write-zero e =
       let c₁ = both-zero (eqb (measureRefusal ws scratch p) 0) (measureRefusal ws scratch p) _ refl

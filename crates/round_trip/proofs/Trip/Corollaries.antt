@@ -24,7 +24,7 @@ use Rattle.t800.specs.RoundTrip.{Owed, ReadsPacket, GivesEntry}
 use Rattle.round_trip.proofs.Trip.Lists.{WriterCall, measuring, writing, accepted, stateAfter, owedFor, owed, allTerminatedAsStyle}
 use Rattle.round_trip.proofs.Trip.Lists.{ReaderCall, refusedRead, packetRead}
 use Rattle.t800_laws.proofs.Laws.Tests.{either, if-eq, if-ne, if-true, if-false, on-eq}
-use Rattle.t800_laws.proofs.Laws.Lists.{none-too-deep}
+use Rattle.t800_laws.proofs.Laws.Lists.{no-elements, none-too-deep}
 use Rattle.round_trip.proofs.Trip.Booked.{entries-length}
 use Rattle.round_trip.proofs.Trip.Calls.{refused-keeps, terminated-accepted, terminated-refused, FirstOwed, first-owed}
 use Rattle.round_trip.proofs.Trip.Calls.{refused-read-keeps}
@@ -274,12 +274,8 @@ pub no-proper-prefix : (s : ℕ) (ws : List ℕ) (book : List BlockEntry) → Re
     → (rest : List ℕ) → frontOf ws a ++ rest ≡ frontOf ws b → rest ≡ []
 no-proper-prefix s ws book R a b A B marked rest e =
     let l = same-length s ws book R a b A B marked (ap (take (length (frontOf ws a))) (sym e) ∙ take-append-seam (frontOf ws a) rest) in
-    empty rest (let n : length (frontOf ws a) + length rest ≡ length (frontOf ws b) = sym (length-append (frontOf ws a) rest)
+    no-elements rest (let n : length (frontOf ws a) + length rest ≡ length (frontOf ws b) = sym (length-append (frontOf ws a) rest)
     ∙ ap length e in omega arith)
-  where
-    empty : (xs : List ℕ) → length xs ≡ 0 → xs ≡ []
-    empty [] h = refl
-    empty (x ∷ xs) h = absurd (omega arith)
 
 -- ---- different counts give different entries
 

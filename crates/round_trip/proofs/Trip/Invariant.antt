@@ -44,11 +44,11 @@ use Rattle.round_trip.proofs.Trip.AbsentPacket.{absent-packet-read}
 use Rattle.round_trip.proofs.Trip.Bits.{nextBit, bioAfter}
 use Rattle.t800_laws.proofs.Laws.Tests.{either, either-by, if-true, if-false}
 use Rattle.t800_laws.proofs.Laws.Checks.{on-bool}
-use Rattle.t800_laws.proofs.Laws.Contributes.{single-bit-packed}
+use Rattle.t800_laws.proofs.Laws.Contributes.{absent-front}
 use Rattle.round_trip.proofs.Trip.Calls.{is-accepted}
 use Rattle.t800_laws.proofs.Laws.Accepted.{start-accepted, few-bands}
 use Rattle.round_trip.proofs.Trip.Start.{started-in-step, started-booked}
-use Rattle.round_trip.proofs.Trip.WriterInRange.{WriterInvariant, writer-after-start, present-coded, absent-coded, blocks-are}
+use Rattle.round_trip.proofs.Trip.WriterInRange.{WriterInvariant, writer-after-start, present-coded, blocks-are}
 use Rattle.round_trip.proofs.Trip.WriterInRange.{layer-left, acceptable, state-present, state-absent, writer-after}
 
 -- with bands bs, style s and next layer t: writer's words, reader's words, and the book
@@ -111,12 +111,6 @@ front-present : (ws : List ℕ) (c : Contribution) (m : Markers) (number t : ℕ
 unfolding front
 front-present ws c m number t ks l k n = ap (λ (x : Coded). withMarkers m number (pack (x .bits))) (present-coded c ws t ks l k n)
 
-front-absent : (ws : List ℕ) (c : Contribution) (m : Markers) (number t : ℕ) → layer ws ≡ t → contributes c ≡ false
-    → front ws c m number ≡ singleBit m number
-unfolding front
-front-absent ws c m number t l n =
-    ap (λ (x : Coded). withMarkers m number (pack (x .bits))) (absent-coded c ws t l n) ∙ ap (withMarkers m number) single-bit-packed
-
 -- the same call with more input reads the packet too
 reads-with-more : (form : RecordForm) (rs : List ℕ) (o : Owed) (r : ReadCall form) (more : List ℕ) → ReadsPacket form rs o r
     → ReadsPacket form rs o (withMore form r more)
@@ -156,7 +150,7 @@ module _ (bs : List Band) (s t : ℕ) (ws rs : List ℕ) (es : List BlockEntry) 
 
   front-single : contributes c ≡ false → owedFor s ws es w .front ≡ singleBit (w .markers) (w .number)
   unfolding owedFor
-  front-single n = is-accepted ws w a .front-is ∙ front-absent ws c (w .markers) (w .number) t (W .first-words .layer-is) n
+  front-single n = is-accepted ws w a .front-is ∙ absent-front c ws (w .markers) (w .number) n
 
   counts-are : length (c .counts) ≡ length es
   counts-are = acceptable bs s t ws w W a .counts ∙ sym (entries-length ws ks es (y .booked))

@@ -58,7 +58,7 @@ pub present-coded : (c : Contribution) (ws : List ℕ) (t : ℕ) (ks : List Bloc
 unfolding codePresent
 present-coded c ws t ks l k n = present-header c ws n ∙ (rw (l, k))
 
-pub absent-coded : (c : Contribution) (ws : List ℕ) (t : ℕ) → layer ws ≡ t → contributes c ≡ false
+absent-coded : (c : Contribution) (ws : List ℕ) (t : ℕ) → layer ws ≡ t → contributes c ≡ false
     → codeHeader c ws ≡ record { bits = 0 ∷ []; words = set ws 3 (t + 1) }
 unfolding codeAbsent
 absent-coded c ws t l n = absent-header c ws n ∙ (rw l)

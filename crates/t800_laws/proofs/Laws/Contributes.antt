@@ -7,9 +7,13 @@ use native.Mathlib.Nat.{zero-add}
 use native.Mathlib.Omega.{arith}
 use lib.Dec.{ltb}
 use borrow.Author.Tests.{lt-ltb}
+use Rattle.t800.specs.declared.Markers.{Markers}
 use Rattle.t800.specs.Base.{any, sum}
 use Rattle.t800.specs.Bits.{lastBytes, packFrom, pack}
+use Rattle.t800.specs.TagTree.{Coded}
 use Rattle.t800.specs.WriteHeader.{Contribution, contributes, codePresent, codeAbsent, codeHeader}
+use Rattle.t800.specs.MarkerSegments.{withMarkers}
+use Rattle.t800.specs.Packet.{front}
 use Rattle.t800_laws.proofs.Laws.Tests.{if-true, if-false}
 
 some-by-sum : (cs : List ℕ) → any (λ (c : ℕ). ltb 0 c) cs ≡ ltb 0 (sum cs)
@@ -33,3 +37,9 @@ absent-header p ws e = if-false (contributes p) (codePresent p ws) (codeAbsent w
 pub single-bit-packed : pack (0 ∷ []) ≡ 0 ∷ []
 unfolding pack packFrom lastBytes
 single-bit-packed = refl
+
+pub absent-front : (p : Contribution) (ws : List ℕ) (m : Markers) (number : ℕ) → contributes p ≡ false
+    → front ws p m number ≡ withMarkers m number (0 ∷ [])
+unfolding front codeAbsent
+absent-front p ws m number e =
+    ap (λ (x : Coded). withMarkers m number (pack (x .bits))) (absent-header p ws e) ∙ ap (withMarkers m number) single-bit-packed

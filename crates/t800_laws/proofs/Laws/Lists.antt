@@ -21,6 +21,10 @@ use Rattle.t800.specs.WriteHeader.{Contribution}
 use Rattle.t800.specs.Packet.{wrongLists}
 use Rattle.t800_laws.proofs.Laws.Tests.{or-left, or-right}
 
+pub no-elements : (xs : List ℕ) → length xs ≡ 0 → xs ≡ []
+no-elements [] h = refl
+no-elements (x ∷ xs) h = absurd (omega arith)
+
 -- a list from place i on, in the code's numbers
 pub next-entry : (l : List ℕ) (i : ℕ) → i < length l → drop i l ≡ getD l i 0 ∷ drop (i + 1) l
 next-entry l i h = drop-cons l i 0 h ∙ rw (add-one i)

@@ -1,10 +1,9 @@
 -- What reads and writes leave in the state, for all arguments (SCOPE S4, S5, S8 and S9): one that is accepted moves the next layer by one,
--- one that is refused leaves the state, an absent packet moves nothing but the next layer, written or read, and a missing marker refuses
--- nothing.
+-- one that is refused leaves the state, an absent packet moves nothing but the next layer, and a missing marker refuses nothing.
 use mathlib.Core.Path.{_≡_, refl, sym, ap, _∙_}
 use mathlib.Core.Logic.{_≢_}
 use mathlib.Core.Bool.{Bool, true, false, cond, _&&_, _||_, not}
-use mathlib.Core.List.{List, [], _∷_, _++_}
+use mathlib.Core.List.{List, [], _∷_}
 use Prim.Native.Nat.{ℕ, zero, suc, _+_, _-_, _*_, _≤_, _<_}
 use native.Mathlib.Nat.{le-trans, mul-le-mul-left}
 use native.Mathlib.Omega.{arith}
@@ -15,7 +14,7 @@ use borrow.Author.Tests.{eqb-true, eqb-false, leb-true, ne-eqb, le-leb, not-true
 use Rattle.t800.specs.declared.Band.{Band}
 use Rattle.t800.specs.declared.Markers.{Markers}
 use Rattle.t800.specs.Base.{every, wiped}
-use Rattle.t800.specs.Bits.{bioAt, getBit, pack}
+use Rattle.t800.specs.Bits.{bioAt, getBit}
 use Rattle.t800.specs.Segments.{isLimit}
 use Rattle.t800.specs.State.{notYetIncluded, notYetPlanes, writer, reader, role, bandCount, style, layer, bands, blocksIn}
 use Rattle.t800.specs.State.{bandNodes, bandLength, stateLength, passesSoFar, lengthBits, segmentLimit, segmentPasses}
@@ -25,15 +24,14 @@ use Rattle.t800.specs.Reports.{RecordForm}
 use Rattle.t800.specs.TagTree.{Coded}
 use Rattle.t800.specs.WriteHeader.{Contribution, contributes, codePresent, codeAbsent, codeHeader}
 use Rattle.t800.specs.ReadHeader.{HeaderRead, readHeader}
-use Rattle.t800.specs.MarkerSegments.{withMarkers, MarkerRead, readMarker, readSop}
+use Rattle.t800.specs.MarkerSegments.{MarkerRead, readMarker, readSop}
 use Rattle.t800.specs.Packet.{writeRefusal, writeRefusalWith, WriteResult, write, writeWith, readRefusal, readRefusalWith, ReadResult}
-use Rattle.t800.specs.Packet.{front, packet, readAbsent}
+use Rattle.t800.specs.Packet.{readAbsent}
 use Rattle.t800.specs.Packet.{readResult, refusedAnswer, readPresent, read, readWith}
 use Rattle.t800_laws.proofs.Laws.Tests.{either, either-by, if-true, if-false, and-left, and-right, not-refused}
 use Rattle.t800_laws.proofs.Laws.Layout.{end-after}
 use Rattle.t800_laws.proofs.Laws.FirstWords.{same-bands}
 use Rattle.t800_laws.proofs.Laws.HeaderKept.{blocksCoded, header-coded, header-read}
-use Rattle.t800_laws.proofs.Laws.Contributes.{absent-header, single-bit-packed}
 
 -- ---- what a call that gives no 5 says of its state
 
@@ -195,22 +193,6 @@ module _ (ws scratch : List ℕ) (p : Contribution) (body : List ℕ) (m : Marke
       either-by P (eqb why 0) _ _
       (λ t e. header-next-layer
       (has-first-words ws (length scratch) (tested writer ws (length scratch) (writing-in-range (eqb-true why 0 t)))))
-      (λ f. either P (eqb why 11) _ _ (λ e. absurd (eqb-false why 0 f e)) (λ e. absurd (eqb-false why 0 f e)))
-
-  -- a packet without passes: markers around one byte, and only the next layer moves
-  pub written-without-passes : wrote .answer .refusal ≡ 0 → contributes p ≡ false
-      → (wrote .state ≡ set ws 3 (layer ws + 1)) × (wrote .answer .bytes ≡ length (withMarkers m number (0 ∷ []) ++ body))
-  unfolding writeWith packet front codeAbsent
-  written-without-passes =
-      let why : ℕ = writeRefusal ws scratch p body m number output in
-      let P : WriteResult → Type 0 = λ o. o .answer .refusal ≡ 0 → contributes p ≡ false
-      → (o .state ≡ set ws 3 (layer ws + 1)) × (o .answer .bytes ≡ length (withMarkers m number (0 ∷ []) ++ body)) in
-      either-by P (eqb why 0) _ _
-      (λ t e n. (
-        ap (λ (x : Coded). x .words) (absent-header p ws n),
-        ap (λ (x : Coded). length (withMarkers m number (pack (x .bits)) ++ body)) (absent-header p ws n)
-            ∙ ap (λ (x : List ℕ). length (withMarkers m number x ++ body)) single-bit-packed,
-      ))
       (λ f. either P (eqb why 11) _ _ (λ e. absurd (eqb-false why 0 f e)) (λ e. absurd (eqb-false why 0 f e)))
 
   pub refused-write-leaves-state : wrote .answer .refusal ≢ 0 → wrote .state ≡ ws
