@@ -1,7 +1,7 @@
 -- The state behind a packet with passes is that of packets all coded block by block: packets without passes leave behind them the lows and
 -- knowns on new blocks' inclusion paths alone, and a packet with passes settles these.
 use mathlib.Core.Path.{_≡_, refl, sym, ap, ap₂, _∙_, subst, subst₂}
-use mathlib.Core.Bool.{Bool, true, false, cond, _&&_}
+use mathlib.Core.Bool.{Bool, true, false, cond, _&&_, and-false}
 use mathlib.Core.List.{List, [], _∷_, _++_, reverse}
 use Prim.Native.Nat.{ℕ, _+_, _<_}
 use native.Mathlib.Omega.{arith}
@@ -187,17 +187,15 @@ module _ (bs : List Band) (s t : ℕ) (ws vs : List ℕ) (y : Ahead bs s t ws vs
 
 -- ---- a packet without passes
 
-and-no : (a b : Bool) → b ≡ false → (a && b) ≡ false
-and-no true b e = e
-and-no false b e = refl
-
 none-set : (t : ℕ) (ks : List Block) (cs ws : List ℕ) → any (λ (c : ℕ). ltb 0 c) cs ≡ false → setNewBlocks t ks cs ws ≡ ws
 unfolding setNewBlocks any
 none-set t [] cs ws h = refl
 none-set t (k ∷ ks) [] ws h = refl
 none-set t (k ∷ ks) (c ∷ cs) ws h =
     let rest : Bool = any (λ (d : ℕ). ltb 0 d) cs in
-    ap (setNewBlocks t ks cs) (if-false (isNew ws k && ltb 0 c) _ _ (and-no (isNew ws k) (ltb 0 c) (or-left (ltb 0 c) rest h)))
+    let absent : (isNew ws k && ltb 0 c) ≡ false =
+    ap (λ (b : Bool). isNew ws k && b) (or-left (ltb 0 c) rest h) ∙ and-false (isNew ws k) in
+    ap (setNewBlocks t ks cs) (if-false (isNew ws k && ltb 0 c) _ _ absent)
     ∙ none-set t ks cs ws (or-right (ltb 0 c) rest h)
 
 -- a block without passes

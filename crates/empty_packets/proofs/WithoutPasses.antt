@@ -1,5 +1,5 @@
 -- A packet without passes is one byte between its markers, written or measured, and moves the next layer alone.
-use mathlib.Core.Path.{_≡_, refl, sym, ap, ap₂, _∙_}
+use mathlib.Core.Path.{_≡_, refl, ap, ap₂, _∙_}
 use mathlib.Core.Bool.{Bool, true, false, cond}
 use mathlib.Core.List.{List, [], _∷_, _++_, append-nil}
 use Prim.Native.Nat.{ℕ}
@@ -11,13 +11,14 @@ use Rattle.t800.specs.Base.{Bytes, sum, overwrite}
 use Rattle.t800.specs.TagTree.{Coded}
 use Rattle.t800.specs.WriteHeader.{Contribution, contributes, codeAbsent, codeHeader}
 use Rattle.t800.specs.MarkerSegments.{sopBytes, ephBytes, withMarkers}
-use Rattle.t800.specs.Packet.{measureRefusal, MeasureResult, measureWith, packet, writeRefusal, write}
-use Rattle.t800_laws.proofs.Laws.Tests.{either-by}
+use Rattle.t800.specs.Packet.{measureRefusal, MeasureResult, measureWith, packet, writeRefusal, WriteResult, writeWith}
+use Rattle.t800_laws.proofs.Laws.Tests.{either, either-by}
 use Rattle.t800_laws.proofs.Laws.Lists.{no-elements}
 use Rattle.t800_laws.proofs.Laws.Contributes.{absent-header, absent-front}
 use Rattle.round_trip.proofs.Trip.AbsentPacket.{no-passes}
-use Rattle.round_trip.proofs.Trip.Calls.{measured, write-done, write-refused, write-zero}
-use Rattle.empty_packets.specs.WithoutPasses.{oneByte, inNextLayer, WrittenWithoutPasses, measuredAsOneByte, MeasuredWithoutPasses}
+use Rattle.round_trip.proofs.Trip.Calls.{measured, write-zero}
+use Rattle.empty_packets.specs.WithoutPasses.{oneByte, inNextLayer, writtenAsOneByte, WrittenWithoutPasses, measuredAsOneByte}
+use Rattle.empty_packets.specs.WithoutPasses.{MeasuredWithoutPasses}
 
 absent-words : (p : Contribution) (ws : List ℕ) → contributes p ≡ false → codeHeader p ws .words ≡ inNextLayer ws
 unfolding codeAbsent
@@ -30,30 +31,23 @@ no-lengths p ws scratch none e = ap sum (no-elements (p .lengths) (measured ws s
 
 -- ---- writing
 
--- nothing else gives 0
-accepted-zero : (ws scratch : List ℕ) (p : Contribution) (body : List ℕ) (m : Markers) (number : ℕ) (output : List ℕ)
-    → write ws scratch p body m number output .answer .refusal ≡ 0 → eqb (writeRefusal ws scratch p body m number output) 0 ≡ true
-accepted-zero ws scratch p body m number output e = go (eqb (writeRefusal ws scratch p body m number output) 0) refl
-  where
-    go : (b : Bool) → eqb (writeRefusal ws scratch p body m number output) 0 ≡ b → b ≡ true
-    go true h = refl
-    go false h = absurd (eqb-false _ 0 h (sym (write-refused ws scratch p body m number output h .1) ∙ e))
-
 pub written-without-passes : WrittenWithoutPasses
-unfolding packet
-written-without-passes ws scratch p body m number output none e =
-    let h = accepted-zero ws scratch p body m number output e in
-    let z = write-zero ws scratch p body m number output (eqb-true _ 0 h) in
+unfolding writeWith packet
+written-without-passes ws scratch p body m number output none =
+    let why : ℕ = writeRefusal ws scratch p body m number output in
+    let P : WriteResult → Type 0 = λ o. o .answer .refusal ≡ 0 → o ≡ writtenAsOneByte ws m number output in
+    either-by P (eqb why 0) _ _
+    (λ h e. let z = write-zero ws scratch p body m number output (eqb-true why 0 h) in
     let empty : body ≡ [] = no-elements body (z .1 ∙ no-lengths p ws scratch none (z .0)) in
     let made : packet ws p body m number ≡ oneByte m number =
     ap₂ (λ (x y : Bytes). x ++ y) (absent-front p ws m number none) empty ∙ append-nil (oneByte m number) in
-    write-done ws scratch p body m number output h
-    ∙ ap₂ (λ (ys : List ℕ) (bytes : Bytes). record {
-      answer = record { refusal = 0; bytes = length bytes };
-      state = ys;
-      scratch = ys;
-      output = overwrite output bytes;
-    }) (absent-words p ws none) made
+    λ i. record {
+      answer = record { refusal = 0; bytes = length (made i) };
+      state = absent-words p ws none i;
+      scratch = absent-words p ws none i;
+      output = overwrite output (made i);
+    })
+    (λ h. either P (eqb why 11) _ _ (λ e. absurd (eqb-false why 0 h e)) (λ e. absurd (eqb-false why 0 h e)))
 
 -- ---- measuring
 

@@ -76,7 +76,7 @@ module _ (ws scratch : List ℕ) (p : Contribution) (body : List ℕ) (m : Marke
   why = writeRefusal ws scratch p body m number output
 
   -- the two ways that a call goes
-  pub write-done : eqb why 0 ≡ true → write ws scratch p body m number output
+  write-done : eqb why 0 ≡ true → write ws scratch p body m number output
       ≡ record {
         answer = record { refusal = 0; bytes = length (packet ws p body m number) };
         state = codeHeader p ws .words;
@@ -86,7 +86,7 @@ module _ (ws scratch : List ℕ) (p : Contribution) (body : List ℕ) (m : Marke
   unfolding writeWith
   write-done e = if-true (eqb why 0) _ _ e
 
-  pub write-refused : eqb why 0 ≡ false → (write ws scratch p body m number output .state ≡ ws)
+  write-refused : eqb why 0 ≡ false → (write ws scratch p body m number output .state ≡ ws)
       × (write ws scratch p body m number output .answer .refusal ≡ why)
   unfolding writeWith
   write-refused e =

@@ -2,15 +2,16 @@
 use mathlib.Core.Path.{_≡_, refl, sym}
 use mathlib.Core.Bool.{Bool, true, false, cond, _&&_}
 use mathlib.Core.List.{List, [], _∷_}
-use Prim.Native.Nat.{ℕ, zero, suc, _^_}
-use native.Mathlib.Omega.{arith}
-use lib.ListN.{length, take, drop}
+use Prim.Native.Nat.{ℕ, _^_}
+use lib.ListN.{length, drop}
+use lib.Seq.{take-nil, drop-nil}
 use lib.Dec.{ltb}
 use Rattle.t800.specs.declared.Band.{Band}
 use Rattle.t800.specs.Base.{any, sum}
 use Rattle.t800.specs.Segments.{segmentsFrom, segmentsOf}
 use Rattle.t800.specs.State.{Block, blocks}
 use Rattle.t800.specs.WriteHeader.{segmentTooLong, fieldTooWide}
+use Rattle.t800_laws.proofs.Laws.Lists.{no-elements}
 use Rattle.t2_narrow.specs.Narrow.{bitsUpTo25}
 use Rattle.t2_widths.specs.Widths.{segmentsRefusal}
 use Rattle.t2_narrow.proofs.Laws.FewBytes.{few-neither}
@@ -23,25 +24,20 @@ refusal-parts ws ks cs ls ms a b p q = rw (p, q)
 
 -- ---- without lengths there is no segment
 
-none-left : (c : ℕ) (ls : List ℕ) → length ls ≡ 0 → (take c ls ≡ []) × (length (drop c ls) ≡ 0)
-none-left zero [] e = (refl, refl)
-none-left (suc c) [] e = (refl, refl)
-none-left c (l ∷ ls) e = absurd (omega arith)
-
-none-long : (cs ls ms : List ℕ) → length ls ≡ 0 → segmentTooLong cs ls ms ≡ false
+none-long : (cs ms : List ℕ) → segmentTooLong cs [] ms ≡ false
 unfolding segmentTooLong segmentsOf segmentsFrom any
-none-long [] ls ms e = refl
-none-long (c ∷ cs) ls ms e = rw (none-left c ls e .0) (none-long cs (drop c ls) (drop c ms) (none-left c ls e .1))
+none-long [] ms = refl
+none-long (c ∷ cs) ms = rw (take-nil {A = ℕ} c, drop-nil {A = ℕ} c) (none-long cs (drop c ms))
 
-none-wide : (ws : List ℕ) (ks : List Block) (cs ls ms : List ℕ) → length ls ≡ 0 → fieldTooWide ws ks cs ls ms ≡ false
+none-wide : (ws : List ℕ) (ks : List Block) (cs ms : List ℕ) → fieldTooWide ws ks cs [] ms ≡ false
 unfolding fieldTooWide segmentsOf segmentsFrom any
-none-wide ws [] cs ls ms e = refl
-none-wide ws (k ∷ ks) [] ls ms e = refl
-none-wide ws (k ∷ ks) (c ∷ cs) ls ms e = rw (none-left c ls e .0) (none-wide ws ks cs (drop c ls) (drop c ms) (none-left c ls e .1))
+none-wide ws [] cs ms = refl
+none-wide ws (k ∷ ks) [] ms = refl
+none-wide ws (k ∷ ks) (c ∷ cs) ms = rw (take-nil {A = ℕ} c, drop-nil {A = ℕ} c) (none-wide ws ks cs (drop c ms))
 
 pub none-refused : (ws : List ℕ) (ks : List Block) (cs ls ms : List ℕ) → length ls ≡ 0 → 0 ≡ segmentsRefusal ws ks cs ls ms
 none-refused ws ks cs ls ms e =
-    refusal-parts ws ks cs ls ms false false (sym (none-long cs ls ms e)) (sym (none-wide ws ks cs ls ms e))
+    rw (no-elements ls e) (refusal-parts ws ks cs [] ms false false (sym (none-long cs ms)) (sym (none-wide ws ks cs ms)))
 
 -- ---- nor is any refused where they are few bytes
 
