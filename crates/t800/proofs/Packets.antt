@@ -56,16 +56,19 @@ abbrev get : ℕ → ℕ → List ℕ → List ℕ → List ℕ → List ℕ →
 get n k src answer reports records =
     reads (record { markers = plain; input = src; scratch = n; reports = 4 * k; records = 20 }) answer reports records
 
--- the answer of a packet without markers: present, bytes taken, segments
+-- the answer of a packet without markers: present, bytes taken, segments; bits past the end
+abbrev told-past : ℕ → ℕ → ℕ → ℕ → List ℕ
+told-past present taken segments past = 0 ∷ present ∷ taken ∷ segments ∷ 0 ∷ 0 ∷ past ∷ []
+
 abbrev told : ℕ → ℕ → ℕ → List ℕ
-told present taken segments = 0 ∷ present ∷ taken ∷ segments ∷ 0 ∷ 0 ∷ []
+told present taken segments = told-past present taken segments 0
 
 -- k blocks of an absent packet
 abbrev gets-none : ℕ → ℕ → Step
 gets-none n k = get n k (0x00 ∷ []) (told 0 1 0) (copies (4 * k) 0) []
 
 abbrev no : ℕ → List ℕ
-no why = why ∷ 0 ∷ 0 ∷ 0 ∷ 0 ∷ 0 ∷ []
+no why = why ∷ 0 ∷ 0 ∷ 0 ∷ 0 ∷ 0 ∷ 0 ∷ []
 
 -- n passes of which the first has all the bytes
 abbrev lengths : ℕ → ℕ → List ℕ
@@ -125,7 +128,7 @@ a-to-l =
     (puts-none 23 1 ∷ holds-writer (words 1 0 1 fresh-included (node 0 0 0) (block 0 0 0 0))
     ∷ gets-none 23 1 ∷ holds-reader (unread 1)
     ∷ [])
-    ∷ one (get 23 1 [] (told 0 0 0) (copies 4 0) [] ∷ holds-reader (unread 1) ∷ [])
+    ∷ one (get 23 1 [] (told-past 0 0 0 1) (copies 4 0) [] ∷ holds-reader (unread 1) ∷ [])
     ∷ one (gets-none 23 1 ∷ holds-reader (unread 1) ∷ [])
     -- I: A with both markers, number 65,537
     ∷ one
@@ -536,11 +539,14 @@ sop-only = record { sop = true; eph = false }
 abbrev eph-only : Markers
 eph-only = record { sop = false; eph = true }
 
--- a read with these markers: present, bytes taken, SOP mark, EPH mark
-abbrev scans : Markers → List ℕ → ℕ → ℕ → ℕ → ℕ → Step
-scans m src present taken sop eph =
+-- a read with these markers: present, bytes taken, SOP mark, EPH mark; bits past the end
+abbrev scans-past : Markers → List ℕ → ℕ → ℕ → ℕ → ℕ → ℕ → Step
+scans-past m src present taken sop eph past =
     reads (record { markers = m; input = src; scratch = 13; reports = 0; records = 0 })
-    (0 ∷ present ∷ taken ∷ 0 ∷ sop ∷ eph ∷ []) [] []
+    (0 ∷ present ∷ taken ∷ 0 ∷ sop ∷ eph ∷ past ∷ []) [] []
+
+abbrev scans : Markers → List ℕ → ℕ → ℕ → ℕ → ℕ → Step
+scans m src present taken sop eph = scans-past m src present taken sop eph 0
 
 abbrev stamps : Markers → ℕ → List ℕ → Step
 stamps m number bytes =
@@ -566,9 +572,9 @@ marker-rows =
       style = 0;
       steps =
           -- SOP with 6 bytes left and more, whatever its last four are; with 0 to 5 bytes left, where what is there is the header
-          scans sop-only (0xff ∷ 0x91 ∷ 0x00 ∷ 0x04 ∷ 0x00 ∷ 0x00 ∷ []) 0 6 0 0
+          scans-past sop-only (0xff ∷ 0x91 ∷ 0x00 ∷ 0x04 ∷ 0x00 ∷ 0x00 ∷ []) 0 6 0 0 1
           ∷ scans sop-only (0xff ∷ 0x91 ∷ 0x07 ∷ 0x07 ∷ 0x07 ∷ 0x07 ∷ 0x80 ∷ []) 1 7 0 0
-          ∷ scans sop-only [] 0 0 1 0
+          ∷ scans-past sop-only [] 0 0 1 0 1
           ∷ reads (record { markers = sop-only; input = 0xff ∷ []; scratch = 13; reports = 0; records = 0 }) (no 12) [] []
           ∷ scans sop-only (0xff ∷ 0x91 ∷ []) 1 2 1 0
           ∷ scans sop-only (0xff ∷ 0x91 ∷ 0x00 ∷ []) 1 2 1 0
@@ -598,7 +604,7 @@ marker-rows =
     ∷ one
     (loads-reader (read-one 0 65534 32)
     ∷ reads (record { markers = marked; input = 0x00 ∷ 0x07 ∷ 0x07 ∷ []; scratch = 23; reports = 4; records = 4 })
-    (0 ∷ 0 ∷ 1 ∷ 0 ∷ 1 ∷ 2 ∷ []) (copies 4 0) []
+    (0 ∷ 0 ∷ 1 ∷ 0 ∷ 1 ∷ 2 ∷ 0 ∷ []) (copies 4 0) []
     ∷ holds-reader (read-one 0 65535 32)
     ∷ [])
     ∷ []
@@ -650,15 +656,15 @@ slip-rows =
     ∷ [])
     -- a missing marker treated as a refusal: A without markers where both are used, alone and with bytes after it; a half marker
     ∷ one
-    (reads (record { markers = marked; input = 0xe5 ∷ []; scratch = 23; reports = 4; records = 4 }) (0 ∷ 1 ∷ 1 ∷ 1 ∷ 1 ∷ 1 ∷ [])
+    (reads (record { markers = marked; input = 0xe5 ∷ []; scratch = 23; reports = 4; records = 4 }) (0 ∷ 1 ∷ 1 ∷ 1 ∷ 1 ∷ 1 ∷ 0 ∷ [])
     (1 ∷ 0 ∷ 5 ∷ 1 ∷ []) (0 ∷ 1 ∷ 1 ∷ 5 ∷ []) ∷ [])
     ∷ one
     (reads (record { markers = marked; input = 0xe5 ∷ copies 5 7; scratch = 23; reports = 4; records = 4 })
-    (0 ∷ 1 ∷ 1 ∷ 1 ∷ 2 ∷ 2 ∷ []) (1 ∷ 0 ∷ 5 ∷ 1 ∷ []) (0 ∷ 1 ∷ 1 ∷ 5 ∷ []) ∷ [])
+    (0 ∷ 1 ∷ 1 ∷ 1 ∷ 2 ∷ 2 ∷ 0 ∷ []) (1 ∷ 0 ∷ 5 ∷ 1 ∷ []) (0 ∷ 1 ∷ 1 ∷ 5 ∷ []) ∷ [])
     ∷ one
     (reads
     (record { markers = record { sop = false; eph = true }; input = 0xe5 ∷ 0xff ∷ []; scratch = 23; reports = 4; records = 4 })
-    (0 ∷ 1 ∷ 1 ∷ 1 ∷ 0 ∷ 1 ∷ []) (1 ∷ 0 ∷ 5 ∷ 1 ∷ []) (0 ∷ 1 ∷ 1 ∷ 5 ∷ []) ∷ [])
+    (0 ∷ 1 ∷ 1 ∷ 1 ∷ 0 ∷ 1 ∷ 0 ∷ []) (1 ∷ 0 ∷ 5 ∷ 1 ∷ []) (0 ∷ 1 ∷ 1 ∷ 5 ∷ []) ∷ [])
     -- an absent packet between its markers
     ∷ one
     (reads
@@ -673,9 +679,9 @@ slip-rows =
     ∷ one (both 1 0 (0xe0 ∷ []))
     -- six zero planes read in a band of five: the block's planes wrap
     ∷ one (get 23 1 (0xc0 ∷ 0x85 ∷ []) (told 1 2 1) (1 ∷ 6 ∷ (2 ^ 32 - 1) ∷ 1 ∷ []) (0 ∷ 1 ∷ 1 ∷ 1 ∷ []) ∷ [])
-    -- a header that goes on past the end reads zeros there: the first pass of A's block with 0 bytes
+    -- a header that ends with the input, and one that goes on past the end, where it reads zeros
     ∷ one (get 23 1 (0xe0 ∷ []) (told 1 1 1) (1 ∷ 0 ∷ 5 ∷ 1 ∷ []) (0 ∷ 1 ∷ 1 ∷ 0 ∷ []) ∷ [])
-    ∷ one (get 23 1 (0xea ∷ []) (told 1 1 1) (1 ∷ 0 ∷ 5 ∷ 1 ∷ []) (0 ∷ 1 ∷ 1 ∷ 8 ∷ []) ∷ [])
+    ∷ one (get 23 1 (0xea ∷ []) (told-past 1 1 1 2) (1 ∷ 0 ∷ 5 ∷ 1 ∷ []) (0 ∷ 1 ∷ 1 ∷ 8 ∷ []) ∷ [])
     -- three bands, the second without blocks: blocks are numbered through
     ∷ record {
       given = band 1 1 5 ∷ band 0 3 7 ∷ band 1 1 6 ∷ [];
@@ -1013,14 +1019,62 @@ empty-rows =
     ∷ [])
     ∷ []
 
+-- ---- bits past the input's end
+
+-- A's block as it comes first, and a block that had a pass: bits past the end; report; record
+abbrev cut : List ℕ → ℕ → List ℕ → List ℕ → Step
+cut src past report segment = get 23 1 src (told-past 1 (length src) 1 past) report segment
+
+pub past-rows : List Row
+past-rows =
+    -- no bytes; SOP and no bytes, also where SOP ends in FF; an absent packet that is there
+    one (get 23 1 [] (told-past 0 0 0 1) (copies 4 0) [] ∷ [])
+    ∷ record {
+      given = band 0 0 5 ∷ [];
+      planes = [];
+      style = 0;
+      steps =
+          scans-past sop-only (0xff ∷ 0x91 ∷ 0x00 ∷ 0x04 ∷ 0x00 ∷ 0xff ∷ []) 0 6 0 0 1
+          ∷ scans-past eph-only [] 0 0 0 1 1
+          ∷ scans eph-only (0x00 ∷ []) 0 1 0 1
+          ∷ scans plain (0x00 ∷ []) 0 1 0 0
+          ∷ [];
+    }
+    -- cut in inclusion: eleven zeros, of which seven are there
+    ∷ one (loads-reader (to-read 10 0) ∷ get 23 1 (0x80 ∷ []) (told-past 1 1 0 4) (copies 4 0) [] ∷ holds-reader (to-read 11 11) ∷ [])
+    -- in zero planes: 999, of which six are there
+    ∷ one (cut (0xc0 ∷ []) 998 (1 ∷ 999 ∷ (2 ^ 32 - 994) ∷ 1 ∷ []) (0 ∷ 1 ∷ 1 ∷ 0 ∷ []) ∷ [])
+    -- in the pass count: its second bit, one of the two after, all five after those, the seven
+    ∷ one (loads-reader (read-one 0 1 3) ∷ cut (0xfc ∷ []) 9 (2 ∷ 0 ∷ 0 ∷ 6 ∷ []) (0 ∷ 0 ∷ 6 ∷ 0 ∷ []) ∷ [])
+    ∷ one (cut (0xcf ∷ []) 7 (1 ∷ 2 ∷ 3 ∷ 5 ∷ []) (0 ∷ 1 ∷ 5 ∷ 0 ∷ []) ∷ [])
+    ∷ one (cut (0xfe ∷ []) 10 (1 ∷ 0 ∷ 5 ∷ 6 ∷ []) (0 ∷ 1 ∷ 6 ∷ 0 ∷ []) ∷ [])
+    ∷ one (cut (0xff ∷ 0x78 ∷ []) 13 (1 ∷ 0 ∷ 5 ∷ 37 ∷ []) (0 ∷ 1 ∷ 37 ∷ 0 ∷ []) ∷ [])
+    -- in the increment
+    ∷ one (cut (0xef ∷ []) 8 (1 ∷ 0 ∷ 5 ∷ 1 ∷ []) (0 ∷ 1 ∷ 1 ∷ 0 ∷ []) ∷ [])
+    -- in a length: B, D and E without their last bytes
+    ∷ one (cut (0xea ∷ []) 2 (1 ∷ 0 ∷ 5 ∷ 1 ∷ []) (0 ∷ 1 ∷ 1 ∷ 8 ∷ []) ∷ [])
+    ∷ one (cut (0xff ∷ 0x78 ∷ 0x06 ∷ []) 5 (1 ∷ 0 ∷ 5 ∷ 37 ∷ []) (0 ∷ 1 ∷ 37 ∷ 192 ∷ []) ∷ [])
+    ∷ one (cut (0xfe ∷ 0xad ∷ []) 8 (1 ∷ 0 ∷ 5 ∷ 16 ∷ []) (0 ∷ 1 ∷ 16 ∷ 256 ∷ []) ∷ [])
+    -- behind FF the first byte past the end has seven bits: of twelve bits five lie in the second
+    ∷ one (cut (0xff ∷ []) 12 (1 ∷ 0 ∷ 5 ∷ 22 ∷ []) (0 ∷ 1 ∷ 22 ∷ 0 ∷ []) ∷ [])
+    -- K without its last bytes: in the second block, and in the first block's length
+    ∷ precinct 2 0 (5 ∷ 4 ∷ [])
+    (get 39 2 (0xf9 ∷ 0x69 ∷ []) (told-past 1 2 2 2) (1 ∷ 0 ∷ 5 ∷ 1 ∷ 1 ∷ 1 ∷ 4 ∷ 1 ∷ []) (0 ∷ 1 ∷ 1 ∷ 5 ∷ 1 ∷ 1 ∷ 1 ∷ 4 ∷ []) ∷ [])
+    ∷ precinct 2 0 (5 ∷ 4 ∷ [])
+    (get 39 2 (0xf9 ∷ []) (told-past 1 1 1 3) (1 ∷ 0 ∷ 5 ∷ 1 ∷ copies 4 0) (0 ∷ 1 ∷ 1 ∷ 4 ∷ []) ∷ [])
+    -- a refusal tells none: 9 behind four bits past the end, 13 behind one
+    ∷ one (loads-reader (read-one 0 1 32) ∷ reading 23 4 20 (0xfc ∷ []) 9 ∷ [])
+    ∷ one (reading 23 4 0 (0xef ∷ []) 13 ∷ [])
+    ∷ []
+
 pub rows : List Row
 rows =
     a-to-l ++ start-rows ++ write-rows ++ read-rows ++ range-rows ++ marker-rows ++ slip-rows ++ segment-rows ++ layer-rows ++ tree-rows
-    ++ empty-rows
+    ++ empty-rows ++ past-rows
 
 -- ---- the statement: no row fails
 
 pub all-rows-hold : failing 0 rows ≡ []
 unfolding rows a-to-l start-rows write-rows read-rows range-rows marker-rows slip-rows segment-rows layer-rows tree-rows
-    empty-rows failing rowHolds
+    empty-rows past-rows failing rowHolds
 all-rows-hold = refl

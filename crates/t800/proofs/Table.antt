@@ -12,7 +12,7 @@ use Rattle.t800.specs.declared.ReadAnswer.{ReadAnswer}
 use Rattle.t800.specs.declared.SegmentRecord.{SegmentRecord}
 use Rattle.t800.specs.Base.{every, any, sum, halvings, floorLog2, overwrite, wiped}
 use Rattle.t800.specs.Bits.{bitsOf, bitsAfter, lastBytes, packFrom, pack, byteIn, heldBit, getBit, readBitsOnto, readBits}
-use Rattle.t800.specs.Bits.{inFF, endsInFF, bytesTaken}
+use Rattle.t800.specs.Bits.{inFF, endsInFF, bytesTaken, pastEnd, readBit, bitsPastFrom, bitsPast}
 use Rattle.t800.specs.TagTree.{levelsFrom, levels, nodesIn, nodes, parentFrom, parentOf, climbFrom, pathToRoot, setValue}
 use Rattle.t800.specs.TagTree.{lowAfter, nodeBits, knownAfter, codePath, readNode, readPath}
 use Rattle.t800.specs.PassCount.{passBits, readPasses}
@@ -75,8 +75,8 @@ pub data Step : Type 0 where
   writes : Writing → ℕ → List ℕ → Step
   -- the same of a packet whose body is too long to be built: measured, its header computed, and the state moved on
   heads : Writing → ℕ → List ℕ → Step
-  -- a reading call: its answer as refusal, present, taken, segments, SOP mark, EPH mark; reports; records, four words each, and
-  -- their starts
+  -- a reading call: its answer as refusal, present, taken, segments, SOP mark, EPH mark, bits past the end; reports; records, four
+  -- words each, and their starts
   reads-starts : Reading → List ℕ → List ℕ → List ℕ → List ℕ → Step
 
 -- a writer and a reader that are started alike, and steps on them
@@ -95,7 +95,7 @@ same (x ∷ xs) [] = false
 same (x ∷ xs) (y ∷ ys) = eqb x y && same xs ys
 
 abbrev answerWords : ReadAnswer → List ℕ
-answerWords a = a .refusal ∷ a .present ∷ a .taken ∷ a .segments ∷ a .sop ∷ a .eph ∷ []
+answerWords a = a .refusal ∷ a .present ∷ a .taken ∷ a .segments ∷ a .sop ∷ a .eph ∷ a .past ∷ []
 
 -- the lent lists at entry
 abbrev scratchOf : ℕ → List ℕ
@@ -233,7 +233,7 @@ stepsHold style (reads-starts c answer reports records begins ∷ rest) book es 
 unfoldable pub rowHolds : Row → Bool
 unfolding same sumsFrom recordsWith fields startHolds measureHolds writeHolds listsHold wordsHold structsHold asOwed stepsHold
     every any sum halvings floorLog2 overwrite bitsOf bitsAfter lastBytes packFrom pack byteIn heldBit getBit readBitsOnto readBits
-    inFF endsInFF bytesTaken levelsFrom levels nodesIn nodes parentFrom parentOf climbFrom pathToRoot setValue lowAfter nodeBits
+    inFF endsInFF bytesTaken pastEnd readBit bitsPastFrom bitsPast levelsFrom levels nodesIn nodes parentFrom parentOf climbFrom pathToRoot setValue lowAfter nodeBits
     knownAfter codePath readNode readPath passBits readPasses termAll bypass firstLimit nextLimit isLimit segmentsFrom segmentsOf
     width bitLength increment commaBits lengthFields readOnes readComma writer reader blocksIn bandNodes bandLength blocksFrom
     blocksAt endOf blocks stateLength bandAt bands badShape badStyle bandTooDeep blockTooDeep nodeInRange blockInRange

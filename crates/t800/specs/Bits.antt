@@ -4,7 +4,7 @@ use Prim.Native.Nat.{ℕ, zero, suc, _+_, _-_, _*_, _/_, _%_, _^_, min}
 use mathlib.Core.Bool.{Bool, cond, _&&_}
 use mathlib.Core.List.{[], _∷_}
 use lib.ListN.{length, getD}
-use lib.Dec.{eqb}
+use lib.Dec.{ltb, eqb}
 use Rattle.t800.specs.declared.Bio.{Bio}
 use Rattle.t800.specs.Base.{Bytes, Bits}
 
@@ -43,12 +43,16 @@ pub record Decoded : Type 0 where
 abbrev pub bioAt : (place : ℕ) → Bio
 bioAt place = record { bp = place; buf = 0; ct = 0 }
 
+-- how far past the input's end the place goes on; no header that is read gets there (`header-in-reach` of bits_taken)
+abbrev pub reach : ℕ
+reach = 2 ^ 40
+
 -- The held word is moved up by eight and cut to sixteen bits, and the next byte moves in, a 0 past the end. After FF seven bits
--- of it count. The place stops at length + 1, which says that the held byte lies past the end.
+-- of it count.
 unfoldable pub byteIn : (src : Bytes) → Bio → Bio
 byteIn src b =
     let moved = b .buf * 256 % 65536 in
-    record { bp = min (b .bp + 1) (length src + 1); buf = moved + getD src (b .bp) 0; ct = cond (eqb moved 0xff00) 7 8 }
+    record { bp = min (b .bp + 1) (length src + reach); buf = moved + getD src (b .bp) 0; ct = cond (eqb moved 0xff00) 7 8 }
 
 -- the next bit of the held word
 unfoldable pub heldBit : Bio → Decoded
@@ -56,6 +60,19 @@ heldBit b = record { value = b .buf / 2 ^ (b .ct - 1) % 2; bio = record { bp = b
 
 unfoldable pub getBit : (src : Bytes) → Bio → Decoded
 getBit src b = heldBit (cond (eqb (b .ct) 0) (byteIn src b) b)
+
+-- a bit, whether it lay past the input's end, and where reading goes on
+pub record BitRead : Type 0 where
+  pub value : ℕ
+  pub past : Bool
+  pub bio : Bio
+
+-- the byte that is held lies past the input's end
+unfoldable pub pastEnd : (src : Bytes) → Bio → Bool
+pastEnd src b = ltb (length src) (b .bp)
+
+unfoldable pub readBit : (src : Bytes) → Bio → BitRead
+readBit src b = let r = getBit src b in record { value = r .value; past = pastEnd src (r .bio); bio = r .bio }
 
 -- n bits as a number, high bit first, after those that v holds
 unfoldable pub readBitsOnto : (src : Bytes) (n v : ℕ) → Bio → Decoded
@@ -78,3 +95,17 @@ endsInFF src b = inFF b && eqb (b .bp) (length src)
 -- the bytes taken: a byte FF takes the one after it along
 unfoldable pub bytesTaken : (src : Bytes) → Bio → ℕ
 bytesTaken src b = cond (inFF b) (b .bp + 1) (min (b .bp) (length src))
+
+-- ---- bits past the input's end
+
+-- The bits from `from` up to `to` are read once more, and those past the end counted. A stuffed bit is not read. `bound` bounds the bits.
+unfoldable pub bitsPastFrom : (src : Bytes) (bound : ℕ) (from to : Bio) → ℕ
+bitsPastFrom src zero from to = 0
+bitsPastFrom src (suc bound) from to =
+    let r = readBit src from in
+    let counted = cond (r .past) 1 0 + bitsPastFrom src bound (r .bio) to in
+    cond (eqb (from .bp) (to .bp) && eqb (from .ct) (to .ct)) 0 counted
+
+-- from a byte's start on there are at most eight bits a byte
+unfoldable pub bitsPast : (src : Bytes) (from to : Bio) → ℕ
+bitsPast src from to = bitsPastFrom src (8 * (to .bp - from .bp)) from to

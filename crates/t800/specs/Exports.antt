@@ -91,7 +91,7 @@ pub record ReadExit : Type 0 where
   pub answer : Words
 
 abbrev pub readWords : (answer : ReadAnswer) → Words
-readWords a = a .present ∷ a .taken ∷ a .segments ∷ a .sop ∷ a .eph ∷ []
+readWords a = a .present ∷ a .taken ∷ a .segments ∷ a .sop ∷ a .eph ∷ a .past ∷ []
 
 abbrev pub readExit : (result : ReadResult asRecords) (work : Words) → ReadExit
 readExit r work = record {
@@ -124,7 +124,7 @@ readCall state scratch markers input reports work records answer =
       records = records;
       answer = answer;
     } in
-    cond (eqb (length answer) 5) (cond (eqb (length work) (recordWidth * length records)) done wrongWork) wrongAnswer
+    cond (eqb (length answer) 6) (cond (eqb (length work) (recordWidth * length records)) done wrongWork) wrongAnswer
 
 -- ---- what a state is
 

@@ -13,7 +13,7 @@ use Rattle.t800.specs.declared.ReadAnswer.{ReadAnswer}
 use Rattle.t800.specs.Base.{Words, Bytes, any, sum, overwrite, wiped}
 use Rattle.t800.specs.Refusals.{Check, check, firstOf, listRefusal, stateRefusal, layersRefusal, passesRefusal, lengthRefusal}
 use Rattle.t800.specs.Refusals.{widthRefusal, bodyRefusal, spaceRefusal, headerEndRefusal, recordsRefusal}
-use Rattle.t800.specs.Bits.{Decoded, bioAt, getBit, pack, bytesTaken}
+use Rattle.t800.specs.Bits.{Decoded, bioAt, getBit, pack, bytesTaken, bitsPast}
 use Rattle.t800.specs.State.{Block, notYetIncluded, writer, reader, blocks, bands, layer}
 use Rattle.t800.specs.Ranges.{validStateWith}
 use Rattle.t800.specs.Reports.{reportWidth, reportWords, RecordForm}
@@ -161,7 +161,7 @@ readResult form state scratch reports records answer =
     record { answer = answer; state = state; scratch = scratch; reports = reports; records = records }
 
 abbrev pub refusedAnswer : (why : ℕ) → ReadAnswer
-refusedAnswer why = record { refusal = why; present = 0; taken = 0; segments = 0; sop = 0; eph = 0 }
+refusedAnswer why = record { refusal = why; present = 0; taken = 0; segments = 0; sop = 0; eph = 0; past = 0 }
 
 -- a first bit 0, the bits standing at b after it: the packet is absent, and only the next layer moves
 unfoldable pub readAbsent : (form : RecordForm) (state : Words) → Markers → (src : Bytes) (reports : Words) (records : form .Lent)
@@ -169,9 +169,11 @@ unfoldable pub readAbsent : (form : RecordForm) (state : Words) → Markers → 
 readAbsent form state m src reports records sop b =
     let at = bytesTaken src b in
     let eph = readEph m src at in
+    let past = bitsPast src (bioAt (sop .skip)) b in
     let after = set state 3 (layer state + 1) in
     record {
-      answer = record { refusal = 0; present = 0; taken = at + eph .skip; segments = 0; sop = sop .mark; eph = eph .mark };
+      answer = record
+          { refusal = 0; present = 0; taken = at + eph .skip; segments = 0; sop = sop .mark; eph = eph .mark; past = past };
       state = after;
       scratch = after;
       reports = wiped reports;
@@ -184,10 +186,18 @@ unfoldable pub readPresent : (form : RecordForm) (state : Words) → Markers →
 readPresent form state m src records sop r =
     let at = bytesTaken src (r .bio) in
     let eph = readEph m src at in
+    let past = bitsPast src (bioAt (sop .skip)) (r .bio) in
     let after = set (r .words) 3 (layer state + 1) in
     record {
-      answer = record
-          { refusal = 0; present = 1; taken = at + eph .skip; segments = length (r .records); sop = sop .mark; eph = eph .mark };
+      answer = record {
+        refusal = 0;
+        present = 1;
+        taken = at + eph .skip;
+        segments = length (r .records);
+        sop = sop .mark;
+        eph = eph .mark;
+        past = past;
+      };
       state = after;
       scratch = after;
       reports = reportWords (r .reports);

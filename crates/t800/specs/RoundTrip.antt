@@ -51,6 +51,7 @@ pub record GivesEntry (form : RecordForm) (o : Owed) (c : ReadCall form) (r : Re
   pub segments : r .answer .segments ≡ length (o .entry .records)
   pub sop-mark : r .answer .sop ≡ 0
   pub eph-mark : r .answer .eph ≡ 0
+  pub past : r .answer .past ≡ 0
   pub reports : r .reports ≡ reportWords (o .entry .reports)
   pub records : r .records ≡ form .stored (c .records) (o .entry .records)
 

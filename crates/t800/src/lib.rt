@@ -45,6 +45,7 @@ pub struct ReadAnswer {
     pub segments: u64,
     pub sop: u32,
     pub eph: u32,
+    pub past: u64,
 }
 
 // A segment's record: block number; 1 if it opens a segment, else 0; passes; length; how many of the packet's body bytes lie before it.
