@@ -1042,9 +1042,12 @@ past-rows =
     }
     -- cut in inclusion: eleven zeros, of which seven are there
     ∷ one (loads-reader (to-read 10 0) ∷ get 23 1 (0x80 ∷ []) (told-past 1 1 0 4) (copies 4 0) [] ∷ holds-reader (to-read 11 11) ∷ [])
-    -- in zero planes: 999, of which six are there
-    ∷ one (cut (0xc0 ∷ []) 998 (1 ∷ 999 ∷ (2 ^ 32 - 994) ∷ 1 ∷ []) (0 ∷ 1 ∷ 1 ∷ 0 ∷ []) ∷ [])
-    -- in the pass count: its second bit, one of the two after, all five after those, the seven
+    -- in zero planes: two hundred zeros, of which six are there
+    ∷ one
+    (loads-reader (words 2 0 0 fresh-included (node 200 0 0) (block 0 0 0 0))
+    ∷ cut (0xc0 ∷ []) 199 (1 ∷ 200 ∷ (2 ^ 32 - 195) ∷ 1 ∷ []) (0 ∷ 1 ∷ 1 ∷ 0 ∷ [])
+    ∷ [])
+    -- in the pass count: in its five bits, its two, its five again, its seven
     ∷ one (loads-reader (read-one 0 1 3) ∷ cut (0xfc ∷ []) 9 (2 ∷ 0 ∷ 0 ∷ 6 ∷ []) (0 ∷ 0 ∷ 6 ∷ 0 ∷ []) ∷ [])
     ∷ one (cut (0xcf ∷ []) 7 (1 ∷ 2 ∷ 3 ∷ 5 ∷ []) (0 ∷ 1 ∷ 5 ∷ 0 ∷ []) ∷ [])
     ∷ one (cut (0xfe ∷ []) 10 (1 ∷ 0 ∷ 5 ∷ 6 ∷ []) (0 ∷ 1 ∷ 6 ∷ 0 ∷ []) ∷ [])
