@@ -1,14 +1,27 @@
 // Bits of a packet header out of bytes, high bit first, without the 0 that is stuffed after a byte FF (bio.rs).
 ghost use mathlib.Core.Path.{_≡_};
-ghost use Prim.Native.Nat.{_≤_};
-ghost use Rattle.t800.specs.Bits.{bioAt, byteIn, getBit, readBits};
+ghost use Prim.Native.Nat.{_+_, _≤_, min};
+ghost use lib.ListN.{length};
+ghost use Rattle.t800.specs.Bits.{reach, bioAt, byteIn, getBit, readBit, readBits};
 ghost use Rattle.bio_read.specs.Chunks.{refill, heldBits};
-ghost use Rattle.bio_read.specs.Reading.{decoded};
+ghost use Rattle.bio_read.specs.Reading.{decoded, bitRead};
 use t800::Bio;
+use t800::REACH;
 
 // A number that was read, and where reading goes on.
 pub struct Decoded {
     pub value: u32,
+    pub bio: Bio,
+}
+
+// A bit, and whether it lay past the input's end.
+pub struct Bit {
+    pub value: u32,
+    pub past: bool,
+}
+
+pub struct BitRead {
+    pub bit: Bit,
     pub bio: Bio,
 }
 
@@ -28,6 +41,17 @@ fn wide(byte: u8) -> u32
     byte as u32
 }
 
+// The place after one that lies past the input's end.
+fn place_past(src: &[u8], bp: usize) -> usize
+    ensures { λ r. ⌜ r ≡ min (bp + 1) (length (now (src .entry)) + reach) ⌝ }
+{
+    let last = src.len() + REACH;
+    if bp < last {
+        return bp + 1;
+    }
+    last
+}
+
 pub fn opj_bio_bytein(src: &[u8], b: Bio) -> Bio
     ensures { λ r. ⌜ r ≡ byteIn (now (src .entry)) b ⌝ }
 {
@@ -42,7 +66,7 @@ pub fn opj_bio_bytein(src: &[u8], b: Bio) -> Bio
         };
     }
     Bio {
-        bp: src.len() + 1,
+        bp: place_past(src, bp),
         buf,
         ct,
     }
@@ -72,12 +96,25 @@ fn held_bits(b: Bio, k: u32) -> Decoded
     }
 }
 
-pub fn opj_bio_getbit(src: &[u8], b: Bio) -> Decoded
+fn one_bit(src: &[u8], b: Bio) -> Decoded
     requires { ⌜ b .ct ≤ 8 ⌝ }
     ensures { λ r. ⌜ decoded r ≡ getBit (now (src .entry)) b ⌝ }
 {
     let m = refill(src, b);
     held_bits(m, 1)
+}
+
+pub fn opj_bio_getbit(src: &[u8], b: Bio) -> BitRead
+    requires { ⌜ b .ct ≤ 8 ⌝ }
+    ensures { λ r. ⌜ bitRead r ≡ readBit (now (src .entry)) b ⌝ }
+{
+    let r = one_bit(src, b);
+    let bio = r.bio;
+    let bit = Bit {
+        value: r.value,
+        past: src.len() < bio.bp,
+    };
+    BitRead { bit, bio }
 }
 
 // As many bits at a time as the held byte has left.
@@ -105,7 +142,7 @@ pub fn opj_bio_read(src: &[u8], b: Bio, n: u32) -> Decoded
     ensures { λ r. ⌜ decoded r ≡ readBits (now (src .entry)) n b ⌝ }
 {
     if n == 1 {
-        return opj_bio_getbit(src, b);
+        return one_bit(src, b);
     }
     if n <= b.ct {
         return held_bits(b, n);

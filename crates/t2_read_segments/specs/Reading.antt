@@ -7,7 +7,7 @@ use lib.ListN.{length, getD, set}
 use lib.Dec.{ltb, leb, eqb}
 use Rattle.t800.specs.declared.Bio.{Bio}
 use Rattle.t800.specs.Base.{overwrite}
-use Rattle.t800.specs.Bits.{readBits}
+use Rattle.t800.specs.Bits.{reach, readBits}
 use Rattle.t800.specs.Segments.{width}
 use Rattle.t800.specs.Reports.{reportWords, recordWords, recordWidth}
 use Rattle.t800.specs.State.{Block, lengthBits}
@@ -85,10 +85,10 @@ nextSegments src i k (suc f) left a =
 
 -- ---- what reading asks for
 
--- at most eight bits are held, and the place is at most one past the input's end
+-- at most eight bits are held, and the place is in reach of the input
 pub record BitsIn (src : List ℕ) (b : Bio) : Type 0 where
   pub few : b .ct ≤ 8
-  pub place : b .bp ≤ length src + 1
+  pub place : b .bp ≤ length src + reach
 
 -- what refusal 5 establishes of a block's words
 

@@ -7,6 +7,9 @@ pub struct Bio {
     pub ct: u32,
 }
 
+// How far past the input's end a place goes on.
+pub const REACH: usize = 0x100_0000_0000;
+
 // One level of a tag tree: nodes across and down.
 pub struct Level {
     pub w: u32,

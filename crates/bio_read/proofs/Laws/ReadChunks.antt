@@ -10,7 +10,7 @@ use lib.ListN.{length}
 use lib.Pow.{mod-pow-add, shr-shr, pow-pos}
 use borrow.Author.Tests.{ne-eqb, eqb-false}
 use Rattle.t800.specs.declared.Bio.{Bio}
-use Rattle.t800.specs.Bits.{Decoded, byteIn, heldBit, getBit, readBitsOnto, readBits}
+use Rattle.t800.specs.Bits.{Decoded, reach, byteIn, heldBit, getBit, readBitsOnto, readBits}
 use Rattle.bio_bytes.proofs.Laws.HeldWord.{bioOf, seven-or-eight}
 use Rattle.bio_read.specs.Chunks.{refill, heldBits}
 
@@ -46,23 +46,23 @@ pub readBits-ct : (src : List ℕ) (n : ℕ) (b : Bio) → b .ct ≤ 8 → readB
 unfolding readBits
 readBits-ct src n b h = onto-ct src n 0 b h
 
--- ---- the place is at most one past the input's end
+-- ---- the place stays in reach of the input
 
-place-by : (src : List ℕ) (b : Bio) (t : Bool) → b .bp ≤ length src + 1 → cond t (byteIn src b) b .bp ≤ length src + 1
+place-by : (src : List ℕ) (b : Bio) (t : Bool) → b .bp ≤ length src + reach → cond t (byteIn src b) b .bp ≤ length src + reach
 unfolding byteIn
 place-by src b true h = omega arith
 place-by src b false h = h
 
-pub getBit-place : (src : List ℕ) (b : Bio) → b .bp ≤ length src + 1 → getBit src b .bio .bp ≤ length src + 1
+pub getBit-place : (src : List ℕ) (b : Bio) → b .bp ≤ length src + reach → getBit src b .bio .bp ≤ length src + reach
 unfolding getBit heldBit
 getBit-place src b h = place-by src b (eqb (b .ct) 0) h
 
-onto-place : (src : List ℕ) (n v : ℕ) (b : Bio) → b .bp ≤ length src + 1 → readBitsOnto src n v b .bio .bp ≤ length src + 1
+onto-place : (src : List ℕ) (n v : ℕ) (b : Bio) → b .bp ≤ length src + reach → readBitsOnto src n v b .bio .bp ≤ length src + reach
 unfolding readBitsOnto
 onto-place src zero v b h = h
 onto-place src (suc n) v b h = onto-place src n (2 * v + getBit src b .value) (getBit src b .bio) (getBit-place src b h)
 
-pub readBits-place : (src : List ℕ) (n : ℕ) (b : Bio) → b .bp ≤ length src + 1 → readBits src n b .bio .bp ≤ length src + 1
+pub readBits-place : (src : List ℕ) (n : ℕ) (b : Bio) → b .bp ≤ length src + reach → readBits src n b .bio .bp ≤ length src + reach
 unfolding readBits
 readBits-place src n b h = onto-place src n 0 b h
 

@@ -29,13 +29,12 @@ returns c =
 returns-2 : tie.Need-returns-2
 unfolding byteIn
 returns-2 c =
-    let s = c .before .before .before .before in
+    let s = c .before .before .before .before .before in
     let b = s .args .b in
-    let outside = c .if1 .left in
     bio≡ _ _
-    (omega arith)
-    (moved-is (b .buf) ∙ omega (arith, List·getD-eq-default (s .args .src .now) 0 (c .if1 .left)))
-    (c .before .bits-after .ensures ∙ ap (λ (u : ℕ). cond (eqb u 0xff00) 7 8) (moved-is (b .buf)))
+    (c .place-past .ensures)
+    (moved-is (b .buf) ∙ omega (arith, List·getD-eq-default (s .args .src .now) 0 (c .before .if1 .left)))
+    (c .before .before .bits-after .ensures ∙ ap (λ (u : ℕ). cond (eqb u 0xff00) 7 8) (moved-is (b .buf)))
 
 pub opj-bio-bytein-spec : {M : Type 1} → statement M
 opj-bio-bytein-spec =
@@ -46,5 +45,5 @@ opj-bio-bytein-spec =
     (λ c. search needs)
     (λ c κs. search needs)
     returns
-    (λ c. search needs)
+    (λ c κs. search needs)
     returns-2)

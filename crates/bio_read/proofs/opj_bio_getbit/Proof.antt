@@ -1,25 +1,19 @@
 -- `bio_read::opj_bio_getbit` meets its contract.
 -- Assumes nothing.
-use mathlib.Core.Path.{ap, _∙_}
-use native.Mathlib.Omega.{arith}
+use mathlib.Core.Path.{ap}
+use lib.Dec.{ltb}
+use lib.ListN.{length}
 use borrow.Author.Needs.{needs}
-use Rattle.t800.specs.declared.Bio.{Bio}
-use Rattle.bio_read.specs.Chunks.{refill, heldBits}
-use Rattle.bio_read.proofs.Laws.ReadChunks.{refill-ct, getBit-is}
+use Rattle.t800.specs.Bits.{Decoded, BitRead, pastEnd, readBit}
 use Rattle.bio_read.proofs.opj_bio_getbit.Statement.{statement}
 use Rattle.bio_read.proofs.opj_bio_getbit.Tie as tie
 
-held-bits-requires : tie.Need-held-bits-requires
-held-bits-requires c κs =
-    let s = c .before .before in
-    let r = refill-ct (s .args .src .now) (s .args .b) (s .pre) in
-    let ct = ap (λ (b : Bio). b .ct) (c .refill .ensures) in
-    omega arith
-
 returns : tie.Need-returns
+unfolding readBit pastEnd
 returns c =
-    let s = c .before .before .before in
-    c .held-bits .ensures ∙ ap (λ (b : Bio). heldBits b 1) (c .before .refill .ensures) ∙ getBit-is (s .args .src .now) (s .args .b)
+    let src = c .before .before .before .before .args .src .now in
+    let flag : Decoded → BitRead = λ d. record { value = d .value; past = ltb (length src) (d .bio .bp); bio = d .bio } in
+    ap flag (c .before .before .one-bit .ensures)
 
 pub opj-bio-getbit-spec : {M : Type 1} → statement M
-opj-bio-getbit-spec = tie.close (tie.spec (λ c κs. search needs) held-bits-requires returns)
+opj-bio-getbit-spec = tie.close (tie.spec (λ c κs. search needs) returns)

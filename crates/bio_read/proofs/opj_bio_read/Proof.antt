@@ -11,7 +11,7 @@ use Rattle.bio_read.proofs.opj_bio_read.Tie as tie
 returns : tie.Need-returns
 returns c =
     let s = c .before .before .before in
-    c .opj-bio-getbit .ensures
+    c .one-bit .ensures
     ∙ getBit-read (s .args .src .now) (s .args .b)
     ∙ ap (λ (n : ℕ). readBits (s .args .src .now) n (s .args .b)) (sym (c .before .if1 .taken))
 

@@ -13,7 +13,7 @@ use lib.Pow.{pow-pos, high, field, mod-mod-pow}
 use borrow.Author.Tests.{eq-eqb, ne-eqb}
 use Rattle.t800.specs.declared.Bio.{Bio}
 use Rattle.t800.specs.Bits as B
-use Rattle.t800.specs.Bits.{Decoded, bioAt, byteIn, heldBit, getBit, bitsAfter, lastBytes, pack, inFF, endsInFF, bytesTaken}
+use Rattle.t800.specs.Bits.{reach, Decoded, bioAt, byteIn, heldBit, getBit, bitsAfter, lastBytes, pack, inFF, endsInFF, bytesTaken}
 use Rattle.t800_laws.proofs.Laws.Pack.{AreBits}
 use Rattle.t800_laws.proofs.Laws.Tests.{if-eq, if-ne, on-eq, on-lt, drop-head}
 
@@ -118,7 +118,7 @@ byte-in : (s : List ℕ) (q u : ℕ) → q < length s → byteIn s (bioWith q u 
 unfolding byteIn
 byte-in s q u h =
     let e : u * 256 % 65536 ≡ u % 256 * 256 = omega arith in
-    let p : min (q + 1) (length s + 1) ≡ suc q = omega arith in
+    let p : min (q + 1) (length s + reach) ≡ suc q = omega arith in
     rw (e, span-shifted (u % 256), p)
 
 -- of the next byte

@@ -9,7 +9,7 @@ use lib.Dec.{eqb, ltb, leb}
 use lib.ListN.{length}
 use borrow.Author.Tests.{eq-eqb, ne-eqb, leb-true, leb-false, ltb-true, ltb-false}
 use Rattle.t800.specs.declared.Bio.{Bio}
-use Rattle.t800.specs.Bits.{Decoded, getBit}
+use Rattle.t800.specs.Bits.{reach, Decoded, getBit}
 use Rattle.t800.specs.Segments.{readOnes, readComma}
 use Rattle.bio_read.proofs.Laws.ReadChunks.{getBit-ct, getBit-place}
 use Rattle.t2_read_codes.specs.CommaCode.{mostOnes, onesLimit, readCommaLimited}
@@ -48,12 +48,12 @@ place-by : (t : Bool) (x y : Decoded) (m : ℕ) → x .bio .bp ≤ m → y .bio 
 place-by true x y m p q = p
 place-by false x y m p q = q
 
-pub ones-place : (src : List ℕ) (f n : ℕ) (b : Bio) → b .bp ≤ length src + 1 → readOnes src f n b .bio .bp ≤ length src + 1
+pub ones-place : (src : List ℕ) (f n : ℕ) (b : Bio) → b .bp ≤ length src + reach → readOnes src f n b .bio .bp ≤ length src + reach
 unfolding readOnes
 ones-place src zero n b h = h
 ones-place src (suc f) n b h =
     let g = getBit-place src b h in
-    place-by (eqb (getBit src b .value) 0) (record { value = n; bio = getBit src b .bio }) _ (length src + 1) g
+    place-by (eqb (getBit src b .value) 0) (record { value = n; bio = getBit src b .bio }) _ (length src + reach) g
     (ones-place src f (n + 1) (getBit src b .bio) g)
 
 between-by : (t : Bool) (x y : Decoded) (n f : ℕ) → x .value ≡ n → (n + 1 ≤ y .value) × (y .value ≤ n + 1 + f)

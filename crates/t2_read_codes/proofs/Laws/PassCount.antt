@@ -7,7 +7,7 @@ use lib.Dec.{eqb, leb}
 use lib.ListN.{length}
 use borrow.Author.Tests.{eq-eqb, ne-eqb, le-leb, lt-leb}
 use Rattle.t800.specs.declared.Bio.{Bio}
-use Rattle.t800.specs.Bits.{Decoded, getBit, readBits}
+use Rattle.t800.specs.Bits.{reach, Decoded, getBit, readBits}
 use Rattle.t800.specs.PassCount.{plus, readPasses}
 use Rattle.bio_read.proofs.Laws.ReadChunks.{getBit-ct, readBits-ct, getBit-place, readBits-place}
 use Rattle.t2_read_codes.specs.PassCount.{readFrom3}
@@ -96,11 +96,11 @@ module _ (src : List ℕ) (b : Bio) where
       let h5 = readBits-ct src 5 _ h2 in
       from3-each (λ d. d .bio .ct ≤ 8) src b h2 h5 (readBits-ct src 7 _ h5)
 
-  from3-place : b .bp ≤ length src + 1 → readFrom3 src b .bio .bp ≤ length src + 1
+  from3-place : b .bp ≤ length src + reach → readFrom3 src b .bio .bp ≤ length src + reach
   from3-place h =
       let h2 = readBits-place src 2 b h in
       let h5 = readBits-place src 5 _ h2 in
-      from3-each (λ d. d .bio .bp ≤ length src + 1) src b h2 h5 (readBits-place src 7 _ h5)
+      from3-each (λ d. d .bio .bp ≤ length src + reach) src b h2 h5 (readBits-place src 7 _ h5)
 
 module _ (src : List ℕ) (b : Bio) where
   pub passes-ct : b .ct ≤ 8 → readPasses src b .bio .ct ≤ 8
@@ -109,8 +109,8 @@ module _ (src : List ℕ) (b : Bio) where
       let h2 = getBit-ct src _ h1 in
       passes-each (λ d. d .bio .ct ≤ 8) src b h1 h2 (from3-ct src _ h2)
 
-  pub passes-place : b .bp ≤ length src + 1 → readPasses src b .bio .bp ≤ length src + 1
+  pub passes-place : b .bp ≤ length src + reach → readPasses src b .bio .bp ≤ length src + reach
   passes-place h =
       let h1 = getBit-place src b h in
       let h2 = getBit-place src _ h1 in
-      passes-each (λ d. d .bio .bp ≤ length src + 1) src b h1 h2 (from3-place src _ h2)
+      passes-each (λ d. d .bio .bp ≤ length src + reach) src b h1 h2 (from3-place src _ h2)

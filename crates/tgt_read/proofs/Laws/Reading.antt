@@ -8,7 +8,7 @@ use lib.Dec.{eqb, ltb}
 use lib.ListN.{length, set}
 use lib.Seq.{set-getD}
 use Rattle.t800.specs.declared.Bio.{Bio}
-use Rattle.t800.specs.Bits.{getBit}
+use Rattle.t800.specs.Bits.{reach, getBit}
 use Rattle.t800.specs.TagTree.{NodeRead, PathRead, value, low, readNode, readPath}
 use Rattle.t800.specs.State.{Block, notYetPlanes}
 use Rattle.t800.specs.ReadHeader.{readZeroPlanesFrom}
@@ -51,15 +51,15 @@ module _ (src : List ℕ) (base t : ℕ) (ns : List ℕ) (l : ℕ) (ws : List �
   pub readPath-ct : b .ct ≤ 8 → readPath src base t ns l ws b .bio .ct ≤ 8
   readPath-ct h = path-keeps src (λ c. c .ct ≤ 8) (getBit-ct src) base t ns l ws b h
 
-  pub readPath-place : b .bp ≤ length src + 1 → readPath src base t ns l ws b .bio .bp ≤ length src + 1
-  readPath-place h = path-keeps src (λ c. c .bp ≤ length src + 1) (getBit-place src) base t ns l ws b h
+  pub readPath-place : b .bp ≤ length src + reach → readPath src base t ns l ws b .bio .bp ≤ length src + reach
+  readPath-place h = path-keeps src (λ c. c .bp ≤ length src + reach) (getBit-place src) base t ns l ws b h
 
 module _ (src : List ℕ) (k : Block) (f t : ℕ) (ws : List ℕ) (b : Bio) where
   pub raising-ct : b .ct ≤ 8 → readZeroPlanesFrom src k f t ws b .bio .ct ≤ 8
   raising-ct h = raising-keeps src (λ c. c .ct ≤ 8) (getBit-ct src) k f t ws b h
 
-  pub raising-place : b .bp ≤ length src + 1 → readZeroPlanesFrom src k f t ws b .bio .bp ≤ length src + 1
-  raising-place h = raising-keeps src (λ c. c .bp ≤ length src + 1) (getBit-place src) k f t ws b h
+  pub raising-place : b .bp ≤ length src + reach → readZeroPlanesFrom src k f t ws b .bio .bp ≤ length src + reach
+  raising-place h = raising-keeps src (λ c. c .bp ≤ length src + reach) (getBit-place src) k f t ws b h
 
 -- ---- a node
 
