@@ -60,7 +60,7 @@ unfolding afterBits
 after-few src zero b h = h
 after-few src (suc n) b h = after-few src n (getBit src b .bio) (omega (arith, bit-few src b h))
 
-after-inside : (src : List ℕ) (n : ℕ) (b : Bio) → afterBits src n b .bp ≤ length src → b .bp ≤ length src
+pub after-inside : (src : List ℕ) (n : ℕ) (b : Bio) → afterBits src n b .bp ≤ length src → b .bp ≤ length src
 unfolding afterBits
 after-inside src zero b h = h
 after-inside src (suc n) b h = bit-inside src b (after-inside src n (getBit src b .bio) h)
@@ -131,7 +131,7 @@ module _ (src : List ℕ) where
   then-within : (m n most : ℕ) (b c e : Bio) → Takes src m b c → Takes src n c e → m + n ≤ most → Takes src most b e
   then-within m n most b c e t u h = takes-more (m + n) most b e h (takes-then m n b c e t u)
 
-  one-then : (n : ℕ) (b e : Bio) → Takes src n (getBit src b .bio) e → Takes src (suc n) b e
+  pub one-then : (n : ℕ) (b e : Bio) → Takes src n (getBit src b .bio) e → Takes src (suc n) b e
   one-then n b e t = then-within 1 n (suc n) b (getBit src b .bio) e (takes-one b) t (omega arith)
 
   none-within : (n : ℕ) (b : Bio) → Takes src n b b

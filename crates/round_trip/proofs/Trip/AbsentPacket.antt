@@ -8,7 +8,7 @@ use lib.ListN.{length, replicate, set, take}
 use borrow.Author.Tests.{ltb-false}
 use Rattle.t800.specs.declared.Markers.{Markers}
 use Rattle.t800.specs.Base.{sum, wiped}
-use Rattle.t800.specs.Bits.{bytesTaken, bioAt}
+use Rattle.t800.specs.Bits.{bioAt, bytesTaken, bitsPast}
 use Rattle.t800.specs.Reports.{reportWidth, reportWords, RecordForm}
 use Rattle.t800.specs.State.{layer}
 use Rattle.t800.specs.WriteHeader.{Contribution, contributes}
@@ -16,7 +16,7 @@ use Rattle.t800.specs.MarkerSegments.{withMarkers, readSop, readEph}
 use Rattle.t800.specs.Packet.{readRefusal, readAbsent, read, readWith}
 use Rattle.t800.specs.Book.{BlockEntry, reportOf, recordsOf, entryFrom, entry, addCounts}
 use Rattle.t800_laws.proofs.Laws.Contributes.{contributes-by-sum, single-bit-packed}
-use Rattle.round_trip.proofs.Trip.Bits.{nextBit, bioAfter, packed-bits-read}
+use Rattle.round_trip.proofs.Trip.Bits.{nextBit, bioAfter, none-past, packed-bits-read}
 use Rattle.round_trip.proofs.Trip.Packet.{found, Around, around}
 
 -- ---- the book
@@ -75,11 +75,13 @@ module _ (form : RecordForm) (rs scratch : List ℕ) (t : ℕ) (m : Markers) (nu
   place = around m number src (0 ∷ []) begins
 
   bit-read : (nextBit src (bioAt (place .before)) ≡ 0) × (bytesTaken src (bioAfter src (bioAt (place .before))) ≡ place .before + 1)
+      × (bitsPast src (bioAt (place .before)) (bioAfter src (bioAt (place .before))) ≡ 0)
   bit-read =
       let g = packed-bits-read src (place .tail) 0 [] (place .before) (omega arith) tt
       (place .at-header ∙ ap (λ (z : List ℕ). z ++ place .tail) (sym single-bit-packed)) in (
         g .reads .1,
         ap (bytesTaken src) (g .reads .2 .1) ∙ g .taken ∙ ap (λ (z : List ℕ). place .before + length z) single-bit-packed,
+        ap (bitsPast src (bioAt (place .before))) (g .reads .2 .1) ∙ none-past src (bioAt (place .before)) _ _ g,
       )
 
   -- its first bit is 0
@@ -89,14 +91,14 @@ module _ (form : RecordForm) (rs scratch : List ℕ) (t : ℕ) (m : Markers) (nu
   absent-left : (at skip : ℕ) → bytesTaken src (bioAfter src (bioAt (place .before))) ≡ at → readEph m src at ≡ found skip
       → readAbsent form rs m src reports records (found (place .before)) (bioAfter src (bioAt (place .before)))
       ≡ record {
-        answer = record { refusal = 0; present = 0; taken = at + skip; segments = 0; sop = 0; eph = 0 };
+        answer = record { refusal = 0; present = 0; taken = at + skip; segments = 0; sop = 0; eph = 0; past = 0 };
         state = set rs 3 (t + 1);
         scratch = set rs 3 (t + 1);
         reports = wiped reports;
         records = records;
       }
   unfolding readAbsent
-  absent-left at skip a e = rw (a, e, l)
+  absent-left at skip a e = rw (a, e, bit-read .2, l)
 
   read-is-absent : readRefusal rs scratch reports ≡ 0 → read form rs scratch m src reports records
       ≡ readAbsent form rs m src reports records (found (place .before)) (bioAfter src (bioAt (place .before)))
@@ -105,7 +107,7 @@ module _ (form : RecordForm) (rs scratch : List ℕ) (t : ℕ) (m : Markers) (nu
 
   pub absent-packet-read : readRefusal rs scratch reports ≡ 0 → read form rs scratch m src reports records
       ≡ record {
-        answer = record { refusal = 0; present = 0; taken = length (singleBit m number); segments = 0; sop = 0; eph = 0 };
+        answer = record { refusal = 0; present = 0; taken = length (singleBit m number); segments = 0; sop = 0; eph = 0; past = 0 };
         state = set rs 3 (t + 1);
         scratch = set rs 3 (t + 1);
         reports = wiped reports;
@@ -114,7 +116,7 @@ module _ (form : RecordForm) (rs scratch : List ℕ) (t : ℕ) (m : Markers) (nu
   absent-packet-read why =
       read-is-absent why ∙ absent-left (place .before + 1) (place .after) (bit-read .1) (place .eph-is)
       ∙ (λ i. record {
-        answer = record { refusal = 0; present = 0; taken = place .all i; segments = 0; sop = 0; eph = 0 };
+        answer = record { refusal = 0; present = 0; taken = place .all i; segments = 0; sop = 0; eph = 0; past = 0 };
         state = set rs 3 (t + 1);
         scratch = set rs 3 (t + 1);
         reports = wiped reports;

@@ -1,6 +1,6 @@
 -- What was packed is read back: over any input that holds the packed bytes from some place on, a reader there takes exactly the bits, the
 -- input doesn't end in a byte FF of theirs, and the bytes taken are the packed ones.
-use mathlib.Core.Path.{_≡_, refl, sym, ap, _∙_}
+use mathlib.Core.Path.{_≡_, refl, sym, ap, _∙_, subst}
 use mathlib.Core.Logic.{_≢_}
 use mathlib.Core.Bool.{Bool, true, false, cond}
 use mathlib.Core.List.{List, [], _∷_, _++_}
@@ -14,8 +14,12 @@ use borrow.Author.Tests.{eq-eqb, ne-eqb}
 use Rattle.t800.specs.declared.Bio.{Bio}
 use Rattle.t800.specs.Bits as B
 use Rattle.t800.specs.Bits.{reach, Decoded, bioAt, byteIn, heldBit, getBit, bitsAfter, lastBytes, pack, inFF, endsInFF, bytesTaken}
+use Rattle.t800.specs.Bits.{bitsPast}
 use Rattle.t800_laws.proofs.Laws.Pack.{AreBits}
 use Rattle.t800_laws.proofs.Laws.Tests.{if-eq, if-ne, on-eq, on-lt, drop-head}
+use Rattle.bits_taken.specs.Taken.{Takes}
+use Rattle.bits_taken.proofs.Laws.Taken.{takes-none, one-then}
+use Rattle.bits_taken.proofs.Laws.Inside.{none-past-inside}
 
 abbrev bioWith : ℕ → ℕ → ℕ → Bio
 bioWith p u c = record { bp = p; buf = u; ct = c }
@@ -156,6 +160,7 @@ pub record BitsRead (s : List ℕ) (b : Bio) (bs : List ℕ) (n : ℕ) : Type 0 
   pub reads : Reads s b bs end
   pub whole : endsInFF s end ≡ false
   pub taken : bytesTaken s end ≡ n
+  pub inside : end .bp ≤ length s
 
 one-more : (s : List ℕ) (b c : Bio) (x : ℕ) (xs : List ℕ) (n m : ℕ) → b .ct < 8 → getBit s b ≡ record { value = x; bio = c }
     → BitsRead s c xs n → n ≡ m → BitsRead s b (x ∷ xs) m
@@ -165,6 +170,7 @@ one-more s b c x xs n m h e g q =
       reads = (h, ap (λ (z : Decoded). z .value) e, rw (ap (λ (z : Decoded). z .bio) e) (g .reads));
       whole = g .whole;
       taken = g .taken ∙ q;
+      inside = g .inside;
     }
 
 module _ (s t : List ℕ) where
@@ -191,6 +197,7 @@ module _ (s t : List ℕ) where
         reads = (omega arith, refl);
         whole = rw ff (ne-eqb (suc p) (length s) (omega (arith, f₂ .0)));
         taken = rw (g, ff) (omega arith);
+        inside = omega (arith, f .0);
       })
       (λ h. let g = last-other c h in
       let f = drop-head s p c t 0 (e ∙ ap (λ (z : List ℕ). z ++ t) g) in
@@ -200,6 +207,7 @@ module _ (s t : List ℕ) where
         reads = (omega arith, refl);
         whole = rw ff refl;
         taken = rw (g, ff) (omega (arith, f .0));
+        inside = omega (arith, f .0);
       })
 
   -- a byte is taken, and its first bit is x
@@ -233,6 +241,14 @@ module _ (s t : List ℕ) where
       let v : u / 2 ^ k % 2 ≡ x = bit-of u (7 - k) k (a * 2 + x) (omega arith) (low ∙ f .1) (f .2) ∙ omega (arith, h .0) in
       one-more s (bioWith (suc p) u (suc k)) _ x xs _ _ (omega arith)
       (get-held s (suc p) u k ∙ ap (λ (z : ℕ). record { value = z; bio = bioWith (suc p) u k }) v) g refl
+
+-- these are as many bits one after another
+reads-takes : (s : List ℕ) (bs : List ℕ) (b e : Bio) → Reads s b bs e → Takes s (length bs) b e
+reads-takes s [] b e r = subst (Takes s 0 b) (r .1) (takes-none s b)
+reads-takes s (x ∷ xs) b e r = one-then s (length xs) b e (reads-takes s xs (bioAfter s b) e (r .2))
+
+pub none-past : (s : List ℕ) (b : Bio) (bs : List ℕ) (n : ℕ) (r : BitsRead s b bs n) → bitsPast s b (r .end) ≡ 0
+none-past s b bs n r = none-past-inside s (length bs) b (r .end) (reads-takes s bs b (r .end) (r .reads)) (r .inside)
 
 pub packed-bits-read : (s t : List ℕ) (x : ℕ) (xs : List ℕ) (p : ℕ) → x < 2 → AreBits xs → drop p s ≡ pack (x ∷ xs) ++ t
     → BitsRead s (bioAt p) (x ∷ xs) (p + length (pack (x ∷ xs)))

@@ -8,14 +8,14 @@ use native.Mathlib.Omega.{arith}
 use lib.ListN.{length, getD, set, drop}
 use lib.Dec.{T}
 use Rattle.t800.specs.declared.Bio.{Bio}
-use Rattle.t800.specs.Bits.{bioAt, pack, endsInFF, bytesTaken}
+use Rattle.t800.specs.Bits.{bioAt, pack, endsInFF, bytesTaken, bitsPast}
 use Rattle.t800.specs.Reports.{bodyBytes}
 use Rattle.t800.specs.State.{Block, notYetIncluded}
 use Rattle.t800.specs.WriteHeader.{Contribution, setNewBlocks}
 use Rattle.t800.specs.ReadHeader.{readBlocks}
 use Rattle.t800.specs.Book.{BlockEntry, entry, entryFrom, addCounts, terminatedAsStyle}
 use Rattle.t800_laws.proofs.Laws.Layout.{inclusion, Layout, AllPlaced}
-use Rattle.round_trip.proofs.Trip.Bits.{nextBit, bioAfter, packed-bits-read}
+use Rattle.round_trip.proofs.Trip.Bits.{nextBit, bioAfter, none-past, packed-bits-read}
 use Rattle.round_trip.proofs.Trip.Segments.{readSoFar}
 use Rattle.round_trip.proofs.Trip.Changes.{nodes-only, block-stays, blocks-coded}
 use Rattle.round_trip.proofs.Trip.SetLeaves.{new-blocks-set}
@@ -35,6 +35,7 @@ pub record HeaderReadBack (L : Layout) (s t : ℕ) (src : List ℕ) (room p n : 
       ≡ readSoFar words end (entry s es (c .counts) (c .lengths) .reports) (entry s es (c .counts) (c .lengths) .records)
   pub whole : endsInFF src end ≡ false
   pub taken : bytesTaken src end ≡ p + n
+  pub none-past : bitsPast src (bioAt p) end ≡ 0
   pub in-step : InStep L s vs words
   pub booked : AllBooked vs ks (addCounts es (c .counts))
   pub reader-first : (j : ℕ) → j < 13 → getD words j 0 ≡ getD rs j 0
@@ -76,6 +77,7 @@ header-read L s t ks f ht src tail room p ws rs es c W y b q term enough e =
       is = z .is;
       whole = g .whole;
       taken = g .taken;
+      none-past = none-past src (bioAt p) _ _ g;
       in-step = z .in-step;
       booked = counts-booked L t ws us vs ks es cs f (q .counts) (N .only) (coded .values) (coded .passes) (n .1) b;
       reader-first = z .first;

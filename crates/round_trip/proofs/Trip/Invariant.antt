@@ -196,6 +196,7 @@ module _ (bs : List Band) (s t : ℕ) (ws rs : List ℕ) (es : List BlockEntry) 
             segments = ap (λ (x : ReadAnswer). x .segments) ans;
             sop-mark = ap (λ (x : ReadAnswer). x .sop) ans;
             eph-mark = ap (λ (x : ReadAnswer). x .eph) ans;
+            past = ap (λ (x : ReadAnswer). x .past) ans;
             reports = reads .reports;
             records = reads .records-are;
           }
@@ -228,6 +229,7 @@ module _ (bs : List Band) (s t : ℕ) (ws rs : List ℕ) (es : List BlockEntry) 
               segments = 0;
               sop = 0;
               eph = 0;
+              past = 0;
             };
             state = set rs 3 (t + 1);
             scratch = set rs 3 (t + 1);
@@ -254,6 +256,7 @@ module _ (bs : List Band) (s t : ℕ) (ws rs : List ℕ) (es : List BlockEntry) 
             segments = ap (λ (x : ReadAnswer). x .segments) ans ∙ ap length (sym no);
             sop-mark = ap (λ (x : ReadAnswer). x .sop) ans;
             eph-mark = ap (λ (x : ReadAnswer). x .eph) ans;
+            past = ap (λ (x : ReadAnswer). x .past) ans;
             reports = ap (λ (x : ReadResult form). x .reports) reads-none
                 ∙ zero-reports s es (c .counts) (c .lengths) (r .reports) none (ask .reports-length);
             records = ap (λ (x : ReadResult form). x .records) reads-none
@@ -292,6 +295,7 @@ module _ (bs : List Band) (s t : ℕ) (ws rs : List ℕ) (es : List BlockEntry) 
         segments = g .segments;
         sop-mark = g .sop-mark;
         eph-mark = g .eph-mark;
+        past = g .past;
         reports = g .reports;
         records = g .records;
       }

@@ -13,7 +13,7 @@ use lib.Dec.{T, eqb}
 use borrow.Author.Tests.{eq-eqb}
 use Rattle.t800.specs.declared.Bio.{Bio}
 use Rattle.t800.specs.declared.Markers.{Markers}
-use Rattle.t800.specs.Bits.{bioAt, pack, endsInFF, bytesTaken}
+use Rattle.t800.specs.Bits.{bioAt, pack, endsInFF, bytesTaken, bitsPast}
 use Rattle.t800.specs.declared.SegmentRecord.{SegmentRecord}
 use Rattle.t800.specs.Reports.{BlockReport, reportWords, RecordForm}
 use Rattle.t800.specs.State.{Block, notYetIncluded, blocks, bands, layer}
@@ -121,17 +121,17 @@ read-is form rs scratch m src reports records n us end reps recs e₁ e₂ e₃ 
 
 present-is : (form : RecordForm) (rs : List ℕ) (t : ℕ) (m : Markers) (src : List ℕ) (records : form .Lent) (n : ℕ) (us : List ℕ)
     (end : Bio) (reps : List BlockReport) (recs : List SegmentRecord) (at skip : ℕ) → layer rs ≡ t → bytesTaken src end ≡ at
-    → readEph m src at ≡ found skip
+    → readEph m src at ≡ found skip → bitsPast src (bioAt n) end ≡ 0
     → readPresent form rs m src records (found n) (readSoFar us end reps recs)
     ≡ record {
-      answer = record { refusal = 0; present = 1; taken = at + skip; segments = length recs; sop = 0; eph = 0 };
+      answer = record { refusal = 0; present = 1; taken = at + skip; segments = length recs; sop = 0; eph = 0; past = 0 };
       state = set us 3 (t + 1);
       scratch = set us 3 (t + 1);
       reports = reportWords reps;
       records = form .stored records recs;
     }
 unfolding readPresent
-present-is form rs t m src records n us end reps recs at skip l a e = rw (a, e, l)
+present-is form rs t m src records n us end reps recs at skip l a e z = rw (a, e, z, l)
 
 -- ---- the packet
 
@@ -174,6 +174,7 @@ module _ (L : Layout) (s t : ℕ) (ks : List Block) (f : AllPlaced L ks) (ht : t
           segments = length (owedEntry .records);
           sop = 0;
           eph = 0;
+          past = 0;
         }
     pub reports : r .reports ≡ reportWords (owedEntry .reports)
     pub records-are : r .records ≡ form .stored records (owedEntry .records)
@@ -193,11 +194,11 @@ module _ (L : Layout) (s t : ℕ) (ks : List Block) (f : AllPlaced L ks) (ht : t
       let is = read-is form rs scratch m src reports records (a .before) (h .words) (h .end) (owedEntry .reports) (owedEntry .records)
       why (a .sop-is) (h .first-bit) (F .header-back)
       ∙ present-is form rs t m src records (a .before) (h .words) (h .end) (owedEntry .reports) (owedEntry .records)
-      (a .before + length header) (a .after) l (h .taken) (a .eph-is) in
+      (a .before + length header) (a .after) l (h .taken) (a .eph-is) (h .none-past) in
       record {
         words = h .words;
         answer = ap (λ (r : ReadResult form). r .answer) is
-            ∙ ap (λ (z : ℕ). record { refusal = 0; present = 1; taken = z; segments = length (owedEntry .records); sop = 0; eph = 0 })
+            ∙ ap (λ (z : ℕ). record { refusal = 0; present = 1; taken = z; segments = length (owedEntry .records); sop = 0; eph = 0; past = 0 })
             (a .all);
         reports = ap (λ (r : ReadResult form). r .reports) is;
         records-are = ap (λ (r : ReadResult form). r .records) is;
