@@ -17,6 +17,7 @@ fn refused(refusal: u32) -> ReadAnswer
         segments: 0,
         sop: 0,
         eph: 0,
+        past: 0,
     }
 }
 

@@ -1,8 +1,9 @@
 // The markers of a packet that is read (t2.rs), and the answer where nothing is refused.
 ghost use mathlib.Core.Path.{_≡_};
-ghost use Prim.Native.Nat.{_+_, _-_, _≤_};
+ghost use Prim.Native.Nat.{_-_, _≤_};
 ghost use lib.ListN.{length};
 ghost use Rattle.t800.specs.MarkerSegments.{readMarker};
+ghost use Rattle.bits_taken.specs.Taken.{Reached};
 ghost use Rattle.t2_read_marks.specs.Marks.{markerRead, doneAnswer};
 use t800::Bio;
 use t800::Markers;
@@ -56,7 +57,7 @@ pub fn done(
     present: u32,
     segments: usize,
 ) -> ReadAnswer
-    requires { ⌜ b .bp ≤ length (now src) + 1 ⌝ }
+    requires { ⌜ Reached (now src) (s .skip) b ⌝ }
     ensures { λ r. ⌜ r ≡ doneAnswer m (now (src .entry)) (markerRead s) b present segments ⌝ }
 {
     let end = bio_read_end::opj_bio_inalign(src, b);
@@ -64,6 +65,7 @@ pub fn done(
     let at = after.bp;
     let e = read_marker(m.eph, Marker::EPH, src, at);
     let taken = at + e.skip;
+    let past = bio_read_end::bits_past(src, s.skip, b);
     ReadAnswer {
         refusal: 0,
         present,
@@ -71,5 +73,6 @@ pub fn done(
         segments: segments as u64,
         sop: s.mark,
         eph: e.mark,
+        past,
     }
 }

@@ -56,6 +56,7 @@ pub fn read_numbers(
             segments: 0,
             sop: 0,
             eph: 0,
+            past: 0,
         };
     }
     t2_read_packet::read(state, scratch, src, markers, reports, work)

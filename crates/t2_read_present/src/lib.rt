@@ -1,12 +1,13 @@
 // A packet whose first bit is 1 (t2.rs): its header read into scratch and settled in the state, or refused.
 ghost use mathlib.Core.Path.{_≡_};
 ghost use mathlib.Core.Bool.{true};
-ghost use Prim.Native.Nat.{_*_, _/_, _<_};
+ghost use Prim.Native.Nat.{_*_, _/_, _<_, _≤_};
 ghost use lib.ListN.{length};
 ghost use Rattle.t800.specs.State.{reader, layer, bands, blocks, notYetIncluded};
 ghost use Rattle.t800.specs.Ranges.{validState};
 ghost use Rattle.t800.specs.ReadHeader.{readHeader};
-ghost use Rattle.t2_read_segments.specs.Reading.{BitsIn};
+ghost use Rattle.t800.specs.Bits.{bioAt};
+ghost use Rattle.bits_taken.specs.Taken.{Takes};
 ghost use Rattle.t2_read_marks.specs.Marks.{markerRead};
 ghost use Rattle.t2_read_present.specs.Answers.{presentOrBroken};
 ghost use Rattle.t800.specs.Packet.{readResult};
@@ -28,7 +29,8 @@ pub fn read_present(
     b: Bio,
 ) -> ReadAnswer
     requires { ⌜ (validState reader (now state) (length (now scratch)) ≡ true) × (layer (now state) < notYetIncluded)
-        × (length (now reports) ≡ reportWidth * length (blocks (bands (now state)))) × (BitsIn (now src) b) ⌝ }
+        × (length (now reports) ≡ reportWidth * length (blocks (bands (now state)))) × (s .skip ≤ length (now src))
+        × (Takes (now src) 1 (bioAt (s .skip)) b) ⌝ }
     ensures { λ r. ⌜ readResult asWords (now (state .exit)) (now (scratch .exit)) (now (reports .exit)) (now (records .exit)) r
         ≡ presentOrBroken (now (state .entry)) (now (scratch .entry)) m (now (src .entry)) (now (reports .entry))
         (now (records .entry)) (markerRead s)

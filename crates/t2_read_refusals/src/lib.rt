@@ -33,5 +33,6 @@ pub fn refused(why: u32) -> ReadAnswer
         segments: 0,
         sop: 0,
         eph: 0,
+        past: 0,
     }
 }

@@ -8,6 +8,7 @@ ghost use Rattle.t800.specs.State.{reader, layer, notYetIncluded};
 ghost use Rattle.t800.specs.Ranges.{validState};
 ghost use Rattle.t800.specs.Reports.{asWords};
 ghost use Rattle.t800.specs.Packet.{readAbsent, readResult};
+ghost use Rattle.bits_taken.specs.Taken.{Reached};
 ghost use Rattle.t2_read_marks.specs.Marks.{markerRead};
 ghost use Rattle.t2_read_settle.specs.Results.{WithAnyRecords};
 use t2_read_marks::MarkerFound;
@@ -26,7 +27,7 @@ pub fn read_absent(
     b: Bio,
 ) -> ReadAnswer
     requires { ⌜ (validState reader (now state) (length (now scratch)) ≡ true) × (layer (now state) < notYetIncluded)
-        × (b .bp ≤ length (now src) + 1) ⌝ }
+        × (Reached (now src) (s .skip) b) ⌝ }
     ensures { λ r. ⌜ WithAnyRecords
         (λ records. readResult asWords (now (state .exit)) (now (scratch .exit)) (now (reports .exit)) records r)
         (λ records. readAbsent asWords (now (state .entry)) m (now (src .entry)) (now (reports .entry)) records (markerRead s) b) ⌝ }

@@ -79,8 +79,8 @@ was-read =
       reports = replicate 4 5;
       work = replicate 4 4;
       records = records;
-      answer = replicate 5 8;
-      left = readCall state lent plain input (replicate 4 5) (replicate 4 4) records (replicate 5 8);
+      answer = replicate 6 8;
+      left = readCall state lent plain input (replicate 4 5) (replicate 4 4) records (replicate 6 8);
       met = refl;
     }
 

@@ -88,13 +88,14 @@ module _ (m : ReadMade) where
         segments = getD (z .answer) 2 0;
         sop = getD (z .answer) 3 0;
         eph = getD (z .answer) 4 0;
+        past = getD (z .answer) 5 0;
       })
 
   abbrev untold : ReadExit → ReadResult asRecords
   untold z = readResult asRecords (z .state) (z .scratch) (z .reports) (z .records) (refusedAnswer (z .refusal))
 
-  abbrev five : Bool
-  five = eqb (length (m .answer)) 5
+  abbrev six : Bool
+  six = eqb (length (m .answer)) 6
 
   abbrev fits : Bool
   fits = eqb (length (m .work)) (recordWidth * length (m .records))
@@ -102,17 +103,17 @@ module _ (m : ReadMade) where
   pub read-meets : readAsked m ≡ true → readLeft m ≡ readOf asRecords (m .state) (readArgs m)
   unfolding readCall
   read-meets a =
-      let e = and-left five fits a in
-      if-true five _ _ e ∙ ap by-answer (m .met ∙ if-true five _ _ e ∙ if-true fits _ _ (and-right five fits a))
+      let e = and-left six fits a in
+      if-true six _ _ e ∙ ap by-answer (m .met ∙ if-true six _ _ e ∙ if-true fits _ _ (and-right six fits a))
 
   pub read-refuses : readAsked m ≡ false → readLeft m ≡ readUntouched asRecords (m .state) (readArgs m) (readOtherwise m)
   unfolding readCall
   read-refuses a =
-      on-bool five
-      (λ e. if-true five _ _ e ∙ ap by-answer (m .met ∙ if-true five _ _ e ∙ if-false fits _ _ (second five fits e a))
-      ∙ ap (readUntouched asRecords (m .state) (readArgs m)) (sym (if-true five _ _ e)))
-      (λ e. if-false five _ _ e ∙ ap untold (m .met ∙ if-false five _ _ e)
-      ∙ ap (readUntouched asRecords (m .state) (readArgs m)) (sym (if-false five _ _ e)))
+      on-bool six
+      (λ e. if-true six _ _ e ∙ ap by-answer (m .met ∙ if-true six _ _ e ∙ if-false fits _ _ (second six fits e a))
+      ∙ ap (readUntouched asRecords (m .state) (readArgs m)) (sym (if-true six _ _ e)))
+      (λ e. if-false six _ _ e ∙ ap untold (m .met ∙ if-false six _ _ e)
+      ∙ ap (readUntouched asRecords (m .state) (readArgs m)) (sym (if-false six _ _ e)))
     where
       second : (a b : Bool) → a ≡ true → (a && b) ≡ false → b ≡ false
       second true b e f = f
@@ -120,20 +121,20 @@ module _ (m : ReadMade) where
 
   pub read-numbered : (1 ≤ readOtherwise m) × (readOtherwise m ≤ 13)
   read-numbered =
-      either (λ (n : ℕ). (1 ≤ n) × (n ≤ 13)) five _ _ (work-numbered (m .state) (m .scratch)) (omega arith)
+      either (λ (n : ℕ). (1 ≤ n) × (n ≤ 13)) six _ _ (work-numbered (m .state) (m .scratch)) (omega arith)
 
   -- a call that the lists' lengths refuse has a number, and any other is t800's read
   told-start : m .left .refusal ≡ 0 → StartsFit (readTold (m .left))
   unfolding readCall StartsOfReads
   told-start =
       let P : ReadExit → Type 0 = λ z. z .refusal ≡ 0 → StartsFit (readTold z) in
-      on-bool five
+      on-bool six
       (λ e. on-bool fits
-      (λ g. subst P (sym (m .met ∙ if-true five _ _ e ∙ if-true fits _ _ g))
+      (λ g. subst P (sym (m .met ∙ if-true six _ _ e ∙ if-true fits _ _ g))
       (starts-of-reads (m .state) (m .scratch) (m .markers) (m .input) (m .reports) (m .records)))
-      (λ g. subst P (sym (m .met ∙ if-true five _ _ e ∙ if-false fits _ _ g))
+      (λ g. subst P (sym (m .met ∙ if-true six _ _ e ∙ if-false fits _ _ g))
       (λ z. absurd (omega (arith, z, work-numbered (m .state) (m .scratch))))))
-      (λ e. subst P (sym (m .met ∙ if-false five _ _ e)) (λ z. absurd (omega (arith, z))))
+      (λ e. subst P (sym (m .met ∙ if-false six _ _ e)) (λ z. absurd (omega (arith, z))))
 
 -- ---- the interface
 

@@ -95,7 +95,7 @@ pub record ReadMade : Type 0 where
   pub met : left ≡ readCall state scratch markers input reports work records answer
 
 abbrev pub readAsked : ReadMade → Bool
-readAsked m = eqb (length (m .answer)) 5 && eqb (length (m .work)) (recordWidth * length (m .records))
+readAsked m = eqb (length (m .answer)) 6 && eqb (length (m .work)) (recordWidth * length (m .records))
 
 abbrev pub readArgs : ReadMade → ReadCall asRecords
 readArgs m = record { scratch = m .scratch; markers = m .markers; input = m .input; reports = m .reports; records = m .records }
@@ -111,14 +111,15 @@ readLeft m =
       segments = getD a 2 0;
       sop = getD a 3 0;
       eph = getD a 4 0;
+      past = getD a 5 0;
     }) in
     let untold : ReadResult asRecords =
     readResult asRecords (m .left .state) (m .left .scratch) (m .left .reports) (m .left .records) (refusedAnswer (m .left .refusal)) in
-    cond (eqb (length (m .answer)) 5) told untold
+    cond (eqb (length (m .answer)) 6) told untold
 
 -- 3 for `answer`; for `work` 5, 6 or 3
 abbrev pub readOtherwise : ReadMade → ℕ
-readOtherwise m = cond (eqb (length (m .answer)) 5) (workRefusal (m .state) (m .scratch)) listRefusal
+readOtherwise m = cond (eqb (length (m .answer)) 6) (workRefusal (m .state) (m .scratch)) listRefusal
 
 -- ---- where segments start
 

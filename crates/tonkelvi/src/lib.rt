@@ -109,7 +109,7 @@ pub extern "C" fn tonkelvi_write(
     )
 }
 
-// Answers present, bytes taken, segments, SOP mark, EPH mark.
+// Answers present, bytes taken, segments, SOP mark, EPH mark, bits past the end.
 #[no_mangle]
 pub extern "C" fn tonkelvi_read(
     state: &mut [u32],

@@ -27,13 +27,14 @@ pub fn put_three(answer: &mut [u64], a: u64, b: u64, c: u64)
     answer[2] = c;
 }
 
-pub fn put_five(answer: &mut [u64], a: u64, b: u64, c: u64, d: u64, e: u64)
-    requires { ⌜ length (now answer) ≡ 5 ⌝ }
-    ensures { λ _. ⌜ now (answer .exit) ≡ a ∷ b ∷ c ∷ d ∷ e ∷ [] ⌝ }
+pub fn put_six(answer: &mut [u64], a: u64, b: u64, c: u64, d: u64, e: u64, f: u64)
+    requires { ⌜ length (now answer) ≡ 6 ⌝ }
+    ensures { λ _. ⌜ now (answer .exit) ≡ a ∷ b ∷ c ∷ d ∷ e ∷ f ∷ [] ⌝ }
 {
     answer[0] = a;
     answer[1] = b;
     answer[2] = c;
     answer[3] = d;
     answer[4] = e;
+    answer[5] = f;
 }

@@ -205,27 +205,27 @@ module _ (ws scratch : List ℕ) (m : Markers) (src reports work : List ℕ) (re
       → filledOf z ≡ readCall ws scratch m src reports work records answer
   unfolding numbersCall readCall toFill
   by-lists true true t u z e l =
-      let k = e ∙ if-true (eqb (length answer) 5) _ _ t
+      let k = e ∙ if-true (eqb (length answer) 6) _ _ t
       ∙ ap numbersOf (numbers-read ws scratch m src reports work (length records) u) in
       ap filledOf k
       ∙ ap (λ (y : ReadResult asRecords). readExit y (read asWords ws scratch m src reports work .records))
       (stored-is-read ws scratch m src reports work records (eqb-true (length work) (4 * length records) u)
       (ap (λ (y : NumbersCall). length (y .result .records)) (sym k) ∙ l))
       ∙ sym (if-true (eqb (length work) (4 * length records)) _ _ u)
-      ∙ sym (if-true (eqb (length answer) 5) _ _ t)
+      ∙ sym (if-true (eqb (length answer) 6) _ _ t)
   by-lists true false t u z e l =
-      ap filledOf (e ∙ if-true (eqb (length answer) 5) _ _ t
+      ap filledOf (e ∙ if-true (eqb (length answer) 6) _ _ t
       ∙ ap numbersOf (numbers-refused ws scratch m src reports work (length records) u))
       ∙ ap (λ (y : List SegmentRecord). readExit (readResult asRecords ws scratch reports y (refusedAnswer (workRefusal ws scratch))) work)
       (none-stored ws scratch m src reports work records _ (wrong-stores-none ws scratch (length records)))
       ∙ sym (if-false (eqb (length work) (4 * length records)) _ _ u)
-      ∙ sym (if-true (eqb (length answer) 5) _ _ t)
+      ∙ sym (if-true (eqb (length answer) 6) _ _ t)
   by-lists false u t v z e l =
-      ap filledOf (e ∙ if-false (eqb (length answer) 5) _ _ t)
+      ap filledOf (e ∙ if-false (eqb (length answer) 6) _ _ t)
       ∙ ap (λ (y : List SegmentRecord).
       record { refusal = 3; state = ws; scratch = scratch; reports = reports; work = work; records = y; answer = answer })
       (none-stored ws scratch m src reports work records 0 refl)
-      ∙ sym (if-false (eqb (length answer) 5) _ _ t)
+      ∙ sym (if-false (eqb (length answer) 6) _ _ t)
 
   pub filled-is-call : (z₀ z₁ z₃ z₄ z₆ : List ℕ) (a : ReadAnswer) (us : List SegmentRecord) (k : ℕ)
       → record { result = readResult asWords z₀ z₁ z₃ z₄ a; answer = z₆ }
@@ -237,5 +237,5 @@ module _ (ws scratch : List ℕ) (m : Markers) (src reports work : List ℕ) (re
       ap (λ (y : List SegmentRecord).
       record { refusal = a .refusal; state = z₀; scratch = z₁; reports = z₃; work = z₄; records = y; answer = z₆ })
       (g ∙ ap (λ (j : ℕ). filled z₄ j records) f)
-      ∙ by-lists (eqb (length answer) 5) (eqb (length work) (4 * length records)) refl refl
+      ∙ by-lists (eqb (length answer) 6) (eqb (length work) (4 * length records)) refl refl
       (record { result = readResult asWords z₀ z₁ z₃ z₄ a; answer = z₆ }) e l

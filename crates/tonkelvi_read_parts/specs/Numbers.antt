@@ -21,5 +21,5 @@ numbersOf r = record { result = r; answer = readWords (r .answer) }
 unfoldable pub numbersCall : (state : List ℕ) (scratch : List ℕ) (markers : Markers) (input : List ℕ) (reports : List ℕ)
     (work : List ℕ) (room : ℕ) (answer : List ℕ) → NumbersCall
 numbersCall state scratch markers input reports work room answer =
-    cond (eqb (length answer) 5) (numbersOf (readNumbers state scratch markers input reports work room))
+    cond (eqb (length answer) 6) (numbersOf (readNumbers state scratch markers input reports work room))
     (record { result = readResult asWords state scratch reports work (refusedAnswer listRefusal); answer = answer })

@@ -27,7 +27,7 @@ pub fn read_words(
         ≡ numbersCall (now (state .entry)) (now (scratch .entry)) (record { sop = sop; eph = eph }) (now (src .entry))
         (now (reports .entry)) (now (work .entry)) room (now (answer .entry)) ⌝ }
 {
-    if answer.len() != 5 {
+    if answer.len() != 6 {
         return ReadAnswer {
             refusal: Refusal::LIST,
             present: 0,
@@ -35,17 +35,19 @@ pub fn read_words(
             segments: 0,
             sop: 0,
             eph: 0,
+            past: 0,
         };
     }
     let markers = Markers { sop, eph };
     let r = t2_read_numbers::read_numbers(state, scratch, src, markers, reports, work, room);
-    tonkelvi_answers::put_five(
+    tonkelvi_answers::put_six(
         answer,
         r.present as u64,
         r.taken,
         r.segments,
         r.sop as u64,
         r.eph as u64,
+        r.past,
     );
     r
 }

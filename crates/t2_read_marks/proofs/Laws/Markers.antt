@@ -11,7 +11,7 @@ use borrow.Author.Tests.{eq-eqb, ne-eqb, lt-ltb, le-ltb}
 use Rattle.t800.specs.declared.Bio.{Bio}
 use Rattle.t800.specs.declared.Markers.{Markers}
 use Rattle.t800.specs.declared.ReadAnswer.{ReadAnswer}
-use Rattle.t800.specs.Bits.{inFF, bytesTaken}
+use Rattle.t800.specs.Bits.{bioAt, inFF, bytesTaken, bitsPast}
 use Rattle.t800.specs.MarkerSegments.{MarkerRead, readMarker, readEph}
 use Rattle.t800_laws.proofs.Laws.Tests.{either, on-lt, if-lt, if-ge}
 use Rattle.t2_read_marks.specs.Marks.{doneAnswer}
@@ -64,12 +64,28 @@ unfolding bytesTaken
 taken-up-to src b = either (λ (n : ℕ). n ≤ b .bp + 1) (inFF b) _ _ (omega arith) (omega arith)
 
 -- the answer where nothing is refused
-pub done-is : (m : Markers) (src : List ℕ) (s : MarkerRead) (b : Bio) (present segments at : ℕ) (e : MarkerRead) → at
-    ≡ bytesTaken src b → e ≡ readMarker (m .eph) 2 0x92 src at
+pub done-is : (m : Markers) (src : List ℕ) (s : MarkerRead) (b : Bio) (present segments at : ℕ) (e : MarkerRead) (past : ℕ) → at
+    ≡ bytesTaken src b → e ≡ readMarker (m .eph) 2 0x92 src at → past ≡ bitsPast src (bioAt (s .skip)) b
     → _≡_ {A = ReadAnswer}
-    (record { refusal = 0; present = present; taken = at + e .skip; segments = segments; sop = s .mark; eph = e .mark })
+    (record {
+      refusal = 0;
+      present = present;
+      taken = at + e .skip;
+      segments = segments;
+      sop = s .mark;
+      eph = e .mark;
+      past = past;
+    })
     (doneAnswer m src s b present segments)
 unfolding doneAnswer readEph
-done-is m src s b present segments at e p q =
+done-is m src s b present segments at e past p q r =
     let f : e ≡ readMarker (m .eph) 2 0x92 src (bytesTaken src b) = q ∙ ap (readMarker (m .eph) 2 0x92 src) p in
-    λ j. record { refusal = 0; present = present; taken = p j + f j .skip; segments = segments; sop = s .mark; eph = f j .mark }
+    λ j. record {
+      refusal = 0;
+      present = present;
+      taken = p j + f j .skip;
+      segments = segments;
+      sop = s .mark;
+      eph = f j .mark;
+      past = r j;
+    }

@@ -18,12 +18,19 @@ pub three-set : (l : List ℕ) (a b c : ℕ) → length l ≡ 3 → set (set (se
 three-set [] a b c e = absurd (omega arith)
 three-set (x ∷ l) a b c e = ap (λ (t : List ℕ). a ∷ t) (two-set l b c (omega arith))
 
-pub five-set : (l : List ℕ) (a b c d e : ℕ) → length l ≡ 5 → set (set (set (set (set l 0 a) 1 b) 2 c) 3 d) 4 e ≡ a ∷ b ∷ c ∷ d ∷ e ∷ []
-five-set [] a b c d e h = absurd (omega arith)
-five-set (x ∷ []) a b c d e h = absurd (omega arith)
-five-set (x ∷ y ∷ l) a b c d e h = ap (λ (t : List ℕ). a ∷ b ∷ t) (three-set l c d e (omega arith))
+pub six-set : (l : List ℕ) (a b c d e f : ℕ) → length l ≡ 6
+    → set (set (set (set (set (set l 0 a) 1 b) 2 c) 3 d) 4 e) 5 f ≡ a ∷ b ∷ c ∷ d ∷ e ∷ f ∷ []
+six-set [] a b c d e f h = absurd (omega arith)
+six-set (x ∷ []) a b c d e f h = absurd (omega arith)
+six-set (x ∷ y ∷ []) a b c d e f h = absurd (omega arith)
+six-set (x ∷ y ∷ z ∷ l) a b c d e f h = ap (λ (t : List ℕ). a ∷ b ∷ c ∷ t) (three-set l d e f (omega arith))
 
-pub five-long : (l : List ℕ) (a b c d : ℕ) → length l ≡ 5 → 4 < length (set (set (set (set l 0 a) 1 b) 2 c) 3 d)
+pub five-long : (l : List ℕ) (a b c d : ℕ) → length l ≡ 6 → 4 < length (set (set (set (set l 0 a) 1 b) 2 c) 3 d)
 five-long l a b c d h =
     let e : length (set (set (set (set l 0 a) 1 b) 2 c) 3 d) ≡ length l = simp length-set in
+    omega arith
+
+pub six-long : (l : List ℕ) (a b c d e : ℕ) → length l ≡ 6 → 5 < length (set (set (set (set (set l 0 a) 1 b) 2 c) 3 d) 4 e)
+six-long l a b c d e h =
+    let k : length (set (set (set (set (set l 0 a) 1 b) 2 c) 3 d) 4 e) ≡ length l = simp length-set in
     omega arith

@@ -20,7 +20,7 @@ returns-2 c =
     (a .work .now) (a .room) (a .answer .now)
     (f .result) _ _ _ _ _
     (c .before .before .before .before .before .before .before .before .before .before .before .before .before .before .before
-    .before .before .before .before .before .if1 .left) (f .ensures) (c .before .before .put-five .ensures)
+    .before .before .before .before .before .if1 .left) (f .ensures) (c .before .before .put-six .ensures)
 
 pub read-words-spec : {M : Type 1} → statement M
 read-words-spec =
