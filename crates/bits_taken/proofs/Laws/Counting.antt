@@ -117,7 +117,6 @@ first-past false = refl
 
 -- so many of a header's bits up to here are flagged
 record Counted (src : List ℕ) (start count : ℕ) (b : Bio) : Type 0 where
-  few : b .ct ≤ 8
   from : start ≤ b .bp
   inside : b .bp ≤ length src → (count ≡ 0) × (afterFF b ≡ (ltb start (b .bp) && eqb (getD src (b .bp - 1) 0 % 256) 255))
   past : length src < b .bp
@@ -134,7 +133,6 @@ module _ (src : List ℕ) (start : ℕ) where
       → Counted src start (cond (pastEnd src (inHeld b)) 1 0 + count) (inHeld b)
   unfolding pastEnd
   counted-held count b g z = record {
-    few = omega (arith, g .few);
     from = g .from;
     inside = λ h. let i = g .inside h in (rw (le-ltb (length src) (b .bp) h) (omega (arith, i .0)), i .1);
     past = λ h. let p = g .past h in rw (lt-ltb (length src) (b .bp) h) (omega arith, omega (arith, p .1), p .2);
@@ -144,7 +142,6 @@ module _ (src : List ℕ) (start : ℕ) where
       → Counted src start (cond (pastEnd src (inNext src b)) 1 0 + count) (inNext src b)
   unfolding pastEnd
   counted-next count b g z = record {
-    few = omega (arith, byte-few (afterFF b));
     from = omega (arith, g .from);
     inside = λ h.
         let here : b .bp + 1 - 1 ≡ b .bp = omega arith in (
@@ -190,7 +187,6 @@ module _ (src : List ℕ) (start : ℕ) where
     where
       none : Counted src start 0 (bioAt start)
       none = record {
-        few = omega arith;
         from = le-refl start;
         inside = λ g. (refl, rw (le-ltb start start (le-refl start)) refl);
         past = λ g. absurd (omega arith);
