@@ -1,2 +1,3 @@
 pub mod Taken
 pub mod Inside
+pub mod Counting
