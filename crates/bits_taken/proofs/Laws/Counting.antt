@@ -222,9 +222,6 @@ module _ (src : List ℕ) (start : ℕ) where
     counted-here =
         subst₂ (Counted src start) (sym counted) (sym (r .takes .ends)) (counted-header (r .takes .bits) (r .inside) (r .takes .few))
 
-    pub none-past : e .bp ≤ length src → bitsPast src (bioAt start) e ≡ 0
-    none-past h = counted-here .inside h .0
-
     pub none-past-inside : bitsPast src (bioAt start) e ≡ 0 → e .bp ≤ length src
     none-past-inside z = on-lt (length src) (e .bp) (λ h. absurd (omega (arith, counted-here .past h .0))) (λ h. h)
 

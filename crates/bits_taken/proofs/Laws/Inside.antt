@@ -29,8 +29,8 @@ module _ (src : List ℕ) where
       either (λ (z : ℕ). z ≡ 0) (eqb (b .bp) (e .bp) && eqb (b .ct) (e .ct)) 0 _ refl
       (omega (arith, rest, not-flagged b (after-inside src n (getBit src b .bio) h)))
 
-  pub none-past-inside : (n : ℕ) (b e : Bio) → Takes src n b e → e .bp ≤ length src → bitsPast src b e ≡ 0
+  pub none-past : (n : ℕ) (b e : Bio) → Takes src n b e → e .bp ≤ length src → bitsPast src b e ≡ 0
   unfolding bitsPast
-  none-past-inside n b e t h =
+  none-past n b e t h =
       let inside : afterBits src (t .bits) b .bp ≤ length src = subst (λ (c : Bio). c .bp ≤ length src) (t .ends) h in
       ap (bitsPastFrom src (8 * (e .bp - b .bp)) b) (t .ends) ∙ none-among (t .bits) (8 * (e .bp - b .bp)) b inside

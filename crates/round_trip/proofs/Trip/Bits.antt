@@ -19,7 +19,7 @@ use Rattle.t800_laws.proofs.Laws.Pack.{AreBits}
 use Rattle.t800_laws.proofs.Laws.Tests.{if-eq, if-ne, on-eq, on-lt, drop-head}
 use Rattle.bits_taken.specs.Taken.{Takes}
 use Rattle.bits_taken.proofs.Laws.Taken.{takes-none, one-then}
-use Rattle.bits_taken.proofs.Laws.Inside.{none-past-inside}
+use Rattle.bits_taken.proofs.Laws.Inside as inside
 
 abbrev bioWith : ℕ → ℕ → ℕ → Bio
 bioWith p u c = record { bp = p; buf = u; ct = c }
@@ -248,7 +248,7 @@ reads-takes s [] b e r = subst (Takes s 0 b) (r .1) (takes-none s b)
 reads-takes s (x ∷ xs) b e r = one-then s (length xs) b e (reads-takes s xs (bioAfter s b) e (r .2))
 
 pub none-past : (s : List ℕ) (b : Bio) (bs : List ℕ) (n : ℕ) (r : BitsRead s b bs n) → bitsPast s b (r .end) ≡ 0
-none-past s b bs n r = none-past-inside s (length bs) b (r .end) (reads-takes s bs b (r .end) (r .reads)) (r .inside)
+none-past s b bs n r = inside.none-past s (length bs) b (r .end) (reads-takes s bs b (r .end) (r .reads)) (r .inside)
 
 pub packed-bits-read : (s t : List ℕ) (x : ℕ) (xs : List ℕ) (p : ℕ) → x < 2 → AreBits xs → drop p s ≡ pack (x ∷ xs) ++ t
     → BitsRead s (bioAt p) (x ∷ xs) (p + length (pack (x ∷ xs)))

@@ -1,8 +1,10 @@
--- A header that is refused, and one that is read.
+-- A header that is refused, and one that is read; and where its bits end.
 use mathlib.Core.Path.{_≡_, sym, ap, _∙_, subst}
 use mathlib.Core.Logic.{_≢_}
+use mathlib.Core.Bool.{true}
 use mathlib.Core.List.{List, _++_, append-nil}
-use Prim.Native.Nat.{ℕ, _+_, _*_, _/_}
+use Prim.Native.Nat.{ℕ, _+_, _*_, _/_, _^_, _≤_, _<_}
+use native.Mathlib.Nat.{le-of-lt}
 use native.Mathlib.Omega.{arith}
 use lib.ListN.{length, set, replicate, drop-of-length-le}
 use Rattle.t800.specs.declared.Bio.{Bio}
@@ -10,13 +12,19 @@ use Rattle.t800.specs.declared.Markers.{Markers}
 use Rattle.t800.specs.declared.ReadAnswer.{ReadAnswer}
 use Rattle.t800.specs.Base.{overwrite, wiped}
 use Rattle.t800.specs.Reports.{BlockReport, reportWords, reportWidth, recordWidth, asWords}
-use Rattle.t800.specs.State.{layer, bands, blocks}
+use Rattle.t800.specs.Bits.{bioAt}
+use Rattle.t800.specs.State.{reader, layer, bands, blocks, notYetIncluded}
+use Rattle.t800.specs.Ranges.{validState}
 use Rattle.t800.specs.MarkerSegments.{MarkerRead}
 use Rattle.t800.specs.ReadHeader.{HeaderRead, readHeader}
 use Rattle.t800.specs.Packet.{refusedAnswer, readPresent, readResult}
 use Rattle.t800_laws.proofs.Laws.Tests.{if-eq, if-ne}
+use Rattle.bits_taken.specs.Taken.{Takes, Reached}
+use Rattle.bits_taken.proofs.Laws.Taken.{takes-then, takes-more, header-taken}
+use Rattle.bits_taken.proofs.Laws.Counting.{header-in-reach, reached-few}
+use Rattle.tcd_laws.proofs.Laws.ValidStates.{valid-state, bands-inside, blocks-of-valid}
 use Rattle.lists.proofs.Laws.Filled.{length-reports}
-use Rattle.t2_read_segments.specs.Reading.{Reading, heldBy}
+use Rattle.t2_read_segments.specs.Reading.{Reading, heldBy, BitsIn}
 use Rattle.t2_read_header.specs.Header.{ReadsHeader}
 use Rattle.t2_read_marks.specs.Marks.{doneAnswer}
 use Rattle.t2_read_present.specs.Answers.{presentOrBroken}
@@ -26,6 +34,17 @@ unfolding overwrite
 over-all lent rs e =
     ap (λ (l : List ℕ). reportWords rs ++ l)
     (drop-of-length-le lent {i = length (reportWords rs)} (omega (arith, length-reports rs))) ∙ append-nil (reportWords rs)
+
+-- ---- where the first bit stands
+
+module _ (src : List ℕ) (start : ℕ) (b : Bio) (inside : start ≤ length src) (first : Takes src 1 (bioAt start) b) where
+  first-reached : Reached src start b
+  first-reached = record { inside = inside; takes = takes-more src 1 (2 ^ 39) (bioAt start) b (omega arith) first }
+
+  pub first-in : BitsIn src b
+  first-in = record { few = reached-few src start b first-reached; place = le-of-lt (header-in-reach src start b first-reached) }
+
+-- ---- the header
 
 module _ (ws scratch : List ℕ) (m : Markers) (src reports records : List ℕ) (s : MarkerRead) (b : Bio) (vs : List ℕ)
     (copied : vs ≡ ws) (a : Reading) (reads : ReadsHeader src reports records vs b a) where
@@ -66,3 +85,17 @@ module _ (ws scratch : List ℕ) (m : Markers) (src reports records : List ℕ) 
       ∙ ap (λ (rows : List ℕ). readResult asWords (set (header .words) 3 (layer ws + 1)) (set (header .words) 3 (layer ws + 1)) rows
       (heldBy reports records header .records) (doneAnswer m src s (header .bio) 1 (length (header .records)))) o
       ∙ sym (if-eq (header .refusal) 0 _ _ ok)
+
+  -- its bits end in reach of the input
+  pub bits-reached : (start n : ℕ) → start ≤ length src → Takes src 1 (bioAt start) b → validState reader ws n ≡ true
+      → layer ws < notYetIncluded → a .refusal ≡ 0 → Reached src start (a .bio)
+  bits-reached start n inside first valid below z =
+      let ok : header .refusal ≡ 0 = sym (reads-state .follows .refuses) ∙ z in
+      let e : a .bio ≡ header .bio = ap (λ (x : Reading). x .bio) (reads-state .follows .holds ok) in
+      let rest = header-taken src room ws b (blocks-of-valid reader ws n valid) (bands-inside ws n (valid-state reader ws n valid)) below ok in
+      subst (Reached src start) (sym e)
+      (record {
+        inside = inside;
+        takes = takes-more src (1 + 2 ^ 38) (2 ^ 39) (bioAt start) (header .bio) (omega arith)
+            (takes-then src 1 (2 ^ 38) (bioAt start) b (header .bio) first rest);
+      })

@@ -10,7 +10,7 @@ use Rattle.t800.specs.Ranges.{validState}
 use Rattle.tcd_laws.proofs.Laws.ValidStates.{valid-state, thirteen-words}
 use Rattle.t2_read_segments.specs.Reading.{reading}
 use Rattle.t2_read_marks.specs.Marks.{markerRead}
-use Rattle.t2_read_present.proofs.Laws.Results.{broken-is, present-is}
+use Rattle.t2_read_present.proofs.Laws.Results.{first-in, broken-is, present-is, bits-reached}
 use borrow.Author.Needs.{needs}
 use Rattle.t2_read_present.proofs.read_present.Statement.{statement}
 use Rattle.t2_read_present.proofs.read_present.Tie as tie
@@ -33,7 +33,7 @@ opj-t2-read-packet-header-requires c κs =
           (subst (λ (n : ℕ). validState reader ws n ≡ true) (v .scratch-is) (s .pre .0)),
       subst (λ (us : List ℕ). layer us < notYetIncluded) (sym e) (s .pre .1),
       subst (λ (us : List ℕ). length (s .args .reports .now) ≡ reportWidth * length (blocks (bands us))) (sym e) (s .pre .2),
-      s .pre .3,
+      first-in (s .args .src .now) (s .args .s .skip) (s .args .b) (s .pre .3) (s .pre .4),
     )
 
 returns : tie.Need-returns
@@ -72,8 +72,19 @@ settle-requires c κs =
 
 done-requires : tie.Need-done-requires
 done-requires c κs =
-    c .before .before .before .before .before .before .before .before .before .before .before .before .before .before .before
-    .opj-t2-read-packet-header .ensures .bits .place
+    let s = c .before .before .before .before .before .before .before .before .before .before .before .before .before .before
+    .before .before .before .before .before .before .before .before .before .before .before .before .before .before .before in
+    let a = s .args in
+    let h = c .before .before .before .before .before .before .before .before .before .before .before .before .before .before
+    .before .opj-t2-read-packet-header in
+    bits-reached (a .state .now) (a .scratch .now) (a .m) (a .src .now) (a .reports .now) (a .records .now) (markerRead (a .s)) (a .b)
+    (c .before .before .before .before .before .before .before .before .before .before .before .before .before .before .before
+    .before .before .before .before .before .before .copy .last .1 .0)
+    (c .before .before .before .before .before .before .before .before .before .before .before .before .before .before .before
+    .before .before .before .before .before .before .copy .ensures)
+    (reading (h .last .0) (h .last .1 .0) (h .last .1 .1 .0) (h .result)) (h .ensures) (a .s .skip) (length (a .scratch .now))
+    (s .pre .3) (s .pre .4) (s .pre .0) (s .pre .1)
+    (c .before .before .before .before .before .before .before .if1 .left)
 
 returns-2 : tie.Need-returns-2
 returns-2 c =
