@@ -173,17 +173,17 @@ module _ (ws scratch : List ℕ) (m : Markers) (src reports : List ℕ) where
 -- ---- the read on the work list, with its answer words
 
 module _ (ws scratch : List ℕ) (m : Markers) (src reports work : List ℕ) (room : ℕ) (answer : List ℕ) where
-  pub read-unlisted : length answer ≢ 5
+  pub read-unlisted : length answer ≢ 6
       → record { result = readResult asWords ws scratch reports work (refusedAnswer 3); answer = answer }
       ≡ numbersCall ws scratch m src reports work room answer
   unfolding numbersCall
-  read-unlisted h = rw (ne-eqb (length answer) 5 h)
+  read-unlisted h = rw (ne-eqb (length answer) 6 h)
 
-  pub read-listed : (r : ReadAnswer) (vs s p q l : List ℕ) → length answer ≡ 5 → readResult asWords vs s p q r
+  pub read-listed : (r : ReadAnswer) (vs s p q l : List ℕ) → length answer ≡ 6 → readResult asWords vs s p q r
       ≡ readNumbers ws scratch m src reports work room → l ≡ readWords r
       → record { result = readResult asWords vs s p q r; answer = l } ≡ numbersCall ws scratch m src reports work room answer
   unfolding numbersCall
-  read-listed r vs s p q l h e g = rw (eq-eqb (length answer) 5 h, g) (ap numbersOf e)
+  read-listed r vs s p q l h e g = rw (eq-eqb (length answer) 6 h, g) (ap numbersOf e)
 
 -- ---- what the three calls of `tonkelvi_read` give together
 
@@ -200,7 +200,7 @@ module _ (ws scratch : List ℕ) (m : Markers) (src reports work : List ℕ) (re
     answer = z .answer;
   }
 
-  by-lists : (t u : Bool) → eqb (length answer) 5 ≡ t → eqb (length work) (4 * length records) ≡ u → (z : NumbersCall) → z
+  by-lists : (t u : Bool) → eqb (length answer) 6 ≡ t → eqb (length work) (4 * length records) ≡ u → (z : NumbersCall) → z
       ≡ numbersCall ws scratch m src reports work (length records) answer → length (z .result .records) ≡ length work
       → filledOf z ≡ readCall ws scratch m src reports work records answer
   unfolding numbersCall readCall toFill

@@ -1,11 +1,13 @@
 -- `t2_read_packet::read` meets its contract.
-use mathlib.Core.Path.{sym, ap, _∙_}
+use mathlib.Core.Path.{sym, ap, _∙_, subst}
+use Prim.Native.Nat.{_^_}
 use native.Mathlib.Omega.{arith}
 use Rattle.t800.specs.declared.Bio.{Bio}
 use Rattle.t800.specs.Bits.{Decoded, bioAt, getBit}
 use Rattle.t800.specs.MarkerSegments.{MarkerRead}
 use Rattle.bio_read.specs.Reading.{decoded}
-use Rattle.bio_read.proofs.Laws.ReadChunks.{getBit-ct, getBit-place}
+use Rattle.bits_taken.specs.Taken.{Takes}
+use Rattle.bits_taken.proofs.Laws.Taken.{takes-one, takes-more}
 use Rattle.t2_read_marks.specs.Marks.{markerRead}
 use Rattle.t2_read_marks.proofs.Laws.Markers.{skip-inside}
 use Rattle.t2_read_refusals.proofs.Laws.Refusals.{accepted}
@@ -34,8 +36,12 @@ read-absent-requires c κs =
     ∙ ap (getBit (s .args .src .now)) (c .before .before .before .before .before .before .opj-bio-init-dec .ensures) in
     let k = ap (λ (f : MarkerRead). f .skip) (c .before .before .before .before .before .before .before .read-marker .ensures) in
     let b = bioAt (c .before .before .before .before .before .before .before .read-marker .result .skip) in
-    let p = getBit-place (s .args .src .now) b (omega (arith, k, skip-inside (s .args .m .sop) 6 0x91 (s .args .src .now) 0)) in
-    (g .valid, g .layers, omega (arith, ap (λ (d : Decoded). d .bio .bp) e, p))
+    let first = takes-one (s .args .src .now) b in
+    (g .valid, g .layers, record {
+      inside = omega (arith, k, skip-inside (s .args .m .sop) 6 0x91 (s .args .src .now) 0);
+      takes = subst (Takes (s .args .src .now) (2 ^ 39) b) (sym (ap (λ (d : Decoded). d .bio) e))
+          (takes-more (s .args .src .now) 1 (2 ^ 39) b _ (omega arith) first);
+    })
 
 returns-2 : tie.Need-returns-2
 returns-2 c =
@@ -70,15 +76,12 @@ read-present-requires c κs =
     ∙ ap (getBit (s .args .src .now)) (c .before .before .before .before .before .before .before .opj-bio-init-dec .ensures) in
     let k = ap (λ (f : MarkerRead). f .skip) (c .before .before .before .before .before .before .before .before .read-marker .ensures) in
     let b = bioAt (c .before .before .before .before .before .before .before .before .read-marker .result .skip) in
-    let p = getBit-place (s .args .src .now) b (omega (arith, k, skip-inside (s .args .m .sop) 6 0x91 (s .args .src .now) 0)) in
-    let q = getBit-ct (s .args .src .now) b (omega arith) in (
+    (
       g .valid,
       g .layers,
       g .listed,
-      record {
-        few = omega (arith, ap (λ (d : Decoded). d .bio .ct) e, q);
-        place = omega (arith, ap (λ (d : Decoded). d .bio .bp) e, p);
-      },
+      omega (arith, k, skip-inside (s .args .m .sop) 6 0x91 (s .args .src .now) 0),
+      subst (Takes (s .args .src .now) 1 b) (sym (ap (λ (d : Decoded). d .bio) e)) (takes-one (s .args .src .now) b),
     )
 
 returns-3 : tie.Need-returns-3
