@@ -1,0 +1,2 @@
+pub mod SameBits
+pub mod SameHeader
