@@ -1,2 +1,3 @@
 pub mod SameBits
 pub mod SameHeader
+pub mod Flags

@@ -107,19 +107,26 @@ module _ (src more : List ℕ) where
       let e : min (b .bp + 1) (length longer + reach) ≡ min (b .bp + 1) (length src + reach) = omega arith in
       (l, rw (e, List·getD-append src more 0 (b .bp) l))
 
-  bit-by : (b : Bio) (t : Bool)
-      → Stays src ofDecoded b (heldBit (cond t (byteIn src b) b)) (heldBit (cond t (byteIn longer b) b))
+  same-by : (b : Bio) (t : Bool) → heldBit (cond t (byteIn src b) b) .bio .bp ≤ length src
+      → heldBit (cond t (byteIn longer b) b) ≡ heldBit (cond t (byteIn src b) b)
   unfolding heldBit
-  bit-by b true = record {
-    held = λ _. byte-held b;
-    inside = λ h. omega (arith, byte-inside b h .0);
-    same = λ _ h. ap heldBit (byte-inside b h .1);
-  }
-  bit-by b false = record { held = λ h. omega arith; inside = λ h. h; same = λ _ _. refl }
+  same-by b true h = ap heldBit (byte-inside b h .1)
+  same-by b false h = refl
+
+  pub same-bit : (b : Bio) → getBit src b .bio .bp ≤ length src → getBit longer b ≡ getBit src b
+  unfolding getBit
+  same-bit b h = same-by b (eqb (b .ct) 0) h
+
+  moved-by : (b : Bio) (t : Bool) → let e = heldBit (cond t (byteIn src b) b) .bio in
+      (b .ct < 8 → e .ct < 8) × (e .bp ≤ length src → b .bp ≤ length src)
+  unfolding heldBit
+  moved-by b true = ((λ _. byte-held b), (λ h. omega (arith, byte-inside b h .0)))
+  moved-by b false = ((λ h. omega arith), (λ h. h))
 
   pub bit-stays : (b : Bio) → Stays src ofDecoded b (getBit src b) (getBit longer b)
   unfolding getBit
-  bit-stays b = bit-by b (eqb (b .ct) 0)
+  bit-stays b =
+      let m = moved-by b (eqb (b .ct) 0) in record { held = m .0; inside = m .1; same = λ _ h. same-bit b h }
 
   -- ---- bits
 

@@ -1,7 +1,7 @@
 -- A header that is read without a refusal, its bits ending inside the input, is read the same with more input.
 use mathlib.Core.Path.{_≡_, refl, sym, ap, _∙_, subst}
 use mathlib.Core.Logic.{_≢_}
-use mathlib.Core.Bool.{Bool, true, false, cond, _&&_}
+use mathlib.Core.Bool.{Bool, true, false, cond, _&&_, true≢false}
 use mathlib.Core.List.{List, [], _∷_, _++_, reverse}
 use Prim.Native.Nat.{ℕ, zero, suc, _+_, _-_, _*_, _≤_, _<_}
 use native.Mathlib.Omega.{arith}
@@ -46,6 +46,14 @@ choice-of src b false x x′ y y′ p q = q
 kept-refusal : (x : HeaderRead) (f : HeaderRead) (on : Bool) → (on ≡ true → x .refusal ≡ 0) → cond on f x .refusal ≡ 0 → x .refusal ≡ 0
 kept-refusal x f true n e = n refl
 kept-refusal x f false n e = e
+
+passed : (t : Bool) (why : ℕ) (x : HeaderRead) → why ≢ 0 → cond t (refused why) x .refusal ≡ 0 → (t ≡ false) × (x .refusal ≡ 0)
+passed true why x n e = absurd (n e)
+passed false why x n e = (refl, e)
+
+second : (a b : Bool) → a ≡ true → (a && b) ≡ false → b ≡ false
+second true b e f = f
+second false b e f = absurd (true≢false (sym e))
 
 module _ (src more : List ℕ) (room : ℕ) where
   abbrev longer : List ℕ
@@ -146,3 +154,32 @@ module _ (src more : List ℕ) (room : ℕ) where
       (λ a. cond (eqb (a .refusal) 0) (readBlocks src room layerNow (i + 1) ks a) a)
       (λ a. cond (eqb (a .refusal) 0) (readBlocks longer room layerNow (i + 1) ks a) a) (block-stays layerNow i k r z)
       (choice-of src (a .bio) (eqb (a .refusal) 0) _ _ a a (blocks-stay layerNow (i + 1) ks a) (λ _. here src ofHeader a) e)
+
+  -- ---- the header's end
+
+  not-in-ff : (b : Bio) → endsInFF src b ≡ false → b .bp ≤ length src → endsInFF longer b ≡ false
+  unfolding endsInFF
+  not-in-ff b e h = go (inFF b) e
+    where
+      go : (t : Bool) → (t && eqb (b .bp) (length src)) ≡ false → (t && eqb (b .bp) (length longer)) ≡ false
+      go true f = ne-eqb (b .bp) (length longer) (omega (arith, eqb-false (b .bp) (length src) f, length-append src more))
+      go false f = refl
+
+  abbrev end-of : List ℕ → HeaderRead → HeaderRead
+  end-of s a = cond (eqb (a .refusal) 0 && endsInFF s (a .bio)) (refused headerEndRefusal) a
+
+  end-stays : (a : HeaderRead) → a .refusal ≡ 0 → endsInFF src (a .bio) ≡ false
+      → Stays src ofHeader (a .bio) (end-of src a) (end-of longer a)
+  end-stays a z off =
+      let f : eqb (a .refusal) 0 ≡ true = eq-eqb (a .refusal) 0 z in
+      rw (f, off) (record { held = λ h. h; inside = λ h. h; same = λ _ l. rw (not-in-ff (a .bio) off l) })
+
+  pub header-stays : (ws : List ℕ) (b : Bio) → Unless src b (readHeader src room ws b) (readHeader longer room ws b)
+  unfolding readHeader
+  header-stays ws b e =
+      let r : HeaderRead = record { refusal = 0; words = ws; bio = b; reports = []; records = [] } in
+      let a : HeaderRead = readBlocks src room (layer ws) 0 (blocks (bands ws)) r in
+      let p = passed (eqb (a .refusal) 0 && endsInFF src (a .bio)) headerEndRefusal a (omega arith) e in
+      then src ofHeader ofHeader b a (readBlocks longer room (layer ws) 0 (blocks (bands ws)) r) (end-of src) (end-of longer)
+      (blocks-stay (layer ws) 0 (blocks (bands ws)) r (p .1))
+      (end-stays a (p .1) (second (eqb (a .refusal) 0) (endsInFF src (a .bio)) (eq-eqb (a .refusal) 0 (p .1)) (p .0)))
