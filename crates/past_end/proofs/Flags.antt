@@ -10,8 +10,8 @@ use lib.Dec.{eqb, ltb, leb}
 use borrow.Author.Tests.{eqb-false, ltb-false, lt-ltb, le-ltb, le-leb, lt-leb}
 use Rattle.t800.specs.declared.Bio.{Bio}
 use Rattle.t800.specs.Bits.{Decoded, BitRead, bioAt, byteIn, heldBit, getBit, pastEnd, readBit}
-use Rattle.t800_laws.proofs.Laws.Tests.{on-lt, if-ge}
-use Rattle.bits_taken.specs.Taken.{afterBits, flagged}
+use Rattle.t800_laws.proofs.Laws.Tests.{on-lt}
+use Rattle.bits_taken.specs.Taken.{afterBits}
 use Rattle.past_end.specs.PastEnd.{byteOf, FlagOfBit, UnflaggedBitStays}
 use Rattle.past_end.proofs.SameBits.{Stays, ofDecoded, here, then, same-bit, bit-stays}
 
@@ -76,12 +76,3 @@ after-stays src more zero b = here src itself b
 after-stays src more (suc n) b =
     then src ofDecoded itself b (getBit src b) (getBit (src ++ more) b) (λ r. afterBits src n (r .bio)) (λ r. afterBits (src ++ more) n (r .bio))
     (bit-stays src more b) (after-stays src more n (getBit src b .bio))
-
--- bits that end inside the input
-pub none-flagged : (src : List ℕ) (n : ℕ) (b : Bio) → afterBits src n b .bp ≤ length src → flagged src n b ≡ 0
-unfolding afterBits flagged readBit pastEnd
-none-flagged src zero b h = refl
-none-flagged src (suc n) b h =
-    let c : Bio = getBit src b .bio in
-    let l = after-stays src src n c .inside h in
-    omega (arith, if-ge {A = ℕ} (length src) (c .bp) 1 0 l, none-flagged src n c h)

@@ -1,3 +1,5 @@
 pub mod SameBits
 pub mod SameHeader
 pub mod Flags
+pub mod SameMarkers
+pub mod AcceptedReads
