@@ -1,7 +1,7 @@
 -- Bits taken one after another, and how many of them lie past the input's end.
 use mathlib.Core.Path.{_≡_}
 use mathlib.Core.Bool.{cond, _&&_}
-use Prim.Native.Nat.{ℕ, zero, suc, _+_, _-_, _^_, _≤_}
+use Prim.Native.Nat.{ℕ, zero, suc, _+_, _-_, _%_, _^_, _≤_}
 use lib.ListN.{length, getD}
 use lib.Dec.{ltb, eqb}
 use Rattle.t800.specs.declared.Bio.{Bio}
@@ -29,6 +29,6 @@ pub record Reached (src : Bytes) (start : ℕ) (e : Bio) : Type 0 where
   pub inside : start ≤ length src
   pub takes : Takes src (2 ^ 39) (bioAt start) e
 
--- the stuffed bit of the first byte past the end: 1 where that byte follows an FF of the header's
+-- the stuffed bit of the first byte past the end: 1 where that byte follows an FF of the header's; a byte is an entry's low eight bits
 unfoldable pub stuffedPast : (src : Bytes) (start : ℕ) → ℕ
-stuffedPast src start = cond (ltb start (length src) && eqb (getD src (length src - 1) 0) 255) 1 0
+stuffedPast src start = cond (ltb start (length src) && eqb (getD src (length src - 1) 0 % 256) 255) 1 0

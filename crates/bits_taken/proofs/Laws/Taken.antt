@@ -11,12 +11,11 @@ use lib.Dec.{ltb, leb, eqb}
 use borrow.Author.Tests.{ltb-false, eqb-true}
 use Rattle.t800.specs.declared.Band.{Band}
 use Rattle.t800.specs.declared.Bio.{Bio}
-use Rattle.t800.specs.Base.{floorLog2}
 use Rattle.t800.specs.Bits.{Decoded, byteIn, heldBit, getBit, readBitsOnto, readBits, endsInFF}
 use Rattle.t800.specs.TagTree.{NodeRead, PathRead, value, low, readNode, readPath}
 use Rattle.t800.specs.PassCount.{readPasses}
 use Rattle.t800.specs.Segments.{width, readOnes, readComma}
-use Rattle.t800.specs.State.{Block, notYetPlanes, blocksIn, bandNodes, bandLength, blocksFrom, blocksAt, blocks, bands, endOf, layer}
+use Rattle.t800.specs.State.{Block, notYetPlanes, blocksIn, bandLength, blocksFrom, blocksAt, blocks, bands, endOf, layer}
 use Rattle.t800.specs.State.{passesSoFar, lengthBits}
 use Rattle.t800.specs.WriteHeader.{isNew, lengthBitsBefore}
 use Rattle.t800.specs.ReadHeader.{HeaderRead, passesTaken, readSegment, readSegments, readZeroPlanesFrom, readZeroPlanes, readIncluded}
@@ -24,18 +23,18 @@ use Rattle.t800.specs.ReadHeader.{readNewBlock, readOldBlock, readBlock, readBl
 use Rattle.t800_laws.proofs.Laws.Tests.{either, either-by, if-eq, if-ne, on-eq, and-left}
 use Rattle.t800_laws.proofs.Laws.Paths.{short-path}
 use Rattle.t800_laws.proofs.Laws.Layout.{band-length, end-after}
-use Rattle.t800_laws.proofs.Laws.Kept.{Kept, from-0, path-from-0, path-read}
+use Rattle.t800_laws.proofs.Laws.Kept.{from-0, path-from-0, path-read}
 use Rattle.t800_laws.proofs.Laws.HeaderSteps.{thresholds-raised}
 use Rattle.t800_laws.proofs.Laws.ReadValues.{passes-between}
 use Rattle.bits_taken.specs.Taken.{afterBits, Takes}
 
 -- ---- one bit
 
-byte-few : (f : Bool) → cond f 7 8 - 1 ≤ 7
+pub byte-few : (f : Bool) → cond f 7 8 - 1 ≤ 7
 byte-few true = omega arith
 byte-few false = omega arith
 
-bit-few : (src : List ℕ) (b : Bio) → b .ct ≤ 8 → getBit src b .bio .ct ≤ 7
+pub bit-few : (src : List ℕ) (b : Bio) → b .ct ≤ 8 → getBit src b .bio .ct ≤ 7
 unfolding getBit heldBit byteIn
 bit-few src b h =
     on-eq (b .ct) 0 (λ z. rw (if-eq (b .ct) 0 (byteIn src b) b z) (byte-few (eqb (b .buf * 256 % 65536) 0xff00)))
@@ -84,8 +83,7 @@ band-within : (n at : ℕ) (b : Band) (count leaf : ℕ) → leaf + count ≤ bl
 unfolding blocksFrom
 band-within n at b zero leaf h g = tt
 band-within n at b (suc count) leaf h g =
-    let l = band-length b in
-    (
+    let l = band-length b in (
       record { short = short-path (b .across) (b .down) leaf; inside = omega arith },
       band-within n at b count (leaf + 1) (omega arith) g,
     )
