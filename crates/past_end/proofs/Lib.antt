@@ -3,3 +3,4 @@ pub mod SameHeader
 pub mod Flags
 pub mod SameMarkers
 pub mod AcceptedReads
+pub mod Examples

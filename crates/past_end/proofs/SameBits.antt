@@ -18,6 +18,7 @@ use Rattle.t800.specs.State.{Block, notYetPlanes}
 use Rattle.t800.specs.WriteHeader.{isNew}
 use Rattle.t800.specs.ReadHeader.{HeaderRead, readZeroPlanesFrom, readZeroPlanes}
 use Rattle.t800_laws.proofs.Laws.Tests.{if-eq, if-ne, on-eq, either, either-by}
+use Rattle.bits_taken.proofs.Laws.Taken.{byte-few, bit-few, takes-one, takes-inside}
 
 -- x is read over src from b on, y over more input. Less than a byte is held, as before it; and where x ends inside the input, it began
 -- there and y is the same.
@@ -90,43 +91,31 @@ module _ (src more : List ℕ) where
 
   -- ---- a bit
 
-  spans : (t : Bool) → cond t 7 8 - 1 < 8
-  spans true = omega arith
-  spans false = omega arith
-
-  byte-held : (b : Bio) → byteIn src b .ct - 1 < 8
-  unfolding byteIn
-  byte-held b = spans (eqb (b .buf * 256 % 65536) 0xff00)
-
   -- a byte inside the input is the same
-  byte-inside : (b : Bio) → byteIn src b .bp ≤ length src → (b .bp < length src) × (byteIn longer b ≡ byteIn src b)
+  byte-inside : (b : Bio) → byteIn src b .bp ≤ length src → byteIn longer b ≡ byteIn src b
   unfolding byteIn
   byte-inside b h =
       let l : b .bp < length src = omega arith in
       let n = length-append src more in
       let e : min (b .bp + 1) (length longer + reach) ≡ min (b .bp + 1) (length src + reach) = omega arith in
-      (l, rw (e, List·getD-append src more 0 (b .bp) l))
+      rw (e, List·getD-append src more 0 (b .bp) l)
 
   same-by : (b : Bio) (t : Bool) → heldBit (cond t (byteIn src b) b) .bio .bp ≤ length src
       → heldBit (cond t (byteIn longer b) b) ≡ heldBit (cond t (byteIn src b) b)
   unfolding heldBit
-  same-by b true h = ap heldBit (byte-inside b h .1)
+  same-by b true h = ap heldBit (byte-inside b h)
   same-by b false h = refl
 
   pub same-bit : (b : Bio) → getBit src b .bio .bp ≤ length src → getBit longer b ≡ getBit src b
   unfolding getBit
   same-bit b h = same-by b (eqb (b .ct) 0) h
 
-  moved-by : (b : Bio) (t : Bool) → let e = heldBit (cond t (byteIn src b) b) .bio in
-      (b .ct < 8 → e .ct < 8) × (e .bp ≤ length src → b .bp ≤ length src)
-  unfolding heldBit
-  moved-by b true = ((λ _. byte-held b), (λ h. omega (arith, byte-inside b h .0)))
-  moved-by b false = ((λ h. omega arith), (λ h. h))
-
   pub bit-stays : (b : Bio) → Stays src ofDecoded b (getBit src b) (getBit longer b)
-  unfolding getBit
-  bit-stays b =
-      let m = moved-by b (eqb (b .ct) 0) in record { held = m .0; inside = m .1; same = λ _ h. same-bit b h }
+  bit-stays b = record {
+    held = λ h. omega (arith, bit-few src b (omega arith));
+    inside = takes-inside src 1 b (getBit src b .bio) (takes-one src b);
+    same = λ _ h. same-bit b h;
+  }
 
   -- ---- bits
 
@@ -230,7 +219,7 @@ module _ (src more : List ℕ) where
   fewer-by : (b : Bio) (t : Bool) → eqb (b .ct) 0 ≡ t → heldBit (cond t (byteIn src b) b) .bio .bp ≤ length src
       → bitsLeft (heldBit (cond t (byteIn src b) b) .bio) + 1 ≤ bitsLeft b
   unfolding heldBit byteIn
-  fewer-by b true e h = omega (arith, spans (eqb (b .buf * 256 % 65536) 0xff00))
+  fewer-by b true e h = omega (arith, byte-few (eqb (b .buf * 256 % 65536) 0xff00))
   fewer-by b false e h = omega (arith, eqb-false (b .ct) 0 e)
 
   fewer-left : (b : Bio) → getBit src b .bio .bp ≤ length src → bitsLeft (getBit src b .bio) + 1 ≤ bitsLeft b
