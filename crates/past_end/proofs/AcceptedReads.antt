@@ -1,7 +1,7 @@
 -- What an accepted read counts past the input's end, and what it answers and leaves with more input.
-use mathlib.Core.Path.{_≡_, refl, sym, ap, _∙_, subst}
+use mathlib.Core.Path.{_≡_, sym, ap, _∙_, subst}
 use mathlib.Core.Logic.{_≢_}
-use mathlib.Core.Bool.{Bool, true, false, cond, not}
+use mathlib.Core.Bool.{not}
 use mathlib.Core.List.{List, _++_}
 use Prim.Native.Nat.{ℕ, _+_, _^_, _≤_, _<_}
 use native.Mathlib.Nat.{add-zero}
@@ -11,10 +11,9 @@ use lib.Dec.{eqb}
 use borrow.Author.Tests.{eq-eqb, eqb-true, eqb-false, not-true, not-false}
 use Rattle.t800.specs.declared.Bio.{Bio}
 use Rattle.t800.specs.declared.Markers.{Markers}
-use Rattle.t800.specs.declared.ReadAnswer.{ReadAnswer}
 use Rattle.t800.specs.Base.{wiped}
 use Rattle.t800.specs.Bits.{Decoded, bioAt, getBit, bytesTaken, bitsPast}
-use Rattle.t800.specs.State.{notYetIncluded, reader, layer}
+use Rattle.t800.specs.State.{reader, layer}
 use Rattle.t800.specs.Reports.{reportWords, RecordForm}
 use Rattle.t800.specs.MarkerSegments.{MarkerRead, readSop, readEph}
 use Rattle.t800.specs.ReadHeader.{HeaderRead, readHeader}
@@ -22,11 +21,11 @@ use Rattle.t800.specs.Packet.{ReadResult, read, readWith, readRefusal, readResu
 use Rattle.t800_laws.proofs.Laws.Tests.{if-eq, if-ne, if-false, on-eq, either-by}
 use Rattle.t800_laws.proofs.Laws.StateAfter.{read-in-range}
 use Rattle.tcd_laws.proofs.Laws.ValidStates.{valid-state, bands-inside, blocks-of-valid}
-use Rattle.bits_taken.specs.Taken.{Takes, Reached, afterBits, flagged}
+use Rattle.bits_taken.specs.Taken.{Reached}
 use Rattle.bits_taken.proofs.Laws.Taken.{takes-one, takes-then, takes-more, header-taken}
-use Rattle.past_end.specs.PastEnd.{CountsFlags, lastBit, CountOfReads, ephAgain, MoreInput}
-use Rattle.past_end.proofs.SameBits.{Stays, same-bit, bit-stays}
-use Rattle.past_end.proofs.SameHeader.{ofHeader, header-stays}
+use Rattle.past_end.specs.PastEnd.{lastBit, CountOfReads, ephAgain, MoreInput}
+use Rattle.past_end.proofs.SameBits.{same-bit, bit-stays}
+use Rattle.past_end.proofs.SameHeader.{header-stays}
 use Rattle.past_end.proofs.Flags.{after-stays}
 use Rattle.bits_taken.proofs.Laws.Counting.{header-in-reach, counted, none-past, none-past-inside}
 use Rattle.past_end.proofs.SameMarkers.{same-sop, same-eph, sop-inside, eph-not-skipped, same-taken}
@@ -72,8 +71,7 @@ module _ (src more : List ℕ) (start : ℕ) (e : Bio) (reached : Reached src st
 
     same-or-again : SameOrAgain form m (src ++ more) (ended src) (ended (src ++ more))
     same-or-again =
-        let t = same-taken src more e inside in
-        (
+        let t = same-taken src more e inside in (
           (λ h. rw (t, same-eph m src more (bytesTaken src e) h, same-past)),
           (λ h. rw (t, same-past, eph-not-skipped m src (bytesTaken src e) h, add-zero (bytesTaken src e))),
         )

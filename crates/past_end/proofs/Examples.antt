@@ -86,7 +86,7 @@ eph-found = (refl, refl)
 eph-looked-for-again : (more : List ℕ)
     → first noBlock withEph ((0 ∷ []) ++ more) ≡ ephAgain asRecords withEph ((0 ∷ []) ++ more) (first noBlock withEph (0 ∷ []))
 unfolding rowHolds MoreInput
-eph-looked-for-again more = 
+eph-looked-for-again more =
     more-input asRecords (state noBlock) (lent noBlock) withEph (0 ∷ []) more (reports noBlock) records refl refl (omega arith) .1 refl
 
 -- ---- all premises met
@@ -94,5 +94,5 @@ eph-looked-for-again more =
 -- E5, and whatever lies behind it
 nothing-changes : (more : List ℕ) → first oneBlock plain ((0xe5 ∷ []) ++ more) ≡ first oneBlock plain (0xe5 ∷ [])
 unfolding rowHolds MoreInput
-nothing-changes more = 
+nothing-changes more =
     more-input asRecords (state oneBlock) (lent oneBlock) plain (0xe5 ∷ []) more (reports oneBlock) records refl refl (omega arith) .0 (omega arith)

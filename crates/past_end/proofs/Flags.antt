@@ -3,13 +3,13 @@ use mathlib.Core.Path.{_≡_, refl, sym, ap, _∙_}
 use mathlib.Core.Logic.{_≢_}
 use mathlib.Core.Bool.{Bool, true, false, cond}
 use mathlib.Core.List.{List, _++_}
-use Prim.Native.Nat.{ℕ, zero, suc, _+_, _-_, _^_, _≤_, _<_, min}
+use Prim.Native.Nat.{ℕ, zero, suc, _-_, _≤_, _<_}
 use native.Mathlib.Omega.{arith}
 use lib.ListN.{length, length-append}
 use lib.Dec.{eqb, ltb, leb}
 use borrow.Author.Tests.{eqb-false, ltb-false, lt-ltb, le-ltb, le-leb, lt-leb}
 use Rattle.t800.specs.declared.Bio.{Bio}
-use Rattle.t800.specs.Bits.{Decoded, BitRead, bioAt, byteIn, heldBit, getBit, pastEnd, readBit}
+use Rattle.t800.specs.Bits.{Decoded, bioAt, byteIn, heldBit, getBit, pastEnd, readBit}
 use Rattle.t800_laws.proofs.Laws.Tests.{on-lt}
 use Rattle.bits_taken.specs.Taken.{afterBits}
 use Rattle.past_end.specs.PastEnd.{byteOf, FlagOfBit, UnflaggedBitStays}

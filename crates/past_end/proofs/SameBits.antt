@@ -1,12 +1,11 @@
 -- What is read with its bits ending inside the input is read the same with more input: bits, trees, pass counts and runs of ones.
-use mathlib.Core.Path.{_≡_, refl, sym, ap, _∙_, subst}
-use mathlib.Core.Logic.{_≢_}
+use mathlib.Core.Path.{_≡_, refl, ap, _∙_}
 use mathlib.Core.Bool.{Bool, true, false, cond}
 use mathlib.Core.List.{List, [], _∷_, _++_, reverse}
-use Prim.Native.Nat.{ℕ, zero, suc, _+_, _-_, _*_, _/_, _%_, _^_, _≤_, _<_, min, max}
+use Prim.Native.Nat.{ℕ, zero, suc, _+_, _-_, _*_, _%_, _≤_, _<_, min, max}
 use native.Mathlib.Nat.{suc-add}
 use native.Mathlib.Omega.{arith}
-use lib.ListN.{length, getD, set, length-append, List·getD-append}
+use lib.ListN.{length, set, length-append, List·getD-append}
 use lib.Dec.{eqb, ltb, leb}
 use borrow.Author.Tests.{eqb-false}
 use Rattle.t800.specs.declared.Bio.{Bio}
@@ -17,7 +16,7 @@ use Rattle.t800.specs.Segments.{readOnes, readComma}
 use Rattle.t800.specs.State.{Block, notYetPlanes}
 use Rattle.t800.specs.WriteHeader.{isNew}
 use Rattle.t800.specs.ReadHeader.{HeaderRead, readZeroPlanesFrom, readZeroPlanes}
-use Rattle.t800_laws.proofs.Laws.Tests.{if-eq, if-ne, on-eq, either, either-by}
+use Rattle.t800_laws.proofs.Laws.Tests.{either}
 use Rattle.bits_taken.proofs.Laws.Taken.{byte-few, bit-few, takes-one, takes-inside}
 
 -- x is read over src from b on, y over more input. Less than a byte is held, as before it; and where x ends inside the input, it began
@@ -246,6 +245,6 @@ module _ (src more : List ℕ) where
         held = s .held;
         inside = s .inside;
         same = λ h l. let e = s .same h l in
-        ap (λ (k : ℕ). readOnes longer k 0 b) larger
-        ∙ ones-more longer f (8 * length more) 0 b (omega (arith, few-ones f 0 b l, ap (λ (d : Decoded). d .value) e)) ∙ e;
+            ap (λ (k : ℕ). readOnes longer k 0 b) larger
+            ∙ ones-more longer f (8 * length more) 0 b (omega (arith, few-ones f 0 b l, ap (λ (d : Decoded). d .value) e)) ∙ e;
       }

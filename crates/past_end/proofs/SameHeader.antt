@@ -1,15 +1,14 @@
 -- A header that is read without a refusal, its bits ending inside the input, is read the same with more input.
-use mathlib.Core.Path.{_≡_, refl, sym, ap, _∙_, subst}
+use mathlib.Core.Path.{_≡_, refl, sym}
 use mathlib.Core.Logic.{_≢_}
 use mathlib.Core.Bool.{Bool, true, false, cond, _&&_, true≢false}
 use mathlib.Core.List.{List, [], _∷_, _++_, reverse}
-use Prim.Native.Nat.{ℕ, zero, suc, _+_, _-_, _*_, _≤_, _<_}
+use Prim.Native.Nat.{ℕ, zero, suc, _+_, _-_, _*_, _≤_}
 use native.Mathlib.Omega.{arith}
 use lib.ListN.{length, set, length-append}
 use lib.Dec.{eqb, ltb, leb}
 use borrow.Author.Tests.{eqb-true, eqb-false, eq-eqb, ne-eqb}
 use Rattle.t800.specs.declared.Bio.{Bio}
-use Rattle.t800.specs.declared.SegmentRecord.{SegmentRecord}
 use Rattle.t800.specs.Refusals.{widthRefusal, headerEndRefusal, recordsRefusal}
 use Rattle.t800.specs.Bits.{Decoded, getBit, readBits, inFF, endsInFF}
 use Rattle.t800.specs.TagTree.{PathRead, value, readPath}
@@ -21,8 +20,8 @@ use Rattle.t800.specs.WriteHeader.{isNew, lengthBitsBefore}
 use Rattle.t800.specs.ReadHeader.{HeaderRead, refused, movedTo, withReport, withRecord, opensSegment, currentLimit, currentPasses}
 use Rattle.t800.specs.ReadHeader.{passesTaken, readSegment, readSegments, readZeroPlanes, firstReport, againReport, readIncluded}
 use Rattle.t800.specs.ReadHeader.{readNewBlock, readOldBlock, readBlock, readBlocks, readHeader}
-use Rattle.t800_laws.proofs.Laws.Tests.{either, and-left}
-use Rattle.past_end.proofs.SameBits.{Stays, ofDecoded, ofPath, here, choice, then, bit-stays, bits-stay, path-stays, planes-stay}
+use Rattle.t800_laws.proofs.Laws.Tests.{and-left}
+use Rattle.past_end.proofs.SameBits.{Stays, ofDecoded, ofPath, here, then, bit-stays, bits-stay, path-stays, planes-stay}
 use Rattle.past_end.proofs.SameBits.{passes-stay, comma-stays}
 
 abbrev pub ofHeader : HeaderRead → Bio
