@@ -1,7 +1,7 @@
 -- What an accepted read counts past the input's end, and what it answers and leaves with more input.
 use mathlib.Core.Path.{_≡_, sym, ap, _∙_, subst}
 use mathlib.Core.Logic.{_≢_}
-use mathlib.Core.Bool.{not}
+use mathlib.Core.Bool.{false, not}
 use mathlib.Core.List.{List, _++_}
 use Prim.Native.Nat.{ℕ, _+_, _^_, _≤_, _<_}
 use native.Mathlib.Nat.{add-zero}
@@ -23,18 +23,18 @@ use Rattle.t800_laws.proofs.Laws.StateAfter.{read-in-range}
 use Rattle.tcd_laws.proofs.Laws.ValidStates.{valid-state, bands-inside, blocks-of-valid}
 use Rattle.bits_taken.specs.Taken.{Reached}
 use Rattle.bits_taken.proofs.Laws.Taken.{takes-one, takes-then, takes-more, header-taken}
+use Rattle.bits_taken.proofs.Laws.Counting.{header-in-reach, counted, none-past, none-past-inside}
 use Rattle.past_end.specs.PastEnd.{lastBit, CountOfReads, ephAgain, MoreInput}
 use Rattle.past_end.proofs.SameBits.{same-bit, bit-stays}
 use Rattle.past_end.proofs.SameHeader.{header-stays}
 use Rattle.past_end.proofs.Flags.{after-stays}
-use Rattle.bits_taken.proofs.Laws.Counting.{header-in-reach, counted, none-past, none-past-inside}
 use Rattle.past_end.proofs.SameMarkers.{same-sop, same-eph, sop-inside, eph-not-skipped, same-taken}
 
--- ---- bits that end inside the input, with more input
-
--- r is read over less of the input, longer over this one
+-- r is read over less of the input, longer over all of src
 abbrev SameOrAgain : (form : RecordForm) → Markers → (src : List ℕ) (r longer : ReadResult form) → Type 0
 SameOrAgain form m src r longer = (r .answer .eph ≢ 1 → longer ≡ r) × (r .answer .eph ≡ 1 → longer ≡ ephAgain form m src r)
+
+-- ---- bits that end inside the input, with more input
 
 module _ (src more : List ℕ) (start : ℕ) (e : Bio) (reached : Reached src start e) (inside : e .bp ≤ length src) where
   -- by the same bits
@@ -101,19 +101,20 @@ module _ (form : RecordForm) (state scratch : List ℕ) (m : Markers) (reports :
       (λ _. either-by P (eqb (header src .refusal) 0) _ _ (λ t _. (z, λ _. eqb-true (header src .refusal) 0 t))
       (λ n e. absurd (eqb-false (header src .refusal) 0 n e))))
 
+  lists-taken : (src : List ℕ) → Accepted src → not (eqb (readRefusal state scratch reports) 0) ≡ false
+  lists-taken src a = ap not (eq-eqb (readRefusal state scratch reports) 0 (a .0))
+
   is-absent : (src : List ℕ) → Accepted src → firstBit m src .value ≡ 0
       → result src ≡ readAbsent form state m src reports records (readSop m src) (firstBit m src .bio)
   unfolding readWith
   is-absent src a z =
-      if-false (not (eqb (readRefusal state scratch reports) 0)) _ _ (ap not (eq-eqb (readRefusal state scratch reports) 0 (a .0)))
-      ∙ if-eq (firstBit m src .value) 0 _ _ z
+      if-false _ _ _ (lists-taken src a) ∙ if-eq (firstBit m src .value) 0 _ _ z
 
   is-present : (src : List ℕ) → Accepted src → firstBit m src .value ≢ 0
       → result src ≡ readPresent form state m src records (readSop m src) (header src)
   unfolding readWith
   is-present src a n =
-      if-false (not (eqb (readRefusal state scratch reports) 0)) _ _ (ap not (eq-eqb (readRefusal state scratch reports) 0 (a .0)))
-      ∙ if-ne (firstBit m src .value) 0 _ _ n ∙ if-eq (header src .refusal) 0 _ _ (a .1 n)
+      if-false _ _ _ (lists-taken src a) ∙ if-ne (firstBit m src .value) 0 _ _ n ∙ if-eq (header src .refusal) 0 _ _ (a .1 n)
 
   -- ---- its bits
 
@@ -191,7 +192,8 @@ module _ (form : RecordForm) (state scratch : List ℕ) (m : Markers) (reports :
         ∙ ap (λ (s : MarkerRead). left s (firstBit m (src ++ more) .bio)) (same-sop m src more sop)
         ∙ ap (λ (d : Decoded). left sop₀ (d .bio)) f in
         known _ _ (is-absent src a z) q
-        (same-or-again src more (sop₀ .skip) (first .bio) (absent-reached src) h form m after after (wiped reports) records 0 0 (sop₀ .mark))
+        (same-or-again src more (sop₀ .skip) (first .bio) (absent-reached src) h form m after after (wiped reports) records 0 0
+        (sop₀ .mark))
 
     of-present : firstBit m src .value ≢ 0 → header src .bio .bp ≤ length src → MoreInputOf
     unfolding readPresent
@@ -238,5 +240,7 @@ more-input form state scratch m src more reports records e past sop =
     (last-reached form state scratch m reports records src a) (sym (count-is form state scratch m reports records src a) ∙ past) in
     let at : Bio → Type 0 = λ b. b .bp ≤ length src in
     on-eq (first .value) 0
-    (λ z. of-absent form state scratch m reports records src more a had z (subst at (if-eq (first .value) 0 (first .bio) (r .bio) z) inside))
-    (λ n. of-present form state scratch m reports records src more a had n (subst at (if-ne (first .value) 0 (first .bio) (r .bio) n) inside))
+    (λ z. of-absent form state scratch m reports records src more a had z
+    (subst at (if-eq (first .value) 0 (first .bio) (r .bio) z) inside))
+    (λ n. of-present form state scratch m reports records src more a had n
+    (subst at (if-ne (first .value) 0 (first .bio) (r .bio) n) inside))

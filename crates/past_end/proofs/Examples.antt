@@ -95,4 +95,5 @@ eph-looked-for-again more =
 nothing-changes : (more : List ℕ) → first oneBlock plain ((0xe5 ∷ []) ++ more) ≡ first oneBlock plain (0xe5 ∷ [])
 unfolding rowHolds MoreInput
 nothing-changes more =
-    more-input asRecords (state oneBlock) (lent oneBlock) plain (0xe5 ∷ []) more (reports oneBlock) records refl refl (omega arith) .0 (omega arith)
+    more-input asRecords (state oneBlock) (lent oneBlock) plain (0xe5 ∷ []) more (reports oneBlock) records refl refl (omega arith) .0
+    (omega arith)

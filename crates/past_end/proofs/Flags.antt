@@ -23,24 +23,24 @@ same-test m n k f g =
     (λ h. on-lt k m (λ l. le-ltb m n h ∙ sym (lt-leb m k l)) (λ l. absurd (omega (arith, g l))))
 
 -- a byte that is held has been taken
-abbrev Taken : Bio → Type 0
-Taken b = b .ct ≢ 0 → 1 ≤ b .bp
+abbrev HeldTaken : Bio → Type 0
+HeldTaken b = b .ct ≢ 0 → 1 ≤ b .bp
 
-taken-by : (src : List ℕ) (b : Bio) (t : Bool) → eqb (b .ct) 0 ≡ t → Taken b → 1 ≤ heldBit (cond t (byteIn src b) b) .bio .bp
+taken-by : (src : List ℕ) (b : Bio) (t : Bool) → eqb (b .ct) 0 ≡ t → HeldTaken b → 1 ≤ heldBit (cond t (byteIn src b) b) .bio .bp
 unfolding heldBit byteIn
 taken-by src b true e h = omega arith
 taken-by src b false e h = h (eqb-false (b .ct) 0 e)
 
-bit-taken : (src : List ℕ) (b : Bio) → Taken b → 1 ≤ getBit src b .bio .bp
+bit-taken : (src : List ℕ) (b : Bio) → HeldTaken b → 1 ≤ getBit src b .bio .bp
 unfolding getBit
 bit-taken src b h = taken-by src b (eqb (b .ct) 0) refl h
 
-after-taken : (src : List ℕ) (n : ℕ) (b : Bio) → Taken b → Taken (afterBits src n b)
+after-taken : (src : List ℕ) (n : ℕ) (b : Bio) → HeldTaken b → HeldTaken (afterBits src n b)
 unfolding afterBits
 after-taken src zero b h = h
 after-taken src (suc n) b h = after-taken src n (getBit src b .bio) (λ _. bit-taken src b h)
 
-flag-by : (src : List ℕ) (b : Bio) (t : Bool) → eqb (b .ct) 0 ≡ t → Taken b
+flag-by : (src : List ℕ) (b : Bio) (t : Bool) → eqb (b .ct) 0 ≡ t → HeldTaken b
     → ltb (length src) (heldBit (cond t (byteIn src b) b) .bio .bp) ≡ leb (length src) (cond t (b .bp) (b .bp - 1))
 unfolding heldBit byteIn
 flag-by src b true e h = same-test (length src) _ (b .bp) (λ l. omega arith) (λ l. omega arith)
@@ -74,5 +74,5 @@ pub after-stays : (src more : List ℕ) (n : ℕ) (b : Bio) → Stays src itself
 unfolding afterBits
 after-stays src more zero b = here src itself b
 after-stays src more (suc n) b =
-    then src ofDecoded itself b (getBit src b) (getBit (src ++ more) b) (λ r. afterBits src n (r .bio)) (λ r. afterBits (src ++ more) n (r .bio))
-    (bit-stays src more b) (after-stays src more n (getBit src b .bio))
+    then src ofDecoded itself b (getBit src b) (getBit (src ++ more) b) (λ r. afterBits src n (r .bio))
+    (λ r. afterBits (src ++ more) n (r .bio)) (bit-stays src more b) (after-stays src more n (getBit src b .bio))

@@ -19,8 +19,8 @@ use Rattle.t800.specs.ReadHeader.{HeaderRead, readZeroPlanesFrom, readZeroPlane
 use Rattle.t800_laws.proofs.Laws.Tests.{either}
 use Rattle.bits_taken.proofs.Laws.Taken.{byte-few, bit-few, takes-one, takes-inside}
 
--- x is read over src from b on, y over more input. Less than a byte is held, as before it; and where x ends inside the input, it began
--- there and y is the same.
+-- x is read over src from b on, y over more input. If less than a byte is held before it, so it is after; and where x ends inside the
+-- input, it began there and y is the same.
 pub record Stays (src : List ℕ) {A : Type 0} (bits : A → Bio) (b : Bio) (x y : A) : Type 0 where
   pub held : b .ct < 8 → bits x .ct < 8
   pub inside : bits x .bp ≤ length src → b .bp ≤ length src
@@ -40,8 +40,8 @@ pub here : (src : List ℕ) {A : Type 0} (bits : A → Bio) (x : A) → Stays sr
 here src bits x = record { held = λ h. h; inside = λ h. h; same = λ _ _. refl }
 
 -- a choice whose test doesn't read
-pub choice : (src : List ℕ) {A : Type 0} (bits : A → Bio) (b : Bio) (t : Bool) (x x′ y y′ : A) → Stays src bits b x x′ → Stays src bits b y y′
-    → Stays src bits b (cond t x y) (cond t x′ y′)
+pub choice : (src : List ℕ) {A : Type 0} (bits : A → Bio) (b : Bio) (t : Bool) (x x′ y y′ : A) → Stays src bits b x x′
+    → Stays src bits b y y′ → Stays src bits b (cond t x y) (cond t x′ y′)
 choice src bits b true x x′ y y′ p q = p
 choice src bits b false x x′ y y′ p q = q
 
@@ -54,7 +54,7 @@ then src bits last b x y g g′ p q = record {
   same = λ h e. ap g′ (p .same h (q .inside e)) ∙ q .same (p .held h) e;
 }
 
--- ---- what follows a pass count's parts
+-- ---- a pass count from each of its parts on
 
 abbrev after-five : List ℕ → Decoded → Decoded
 after-five src five = cond (leb (five .value) 30) (plus 6 five) (plus 37 (readBits src 7 (five .bio)))

@@ -27,22 +27,22 @@ use Rattle.past_end.proofs.SameBits.{passes-stay, comma-stays}
 abbrev pub ofHeader : HeaderRead → Bio
 ofHeader r = r .bio
 
--- the same of what isn't refused
-abbrev Unless : (src : List ℕ) (b : Bio) (x y : HeaderRead) → Type 0
-Unless src b x y = x .refusal ≡ 0 → Stays src ofHeader b x y
+-- where x isn't refused
+abbrev IfAccepted : (src : List ℕ) (b : Bio) (x y : HeaderRead) → Type 0
+IfAccepted src b x y = x .refusal ≡ 0 → Stays src ofHeader b x y
 
-or-refused : (src : List ℕ) (b : Bio) (t : Bool) (why : ℕ) (x y : HeaderRead) → why ≢ 0 → Unless src b x y
-    → Unless src b (cond t (refused why) x) (cond t (refused why) y)
+or-refused : (src : List ℕ) (b : Bio) (t : Bool) (why : ℕ) (x y : HeaderRead) → why ≢ 0 → IfAccepted src b x y
+    → IfAccepted src b (cond t (refused why) x) (cond t (refused why) y)
 or-refused src b true why x y n p e = absurd (n e)
 or-refused src b false why x y n p e = p e
 
-choice-of : (src : List ℕ) (b : Bio) (t : Bool) (x x′ y y′ : HeaderRead) → Unless src b x x′ → Unless src b y y′
-    → Unless src b (cond t x y) (cond t x′ y′)
+choice-of : (src : List ℕ) (b : Bio) (t : Bool) (x x′ y y′ : HeaderRead) → IfAccepted src b x x′ → IfAccepted src b y y′
+    → IfAccepted src b (cond t x y) (cond t x′ y′)
 choice-of src b true x x′ y y′ p q = p
 choice-of src b false x x′ y y′ p q = q
 
--- a refusal stays
-kept-refusal : (x : HeaderRead) (f : HeaderRead) (on : Bool) → (on ≡ true → x .refusal ≡ 0) → cond on f x .refusal ≡ 0 → x .refusal ≡ 0
+-- where reading may go on with f after x: a refusal of x ends it
+kept-refusal : (x f : HeaderRead) (on : Bool) → (on ≡ true → x .refusal ≡ 0) → cond on f x .refusal ≡ 0 → x .refusal ≡ 0
 kept-refusal x f true n e = n refl
 kept-refusal x f false n e = e
 
@@ -59,7 +59,7 @@ module _ (src more : List ℕ) (room : ℕ) where
   longer = src ++ more
 
   segment-stays : (i : ℕ) (k : Block) (n : ℕ) (r : HeaderRead)
-      → Unless src (r .bio) (readSegment src room i k n r) (readSegment longer room i k n r)
+      → IfAccepted src (r .bio) (readSegment src room i k n r) (readSegment longer room i k n r)
   unfolding readSegment
   segment-stays i k n r =
       let w : ℕ = width (lengthBits (r .words) (k .at)) n in
@@ -73,7 +73,7 @@ module _ (src more : List ℕ) (room : ℕ) where
       (bits-stay src more w (r .bio)) (here src ofHeader (done (readBits src w (r .bio))))))
 
   segments-stay : (i : ℕ) (k : Block) (f left : ℕ) (r : HeaderRead)
-      → Unless src (r .bio) (readSegments src room i k f left r) (readSegments longer room i k f left r)
+      → IfAccepted src (r .bio) (readSegments src room i k f left r) (readSegments longer room i k f left r)
   unfolding readSegments
   segments-stay i k zero left r e = here src ofHeader r
   segments-stay i k (suc f) left r e =
@@ -82,13 +82,14 @@ module _ (src more : List ℕ) (room : ℕ) where
       let a : HeaderRead = readSegment src room i k n r in
       let z : a .refusal ≡ 0 = kept-refusal a (readSegments src room i k f (left - n) a) (on a)
       (λ t. eqb-true (a .refusal) 0 (and-left (eqb (a .refusal) 0) (ltb 0 (left - n)) t)) e in
-      then src ofHeader ofHeader (r .bio) a (readSegment longer room i k n r) (λ a. cond (on a) (readSegments src room i k f (left - n) a) a)
+      then src ofHeader ofHeader (r .bio) a (readSegment longer room i k n r)
+      (λ a. cond (on a) (readSegments src room i k f (left - n) a) a)
       (λ a. cond (on a) (readSegments longer room i k f (left - n) a) a) (segment-stays i k n r z)
       (choice-of src (a .bio) (on a) _ _ a a (segments-stay i k f (left - n) a) (λ _. here src ofHeader a) e)
 
   -- a block that is included, after its zero planes, its pass count, and its increment
   included-stays : (i : ℕ) (k : Block) (r : HeaderRead)
-      → Unless src (r .bio) (readIncluded src room i k r) (readIncluded longer room i k r)
+      → IfAccepted src (r .bio) (readIncluded src room i k r) (readIncluded longer room i k r)
   unfolding readIncluded
   included-stays i k r e =
       let ws : PathRead → (passes inc : Decoded) → List ℕ = λ z passes inc.
@@ -112,7 +113,7 @@ module _ (src more : List ℕ) (room : ℕ) where
       (comma-stays src more (passes .bio)) (segments-stay i k (passes .value) (passes .value) (from z passes inc) e)))
 
   new-block-stays : (layerNow i : ℕ) (k : Block) (r : HeaderRead)
-      → Unless src (r .bio) (readNewBlock src room layerNow i k r) (readNewBlock longer room layerNow i k r)
+      → IfAccepted src (r .bio) (readNewBlock src room layerNow i k r) (readNewBlock longer room layerNow i k r)
   unfolding readNewBlock
   new-block-stays layerNow i k r e =
       let known : PathRead → Bool = λ p. ltb (value (p .words) (k .inclTree + 3 * k .leaf)) (layerNow + 1) in
@@ -125,7 +126,7 @@ module _ (src more : List ℕ) (room : ℕ) where
       (choice-of src (p .bio) (known p) _ _ _ _ (included-stays i k (to p)) (λ _. here src ofHeader (withReport absent (to p))) e)
 
   old-block-stays : (i : ℕ) (k : Block) (r : HeaderRead)
-      → Unless src (r .bio) (readOldBlock src room i k r) (readOldBlock longer room i k r)
+      → IfAccepted src (r .bio) (readOldBlock src room i k r) (readOldBlock longer room i k r)
   unfolding readOldBlock
   old-block-stays i k r e =
       let to : Decoded → HeaderRead = λ d. movedTo (r .words) (d .bio) r in
@@ -136,13 +137,13 @@ module _ (src more : List ℕ) (room : ℕ) where
       (choice-of src (d .bio) (eqb (d .value) 0) _ _ _ _ (λ _. here src ofHeader (withReport absent (to d))) (included-stays i k (to d)) e)
 
   block-stays : (layerNow i : ℕ) (k : Block) (r : HeaderRead)
-      → Unless src (r .bio) (readBlock src room layerNow i k r) (readBlock longer room layerNow i k r)
+      → IfAccepted src (r .bio) (readBlock src room layerNow i k r) (readBlock longer room layerNow i k r)
   unfolding readBlock
   block-stays layerNow i k r =
       choice-of src (r .bio) (isNew (r .words) k) _ _ _ _ (new-block-stays layerNow i k r) (old-block-stays i k r)
 
   blocks-stay : (layerNow i : ℕ) (ks : List Block) (r : HeaderRead)
-      → Unless src (r .bio) (readBlocks src room layerNow i ks r) (readBlocks longer room layerNow i ks r)
+      → IfAccepted src (r .bio) (readBlocks src room layerNow i ks r) (readBlocks longer room layerNow i ks r)
   unfolding readBlocks
   blocks-stay layerNow i [] r e = here src ofHeader r
   blocks-stay layerNow i (k ∷ ks) r e =
@@ -173,7 +174,7 @@ module _ (src more : List ℕ) (room : ℕ) where
       let f : eqb (a .refusal) 0 ≡ true = eq-eqb (a .refusal) 0 z in
       rw (f, off) (record { held = λ h. h; inside = λ h. h; same = λ _ l. rw (not-in-ff (a .bio) off l) })
 
-  pub header-stays : (ws : List ℕ) (b : Bio) → Unless src b (readHeader src room ws b) (readHeader longer room ws b)
+  pub header-stays : (ws : List ℕ) (b : Bio) → IfAccepted src b (readHeader src room ws b) (readHeader longer room ws b)
   unfolding readHeader
   header-stays ws b e =
       let r : HeaderRead = record { refusal = 0; words = ws; bio = b; reports = []; records = [] } in
