@@ -1,3 +1,4 @@
 pub mod Taken
 pub mod Inside
+pub mod Reached
 pub mod Counting

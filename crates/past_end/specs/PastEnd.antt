@@ -2,14 +2,13 @@
 -- input changes nothing but what a marker's own look does.
 use mathlib.Core.Path.{_≡_}
 use mathlib.Core.Logic.{_≢_}
-use mathlib.Core.Bool.{Bool, false, cond}
+use mathlib.Core.Bool.{false, cond}
 use mathlib.Core.List.{_++_}
 use Prim.Native.Nat.{ℕ, _+_, _-_, _<_}
 use lib.ListN.{length}
 use lib.Dec.{leb, eqb}
 use Rattle.t800.specs.declared.Bio.{Bio}
 use Rattle.t800.specs.declared.Markers.{Markers}
-use Rattle.t800.specs.declared.ReadAnswer.{ReadAnswer}
 use Rattle.t800.specs.Base.{Words, Bytes}
 use Rattle.t800.specs.Bits.{reach, bioAt, readBit}
 use Rattle.t800.specs.MarkerSegments.{readSop, readEph}

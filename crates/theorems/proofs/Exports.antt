@@ -1,6 +1,6 @@
 -- Demands 1 and 3 of the exported calls, and where the segments start that an exported read tells of.
 use mathlib.Core.Path.{_≡_, sym, ap, _∙_, subst}
-use mathlib.Core.Bool.{Bool, true, false, not, _&&_, true≢false}
+use mathlib.Core.Bool.{Bool, true, false, not, _&&_}
 use mathlib.Core.List.{List}
 use Prim.Native.Nat.{ℕ, _≤_, _*_}
 use native.Mathlib.Omega.{arith}
@@ -17,7 +17,7 @@ use Rattle.t800.specs.Interface.{Interface}
 use Rattle.t800.specs.Numbers.{Numbers}
 use Rattle.t800.specs.RoundTrip.{RoundTrip, WriterInRange}
 use Rattle.t800.specs.Starts.{StartsFit, StartsOfReads}
-use Rattle.t800_laws.proofs.Laws.Tests.{if-true, if-false, either, and-left, and-right}
+use Rattle.t800_laws.proofs.Laws.Tests.{if-true, if-false, either, and-left, and-right, and-second}
 use Rattle.t800_laws.proofs.Laws.Checks.{on-bool}
 use Rattle.round_trip.proofs.Numbers.{numbers}
 use Rattle.round_trip.proofs.Trip.Interfaces.{round-trip, writer-in-range}
@@ -110,14 +110,10 @@ module _ (m : ReadMade) where
   unfolding readCall
   read-refuses a =
       on-bool six
-      (λ e. if-true six _ _ e ∙ ap by-answer (m .met ∙ if-true six _ _ e ∙ if-false fits _ _ (second six fits e a))
+      (λ e. if-true six _ _ e ∙ ap by-answer (m .met ∙ if-true six _ _ e ∙ if-false fits _ _ (and-second six fits e a))
       ∙ ap (readUntouched asRecords (m .state) (readArgs m)) (sym (if-true six _ _ e)))
       (λ e. if-false six _ _ e ∙ ap untold (m .met ∙ if-false six _ _ e)
       ∙ ap (readUntouched asRecords (m .state) (readArgs m)) (sym (if-false six _ _ e)))
-    where
-      second : (a b : Bool) → a ≡ true → (a && b) ≡ false → b ≡ false
-      second true b e f = f
-      second false b e f = absurd (true≢false (sym e))
 
   pub read-numbered : (1 ≤ readOtherwise m) × (readOtherwise m ≤ 13)
   read-numbered =

@@ -11,6 +11,7 @@ use borrow.Author.Tests.{eq-eqb, ne-eqb, leb-true, leb-false, ltb-true, ltb-fals
 use Rattle.t800.specs.declared.Bio.{Bio}
 use Rattle.t800.specs.Bits.{reach, Decoded, getBit}
 use Rattle.t800.specs.Segments.{readOnes, readComma}
+use Rattle.t800_laws.proofs.Laws.ReadValues.{ones-more}
 use Rattle.bio_read.proofs.Laws.ReadChunks.{getBit-ct, getBit-place}
 use Rattle.t2_read_codes.specs.CommaCode.{mostOnes, onesLimit, readCommaLimited}
 
@@ -69,19 +70,7 @@ ones-between src (suc f) n b =
     between-by (eqb (getBit src b .value) 0) (record { value = n; bio = getBit src b .bio }) _ n f refl
     (ones-between src f (n + 1) (getBit src b .bio))
 
--- ---- a run that ends within the bound is the run for every larger bound, and one that doesn't is no shorter for it
-
-more-by : (t : Bool) (x y z : Decoded) (m : ℕ) → (y .value < m → z ≡ y) → cond t x y .value < m → cond t x z ≡ cond t x y
-more-by true x y z m p h = refl
-more-by false x y z m p h = p h
-
-ones-more : (src : List ℕ) (f g n : ℕ) (b : Bio) → readOnes src f n b .value < n + f → readOnes src (f + g) n b ≡ readOnes src f n b
-unfolding readOnes
-ones-more src zero g n b h = absurd (omega arith)
-ones-more src (suc f) g n b h =
-    ap (λ (k : ℕ). readOnes src k n b) (suc-add f g)
-    ∙ more-by (eqb (getBit src b .value) 0) (record { value = n; bio = getBit src b .bio }) _ _ (n + suc f)
-    (λ l. ones-more src f g (n + 1) (getBit src b .bio) (omega (arith, l))) h
+-- ---- a run that doesn't end within the bound is no shorter for a larger one
 
 full-by : (t : Bool) (x y z : Decoded) (n m : ℕ) → x .value ≡ n → n < m → (y .value ≡ m → m ≤ z .value) → cond t x y .value ≡ m
     → m ≤ cond t x z .value

@@ -1,13 +1,13 @@
 -- `t2_read_packet::read` meets its contract.
 use mathlib.Core.Path.{sym, ap, _∙_, subst}
-use Prim.Native.Nat.{_^_}
 use native.Mathlib.Omega.{arith}
 use Rattle.t800.specs.declared.Bio.{Bio}
 use Rattle.t800.specs.Bits.{Decoded, bioAt, getBit}
 use Rattle.t800.specs.MarkerSegments.{MarkerRead}
 use Rattle.bio_read.specs.Reading.{decoded}
 use Rattle.bits_taken.specs.Taken.{Takes}
-use Rattle.bits_taken.proofs.Laws.Taken.{takes-one, takes-more}
+use Rattle.bits_taken.proofs.Laws.Taken.{takes-one}
+use Rattle.bits_taken.proofs.Laws.Reached.{first-reached}
 use Rattle.t2_read_marks.specs.Marks.{markerRead}
 use Rattle.t2_read_marks.proofs.Laws.Markers.{skip-inside}
 use Rattle.t2_read_refusals.proofs.Laws.Refusals.{accepted}
@@ -36,12 +36,9 @@ read-absent-requires c κs =
     ∙ ap (getBit (s .args .src .now)) (c .before .before .before .before .before .before .opj-bio-init-dec .ensures) in
     let k = ap (λ (f : MarkerRead). f .skip) (c .before .before .before .before .before .before .before .read-marker .ensures) in
     let b = bioAt (c .before .before .before .before .before .before .before .read-marker .result .skip) in
-    let first = takes-one (s .args .src .now) b in
-    (g .valid, g .layers, record {
-      inside = omega (arith, k, skip-inside (s .args .m .sop) 6 0x91 (s .args .src .now) 0);
-      takes = subst (Takes (s .args .src .now) (2 ^ 39) b) (sym (ap (λ (d : Decoded). d .bio) e))
-          (takes-more (s .args .src .now) 1 (2 ^ 39) b _ (omega arith) first);
-    })
+    let inside = skip-inside (s .args .m .sop) 6 0x91 (s .args .src .now) 0 in
+    let first = subst (Takes (s .args .src .now) 1 b) (sym (ap (λ (d : Decoded). d .bio) e)) (takes-one (s .args .src .now) b) in
+    (g .valid, g .layers, first-reached (s .args .src .now) (b .bp) _ (omega (arith, k, inside)) first)
 
 returns-2 : tie.Need-returns-2
 returns-2 c =

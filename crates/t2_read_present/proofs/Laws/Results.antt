@@ -3,7 +3,7 @@ use mathlib.Core.Path.{_≡_, sym, ap, _∙_, subst}
 use mathlib.Core.Logic.{_≢_}
 use mathlib.Core.Bool.{true}
 use mathlib.Core.List.{List, _++_, append-nil}
-use Prim.Native.Nat.{ℕ, _+_, _*_, _/_, _^_, _≤_, _<_}
+use Prim.Native.Nat.{ℕ, _+_, _*_, _/_, _≤_, _<_}
 use native.Mathlib.Nat.{le-of-lt}
 use native.Mathlib.Omega.{arith}
 use lib.ListN.{length, set, replicate, drop-of-length-le}
@@ -20,7 +20,7 @@ use Rattle.t800.specs.ReadHeader.{HeaderRead, readHeader}
 use Rattle.t800.specs.Packet.{refusedAnswer, readPresent, readResult}
 use Rattle.t800_laws.proofs.Laws.Tests.{if-eq, if-ne}
 use Rattle.bits_taken.specs.Taken.{Takes, Reached}
-use Rattle.bits_taken.proofs.Laws.Taken.{takes-then, takes-more, header-taken}
+use Rattle.bits_taken.proofs.Laws.Reached.{first-reached, header-reached}
 use Rattle.bits_taken.proofs.Laws.Counting.{header-in-reach, reached-few}
 use Rattle.tcd_laws.proofs.Laws.ValidStates.{valid-state, bands-inside, blocks-of-valid}
 use Rattle.lists.proofs.Laws.Filled.{length-reports}
@@ -38,11 +38,10 @@ over-all lent rs e =
 -- ---- where the first bit stands
 
 module _ (src : List ℕ) (start : ℕ) (b : Bio) (inside : start ≤ length src) (first : Takes src 1 (bioAt start) b) where
-  first-reached : Reached src start b
-  first-reached = record { inside = inside; takes = takes-more src 1 (2 ^ 39) (bioAt start) b (omega arith) first }
-
   pub first-in : BitsIn src b
-  first-in = record { few = reached-few src start b first-reached; place = le-of-lt (header-in-reach src start b first-reached) }
+  first-in =
+      let r = first-reached src start b inside first in
+      record { few = reached-few src start b r; place = le-of-lt (header-in-reach src start b r) }
 
 -- ---- the header
 
@@ -92,10 +91,6 @@ module _ (ws scratch : List ℕ) (m : Markers) (src reports records : List ℕ) 
   bits-reached start n inside first valid below z =
       let ok : header .refusal ≡ 0 = sym (reads-state .follows .refuses) ∙ z in
       let e : a .bio ≡ header .bio = ap (λ (x : Reading). x .bio) (reads-state .follows .holds ok) in
-      let rest = header-taken src room ws b (blocks-of-valid reader ws n valid) (bands-inside ws n (valid-state reader ws n valid)) below ok in
+      let long = bands-inside ws n (valid-state reader ws n valid) in
       subst (Reached src start) (sym e)
-      (record {
-        inside = inside;
-        takes = takes-more src (1 + 2 ^ 38) (2 ^ 39) (bioAt start) (header .bio) (omega arith)
-            (takes-then src 1 (2 ^ 38) (bioAt start) b (header .bio) first rest);
-      })
+      (header-reached src start b inside first room ws (blocks-of-valid reader ws n valid) long below ok)

@@ -80,6 +80,10 @@ pub and-right : (a b : Bool) → (a && b) ≡ true → b ≡ true
 and-right true b h = h
 and-right false b h = absurd (true≢false (sym h))
 
+pub and-second : (a b : Bool) → a ≡ true → (a && b) ≡ false → b ≡ false
+and-second true b e h = h
+and-second false b e h = absurd (true≢false (sym e))
+
 -- the number n is given where b holds, else x; if that is 0, b doesn't hold
 pub not-refused : (b : Bool) (n x : ℕ) → n ≢ 0 → cond b n x ≡ 0 → (b ≡ false) × (x ≡ 0)
 not-refused true n x h e = absurd (h e)

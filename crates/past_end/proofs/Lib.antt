@@ -1,0 +1,6 @@
+pub mod SameBits
+pub mod SameHeader
+pub mod Flags
+pub mod SameMarkers
+pub mod AcceptedReads
+pub mod Examples
