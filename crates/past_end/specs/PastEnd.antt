@@ -2,7 +2,7 @@
 -- input changes nothing but what a marker's own look does.
 use mathlib.Core.Path.{_≡_}
 use mathlib.Core.Logic.{_≢_}
-use mathlib.Core.Bool.{false, cond}
+use mathlib.Core.Bool.{true, false, cond}
 use mathlib.Core.List.{_++_}
 use Prim.Native.Nat.{ℕ, _+_, _-_, _<_}
 use lib.ListN.{length}
@@ -14,6 +14,8 @@ use Rattle.t800.specs.Bits.{reach, bioAt, readBit}
 use Rattle.t800.specs.MarkerSegments.{readSop, readEph}
 use Rattle.t800.specs.Reports.{RecordForm}
 use Rattle.t800.specs.Packet.{ReadResult, read, readResult, firstBit, headerOf}
+use Rattle.t800.specs.Interface.{Interface}
+use Rattle.t800.specs.RoundTrip.{withMore}
 use Rattle.bits_taken.specs.Taken.{afterBits, flagged}
 
 -- ---- a bit's flag
@@ -83,3 +85,29 @@ MoreInput =
     → r .answer .past ≡ 0
     → r .answer .sop ≢ 1
     → (r .answer .eph ≢ 1 → longer ≡ r) × (r .answer .eph ≡ 1 → longer ≡ ephAgain form m (src ++ more) r)
+
+-- ---- the same of the calls of every interface that meets the definitions
+
+unfoldable pub CountOf : Interface → Type 0
+CountOf I =
+    (m : I .reads .Made)
+    → let c = I .reads .args m in
+    let r = I .reads .left m in
+    r .answer .refusal ≡ 0
+    → CountsFlags (c .input) (readSop (c .markers) (c .input) .skip)
+    (lastBit (I .reads .found m) (c .markers) (c .input) (I .form .room (c .records))) (r .answer .past)
+
+-- n is the call m with more input
+unfoldable pub MoreInputOf : Interface → Type 0
+MoreInputOf I =
+    (m n : I .reads .Made) (more : Bytes)
+    → let c = I .reads .args m in
+    let r = I .reads .left m in
+    I .reads .found n ≡ I .reads .found m
+    → I .reads .args n ≡ withMore (I .form) c more
+    → I .reads .asked n ≡ true
+    → r .answer .refusal ≡ 0
+    → r .answer .past ≡ 0
+    → r .answer .sop ≢ 1
+    → (r .answer .eph ≢ 1 → I .reads .left n ≡ r)
+    × (r .answer .eph ≡ 1 → I .reads .left n ≡ ephAgain (I .form) (c .markers) (c .input ++ more) r)

@@ -187,17 +187,11 @@ readPresent form state m src records sop r =
     let at = bytesTaken src (r .bio) in
     let eph = readEph m src at in
     let past = bitsPast src (bioAt (sop .skip)) (r .bio) in
+    let segments = length (r .records) in
     let after = set (r .words) 3 (layer state + 1) in
     record {
-      answer = record {
-        refusal = 0;
-        present = 1;
-        taken = at + eph .skip;
-        segments = length (r .records);
-        sop = sop .mark;
-        eph = eph .mark;
-        past = past;
-      };
+      answer = record
+          { refusal = 0; present = 1; taken = at + eph .skip; segments = segments; sop = sop .mark; eph = eph .mark; past = past };
       state = after;
       scratch = after;
       reports = reportWords (r .reports);

@@ -22,6 +22,8 @@ use Rattle.t800_laws.proofs.Laws.Checks.{on-bool}
 use Rattle.round_trip.proofs.Numbers.{numbers}
 use Rattle.round_trip.proofs.Trip.Interfaces.{round-trip, writer-in-range}
 use Rattle.round_trip.proofs.Starts.{starts-of-reads}
+use Rattle.past_end.specs.PastEnd.{CountOf, MoreInputOf}
+use Rattle.past_end.proofs.Interfaces.{count-of, more-input-of}
 use Rattle.theorems.specs.Exports.{StartMade, startAsked, startArgs, MeasureMade, measureAsked, measureLeft, WriteMade}
 use Rattle.theorems.specs.Exports.{writeAsked, writeLeft, ReadMade, readAsked, readArgs, readLeft, readOtherwise, readTold}
 use Rattle.theorems.specs.Exports.{StartsOfExports}
@@ -191,6 +193,12 @@ round-trip-of-exports = round-trip exports
 
 pub writer-of-exports-in-range : WriterInRange exports
 writer-of-exports-in-range = writer-in-range exports
+
+pub count-of-exports : CountOf exports
+count-of-exports = count-of exports
+
+pub more-input-of-exports : MoreInputOf exports
+more-input-of-exports = more-input-of exports
 
 pub starts-of-exports : StartsOfExports
 unfolding StartsOfExports

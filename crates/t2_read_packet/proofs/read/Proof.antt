@@ -72,8 +72,7 @@ read-present-requires c κs =
     let e = c .before .before .before .before .before .before .bit-in .ensures
     ∙ ap (getBit (s .args .src .now)) (c .before .before .before .before .before .before .before .opj-bio-init-dec .ensures) in
     let k = ap (λ (f : MarkerRead). f .skip) (c .before .before .before .before .before .before .before .before .read-marker .ensures) in
-    let b = bioAt (c .before .before .before .before .before .before .before .before .read-marker .result .skip) in
-    (
+    let b = bioAt (c .before .before .before .before .before .before .before .before .read-marker .result .skip) in (
       g .valid,
       g .layers,
       g .listed,
