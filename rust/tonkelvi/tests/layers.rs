@@ -127,7 +127,7 @@ fn a_bit_for_each_layer_before() {
     let mut header = vec![0; 8193];
     (header[0], header[8191], header[8192]) = (0x80, 0x01, 0x94);
     assert_eq!(packet, [&header[..], b"hello"].concat());
-    // A bit for each of 65,535 layers and the last one's 1 are behind the first bit.
+    // Behind the first bit a zero for each of 65,535 layers, seven of them in the first byte.
     let cut = reader.clone().read(&packet[..1], Markers::NONE).unwrap();
     assert_eq!((cut.taken, cut.bits_past_end, cut.blocks), (1, u64::from(LAYERS) - 7, vec![Block::Absent]));
     let read = reader.read(&packet, Markers::NONE).unwrap();
