@@ -420,7 +420,7 @@ impl Trials {
         let markers = inputs::markers(&mut self.random);
         for _ in 0..4 {
             let src = inputs::short(&mut self.random);
-            self.read_cut(&state, &src, markers, 164 * 27);
+            self.read_cut(&state, &src, markers, 200);
         }
         let sop = [0xff, 0x91, 0, 4, self.random.next() as u8, self.random.pick(&[0, 1, 0xff])];
         let end = self.random.pick(&[6, 6, 6, 0, 1, 2, 5]);
