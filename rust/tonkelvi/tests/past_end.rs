@@ -59,52 +59,56 @@ fn a_last_ff() {
     assert_eq!(read(&header[..3], Markers::NONE), Err(Refusal::HeaderEnd));
 }
 
-/// How many bits of a packed header stand before this byte: eight in each, seven in one behind FF.
-fn bits_before(header: &[u8], bytes: usize) -> u64 {
-    (0..bytes).map(|at| if at > 0 && header[at - 1] == 0xff { 7 } else { 8 }).sum()
+/// Packets of four blocks, each with its reader before it and the bytes of its header: passes of each block, and each pass's bytes.
+fn written() -> Vec<(Reader, Vec<u8>, usize)> {
+    let layers = [([1, 0, 0, 0], 5), ([0, 0, 0, 0], 0), ([2, 0, 37, 0], 300), ([0, 1, 0, 16], 511), ([5, 3, 1, 7], 700), ([0, 0, 0, 1], 0)];
+    let bands = [Band { across: 2, down: 2, planes: 9 }];
+    let (mut writer, mut reader) = (Writer::new(&bands, 0, &[9, 3, 8, 0]).unwrap(), Reader::new(&bands, 0).unwrap());
+    let mut packet = |(counts, bytes): ([u32; 4], u32)| {
+        let passes = counts.iter().sum::<u32>() as usize;
+        let layer = Contribution { counts: &counts, lengths: &vec![bytes; passes], marks: &vec![0; passes] };
+        let body = vec![7; bytes as usize * passes];
+        let packet = writer.write(layer, &body, Markers::NONE, 0).unwrap();
+        let before = reader.clone();
+        reader.read(&packet, Markers::NONE).unwrap();
+        let header = packet.len() - body.len();
+        (before, packet, header)
+    };
+    layers.into_iter().map(&mut packet).collect()
 }
 
-/// A layer of four blocks: passes of each, and each one's bytes.
-fn layers() -> Vec<([u32; 4], u32)> {
-    vec![([1, 0, 0, 0], 5), ([0, 0, 0, 0], 0), ([2, 0, 37, 0], 300), ([0, 1, 0, 16], 511), ([5, 3, 1, 7], 70_000), ([0, 0, 0, 1], 0)]
-}
-
-/// A cut header counts 0 exactly where all its bits are there. The bits are counted by a read of the header's first bytes alone: what is
-/// there and what is missing together.
+/// A cut packet counts 0 exactly where the cut is not shorter than what the header's bits need. Where it lacks the byte behind a last FF
+/// alone, it is refused.
 #[test]
 fn every_cut_of_written_packets() {
-    let bands = [Band { across: 2, down: 2, planes: 9 }];
-    let mut writer = Writer::new(&bands, 0, &[9, 3, 8, 0]).unwrap();
-    let mut reader = Reader::new(&bands, 0).unwrap();
-    for (layer, (counts, bytes)) in layers().into_iter().enumerate() {
-        let passes = counts.iter().sum::<u32>() as usize;
-        let (lengths, marks) = (vec![bytes; passes], vec![0; passes]);
-        let body = vec![7; bytes as usize * passes];
-        let packet = writer.write(Contribution { counts: &counts, lengths: &lengths, marks: &marks }, &body, Markers::NONE, 0).unwrap();
-        let header = &packet[..packet.len() - body.len()];
-        let whole = reader.clone().read(header, Markers::NONE).unwrap();
-        assert_eq!((whole.bits_past_end, whole.taken), (0, header.len()));
-        for cut in 0..header.len() {
-            match reader.clone().read(&header[..cut], Markers::NONE) {
-                Ok(read) => assert!(read.bits_past_end > 0 && read.taken == cut, "layer {layer} cut to {cut}: {read:?}"),
-                // The header's last byte is the 00 behind FF.
-                Err(refusal) => assert_eq!((refusal, header[cut - 1], cut + 1), (Refusal::HeaderEnd, 0xff, header.len())),
+    for (reader, packet, header) in written() {
+        for cut in 0..=packet.len() {
+            match reader.clone().read(&packet[..cut], Markers::NONE) {
+                Ok(read) => assert_eq!((read.bits_past_end == 0, read.taken), (cut >= header, cut.min(header)), "{cut}"),
+                Err(refusal) => assert_eq!((refusal, packet[cut - 1], cut + 1), (Refusal::HeaderEnd, 0xff, header)),
             }
         }
-        // Zeros in place of what is missing are what a cut header reads: so far as it takes them, they are counted.
-        for cut in 0..header.len() {
-            if cut > 0 && header[cut - 1] == 0xff && cut + 1 == header.len() {
-                continue;
-            }
-            let cut_read = reader.clone().read(&header[..cut], Markers::NONE).unwrap();
-            let longer = [&header[..cut], &[0; 2000]].concat();
-            let longer_read = reader.clone().read(&longer, Markers::NONE).unwrap();
-            let (all, least) = (bits_before(&longer, longer_read.taken), bits_before(&longer, longer_read.taken - 1));
-            let taken = bits_before(&longer, cut) + cut_read.bits_past_end;
-            assert!(least < taken && taken <= all, "layer {layer} cut to {cut}: {taken} bits of {all}");
-            assert_eq!((longer_read.bits_past_end, &longer_read.blocks), (0, &cut_read.blocks));
+    }
+}
+
+/// The bits of so many bytes: eight in each, seven in one behind FF.
+fn bits_in(bytes: &[u8]) -> u64 {
+    (0..bytes.len()).map(|at| if at > 0 && bytes[at - 1] == 0xff { 7 } else { 8 }).sum()
+}
+
+/// With zeros behind, a cut header is read the same: its bits end in the last byte taken, and are those in the cut and those counted.
+#[test]
+fn as_many_as_zeros_are_taken() {
+    for (reader, packet, header) in written() {
+        for cut in 0..header {
+            let Ok(read) = reader.clone().read(&packet[..cut], Markers::NONE) else { continue };
+            let longer = [&packet[..cut], &[0; 2000]].concat();
+            let with_zeros = reader.clone().read(&longer, Markers::NONE).unwrap();
+            assert_eq!((with_zeros.bits_past_end, &with_zeros.blocks), (0, &read.blocks));
+            let bits = bits_in(&packet[..cut]) + read.bits_past_end;
+            let (before_last, all) = (bits_in(&longer[..with_zeros.taken - 1]), bits_in(&longer[..with_zeros.taken]));
+            assert!(before_last < bits && bits <= all, "cut to {cut}: {bits} bits of {all}");
         }
-        assert_eq!(reader.read(&packet, Markers::NONE).unwrap(), whole);
     }
 }
 
