@@ -151,8 +151,10 @@ struct tonkelvi_segment {
  * work: a list of exactly 4 words for each struct of `records`, with any content. It must be lent because the engine allocates nothing:
  * it collects the segments there, and fills the structs from it once the header has been read without a refusal. Then the words at its
  * front are block, opens, passes and bytes of each segment, and the others are unchanged.
- * answer, 5 words: 1 if the packet is present, or else 0; bytes taken with markers; segments; SOP mark; EPH mark. A mark is 0 in order
- * or not used, 1 too few bytes, 2 not found. Refusals: 5, 6, 3, then 9 before 13 at each segment, then 12. */
+ * answer, 6 words: 1 if the packet is present, or else 0; bytes taken with markers; segments; SOP mark; EPH mark; bits past the end. A
+ * mark is 0 in order or not used, 1 too few bytes, 2 not found. The last word counts the header's bits that were taken behind the end of
+ * `src`, where they are 0; stuffed bits and markers are none. If it is 0, more input changes nothing of what was told, but where a mark is
+ * 1; if not, the header is cut off. Refusals: 5, 6, 3, then 9 before 13 at each segment, then 12. */
 uint32_t tonkelvi_read(
     uint32_t *state, size_t n_state,
     uint32_t *scratch, size_t n_scratch,

@@ -13,6 +13,8 @@ which the crate writes otherwise, are written by scope.py alone; the crate's wri
 them. A run becomes one row of crates/t800/proofs/Table.antt. Rows stand in chunks, each a crate of a temporary repository beside a copy of
 crates/t800, outside the project and no part of its tests; `rt check` computes the definitions on them and proves `failing 0 rows ≡ []`.
 
+The bits that a read takes past the input's end, which the crate doesn't count, are scope.py's in every run.
+
 How answers are matched: write `ok` 0, `panic` 9, `failed` 11; read `ok` 0, `failed width` 9, `failed align` 12. Where a call fails on a
 short output and the same call panics with room enough, the scope puts 9 before 11, and the row says 9; such calls are counted. The crate
 has none of the other numbers, and of these only 6 is compared, by scope.py. After a call that fails, crate_answers puts the precinct back,
@@ -34,7 +36,7 @@ import tempfile
 import time
 
 from scope import LAYERS_REFUSED, NOT_YET_INCLUDED, NOT_YET_PLANES, READ_REFUSALS, Scope, blocks_in, hexed, level_sizes, spaced
-from scope import stuffed, whole
+from scope import stuffed, whole, without_count
 
 MOST_PLANES = 998
 CRATE_LAYERS = 999       # the crate is asked below this layer
@@ -155,13 +157,15 @@ class Run:
         return answer
 
     def agree(self, own, before, line, answer, after):
-        """The scope as plain Python answers as the crate does, where the answer is the crate's own."""
+        """The scope as plain Python answers as the crate does, where the answer is the crate's own. Gives the scope's answer."""
         self.tally["answers of the crate, the scope agreeing" if own else "answers of the scope alone"] += 1
-        if own:
-            self.scope.state = before
-            told = self.scope.ask(line)
-            if told.split() != answer.split() or self.scope.words() != after:
-                raise Disagreement("%s -> %s, by the scope %s" % (line, answer, told))
+        if not own:
+            return answer
+        self.scope.state = before
+        told = self.scope.ask(line)
+        if without_count(told).split() != answer.split() or self.scope.words() != after:
+            raise Disagreement("%s -> %s, by the scope %s" % (line, answer, told))
+        return told
 
     def start(self, side):
         geometry = spaced(spaced(b) for b in self.bands)
@@ -259,13 +263,13 @@ class Run:
             self.tally["reads left out, too long to compute"] += 1
             return None
         self.cost += cost
-        answer = self.tell("reader", line)
+        answer = self.agree(self.crate, words, line, self.tell("reader", line), self.reader.words())
         if answer.startswith("ok "):
             first, reports, records = [[int(x) for x in part.split()] for part in answer[3:].split("/")]
             told = [0] + first
             lent = first[2] + self.rng.choice([0, 0, 1, 3])
         elif answer in READ_REFUSALS:
-            told = [READ_REFUSALS[answer], 0, 0, 0, 0, 0]
+            told = [READ_REFUSALS[answer], 0, 0, 0, 0, 0, 0]
             reports, records = [], []
             # a record for each segment that could come first: each has three bits or more of the input, or is of one block after its end
             lent = min(164 * self.blocks, 8 * len(data) // 3 + 164 + self.blocks)
@@ -283,8 +287,9 @@ class Run:
             self.tally["reads with more zero planes than the band has"] += any(x > NOT_YET_PLANES for x in reports)
             self.tally["reads with %d zero planes" % NOT_YET_PLANES] += bool(told[1]) and any(x == NOT_YET_PLANES for x in reports[1::4])
             self.tally["reads with a length of 2^31 or more"] += any(x >= 1 << 31 for x in records[3::4])
+            self.tally["reads with bits past the end"] += told[6] > 0
+            self.tally["reads with 100 bits or more past the end"] += told[6] >= 100
         after = self.holds("reader")
-        self.agree(self.crate, words, line, answer, after)
         self.calls.append(("reader", "reads", dict(
             sop=sop, eph=eph, data=data, reports=4 * self.blocks, records=4 * lent, told=told,
             rows=(reports, records), after=after)))
@@ -671,6 +676,27 @@ def tripping(rng, run):
             return
 
 
+def cut_run(rng, run):
+    """A reader of what the crate's writer made: each header cut at some places, and then whole, from the same state."""
+    run.start("reader")
+    geometry = spaced(spaced(b) for b in run.bands)
+    run.writer.ask("start writer %d %d %s %d %s" % (run.empty, len(run.bands), geometry, run.style, spaced(run.planes)))
+    for _ in range(rng.randrange(1, 4)):
+        counts, lengths, marks = some_contribution(rng, run, "matching", rng.choice([3, 5, 8, 12]), rng.choice([0.3, 0.6, 1]), 0.25)
+        sop, eph = rng.choice([(0, 0), (0, 0), (0, 1), (1, 0), (1, 1)])
+        answer = run.writer.ask_crate("write %d %d %d %d / %s / %s / %s / !"
+            % (sop, eph, some_number(rng), AMPLE, spaced(counts), spaced(lengths), spaced(marks))).split()
+        if answer[0] != "ok":
+            return
+        front, words = list(bytes.fromhex(answer[2])), run.reader.words()
+        run.passes = [p + c for p, c in zip(run.passes, counts)]
+        for end in sorted(rng.sample(range(len(front)), min(len(front), rng.randrange(1, 5)))):
+            if run.read(sop, eph, front[:end] + [0xff] * (rng.random() < 0.1)) == 0:
+                run.load("reader", words)
+        if run.read(sop, eph, front) != 0:
+            return
+
+
 def some_layer(rng):
     return rng.choice([1, 1, 2, 2, 3, 5, 20, CRATE_LAYERS - 2, CRATE_LAYERS - 1, rng.randrange(1, CRATE_LAYERS)])
 
@@ -749,7 +775,7 @@ def later_trip_run(rng, run):
 
 KINDS = [("writer", writer_run, 22), ("reader", reader_run, 24), ("trip", trip_run, 22), ("loaded writer", loaded_writer_run, 18),
     ("loaded reader", loaded_reader_run, 14), ("later writer", later_writer_run, 14), ("later reader", later_reader_run, 11),
-    ("later trip", later_trip_run, 11)]
+    ("later trip", later_trip_run, 11), ("cut reader", cut_run, 16)]
 
 
 def make_run(seed, i, oracles, tally):

@@ -6,11 +6,12 @@
 
 This gives the files that are there byte for byte; --seed gives others. crate_answers runs the code of crate openjp2 0.6.1
 (rust/compare/src/answers.rs), and compare_definitions.py's generator makes the random runs. Every answer of a list, and the state after
-it, comes from the crate, but for three kinds. Packets without passes are measured and written by scope.py, the scope (docs/SCOPE.md) as
+it, comes from the crate, but for four kinds. Packets without passes are measured and written by scope.py, the scope (docs/SCOPE.md) as
 plain Python, since the crate writes them otherwise; its writer goes on from the words after them, and its reader reads them. From layer 999
-on, and where 999 stands in an inclusion tree, the answers of the lists `layers` and `refusals` come from scope.py too, which must agree
-with the crate wherever that is asked. Refusals that the crate has not stand in this file by their numbers, in the lists `hand`, `absent`,
-`layers` and `refusals`, with the buffers as the scope leaves them. Starts are sums of the lengths.
+on, and where 999 stands in an inclusion tree, the answers of the lists `layers`, `cut` and `refusals` come from scope.py too, which must
+agree with the crate wherever that is asked. So do, in every list, the bits that a read takes past the input's end, which the crate doesn't
+count. Refusals that the crate has not stand in this file by their numbers, in the lists `hand`, `absent`, `cut`, `layers` and `refusals`,
+with the buffers as the scope leaves them. Starts are sums of the lengths.
 
 The lists, which crates/vectors/args names:
 
@@ -20,6 +21,7 @@ The lists, which crates/vectors/args names:
     writes      packets written                       loaded      packets written from loaded states
     reads       packets read as the crate writes them reloaded    packets read from loaded states
     damaged     packets damaged, cut or made of other bytes
+    cut         headers cut at each byte, with and without markers, and short inputs in later layers
     markers     packets with a marker missing, cut or where none is due
     big         packets of big geometries             layers      packets of layers from 998 on
     refusals    refusals by the scope alone, and states at the ends of the ranges
@@ -35,8 +37,8 @@ number of its answers, and then each call; it ends with the last one:
     3 write     the same up to the marks, body bytes, output bytes;
                 refusal, bytes, front n, body n, rest, front (bytes), check(state), check(scratch)
     4 read      words of scratch, SOP + 2 EPH, n, input (bytes), words of reports, words of records;
-                refusal, present, taken, segments, SOP mark, EPH mark, then of reports and of records: n, rest, row of n words;
-                each segment's start, check(state), check(scratch)
+                refusal, present, taken, segments, SOP mark, EPH mark, bits past the end, then of reports and of records: n, rest,
+                row of n words; each segment's start, check(state), check(scratch)
     5 poke      place and word: the state's word there is set
 
 A list that is lent is filled before: state 7, scratch 5, output 165, reports 9, records 8; a body has (7 i + 3) mod 256 at i.
@@ -49,7 +51,7 @@ import random
 
 import compare_definitions as generator
 from compare_definitions import AMPLE, CRATE_LAYERS, MOST_PLANES, Oracle, Run, Unexpected, add_program, told_absent
-from scope import HEADER_WORDS, NOT_YET_INCLUDED, NOT_YET_PLANES, Scope, bands_of, blocks_in, hexed, spaced, started
+from scope import HEADER_WORDS, NOT_YET_INCLUDED, NOT_YET_PLANES, Scope, bands_of, blocks_in, hexed, spaced, started, without_count
 
 STATE, SCRATCH, OUTPUT, REPORTS, RECORDS = 7, 5, 165, 9, 8
 STATE_MOST, COUNTS_MOST, PASSES_MOST, BYTES_MOST, RECORDS_MOST, LIST_MOST = 147463, 12288, 700, 4000, 49152, 65535
@@ -162,9 +164,10 @@ class Calls:
         self.state = after
 
     def read(self, sop, eph, data, reports, records, told, rows=((), ()), after=None, scratch=None, from_crate=True):
-        """told: refusal, present, taken, segments, marks; rows: words of the reports and of the records."""
+        """told: refusal, present, taken, segments, marks, bits past the end; rows: words of the reports and of the records."""
         scratch = len(self.state) if scratch is None else scratch
         refusal = told[0]
+        assert len(told) == 7
         wiped = refusal in (9, 12, 13)
         after = list(after) if refusal == 0 else self.state
         left = after if refusal == 0 else [0 if wiped else SCRATCH] * scratch
@@ -307,9 +310,9 @@ class Asked:
         if "note:" in answer or answer == "bad":
             raise SystemExit("%s -> %s" % (line, answer))
         told = self.scope.ask(line)
-        if told.split() != answer.split() or self.scope.words() != self.oracle.words():
+        if without_count(told).split() != without_count(answer).split() or self.scope.words() != self.oracle.words():
             raise SystemExit("%s -> %s, by the scope %s" % (line, answer, told))
-        return answer
+        return told
 
     def measure(self, sop, eph, counts, lengths, marks):
         before = self.oracle.words()
@@ -351,13 +354,18 @@ class Asked:
                 self.oracle.words(), **self.given)
         else:
             refusal = {"failed width": 9, "failed align": 12}[answer]
-            self.calls.read(sop, eph, data, 4 * blocks, 4 * (4 if records is None else records), [refusal, 0, 0, 0, 0, 0],
+            self.calls.read(sop, eph, data, 4 * blocks, 4 * (4 if records is None else records), refused_read(refusal),
                 **self.given)
 
 
 ONE = [(1, 1, 8)]
 TWO = [(2, 1, 8)]
 DEEP = [(1, 1, MOST_PLANES + 1)]
+
+
+def refused_read(number):
+    """What a refused read tells."""
+    return [number, 0, 0, 0, 0, 0, 0]
 
 
 def last(n, total):
@@ -620,7 +628,7 @@ def refused(calls, role, number, scratch=None):
         calls.write(0, 0, 0, [0, 1], [3], [0], 3, 40, number, scratch=scratch, from_crate=False)
         calls.measure(0, 0, [0, 1], [3], [0], (number, 0, 0), scratch=scratch, from_crate=False)
     else:
-        calls.read(0, 0, [0xd5, 0x15, 0, 0], 8, 16, [number, 0, 0, 0, 0, 0], scratch=scratch, from_crate=False)
+        calls.read(0, 0, [0xd5, 0x15, 0, 0], 8, 16, refused_read(number), scratch=scratch, from_crate=False)
 
 
 def in_range(calls, oracle, role, words):
@@ -646,7 +654,7 @@ def last_layer(calls, oracle, role, words, block):
     if role == 1:
         calls.write(0, 0, 0, [165], [], [], 0, 40, 6, from_crate=False)
     else:
-        calls.read(0, 0, [0xd5], 5, 0, [6, 0, 0, 0, 0, 0], from_crate=False)
+        calls.read(0, 0, [0xd5], 5, 0, refused_read(6), from_crate=False)
     calls.load(changed(done, (root, NOT_YET_INCLUDED + 1)))
     refused(calls, role, 5)
 
@@ -669,7 +677,7 @@ def writer_order(calls, given):
 
 
 def reader_order(calls, given):
-    no = lambda n: [n, 0, 0, 0, 0, 0]
+    no = refused_read
     calls.start(2, 1, ONE, 4, [], 23, 0, started(2, ONE, 4, []), **given)
     wide = generator.stuffed([1, 1, 1, 0] + [1] * 30 + [0])
     cut = [0xfe, 0xad, 0xff]
@@ -786,6 +794,58 @@ def after_last(calls, role):
         refused(calls, role, 6)
 
 
+# ---- headers that end too early
+
+def cut_list(oracle):
+    """A to L and others cut at each byte, each from the state before it; then states with much to be told, and refusals."""
+    calls = Calls("cut")
+    one = lambda n, size: ([n], last(n, size), [0] * n)
+    none = ([0], [], [])
+    for packets in ([one(1, 5)], [one(1, 8)], [one(2, 15)], [one(37, 200)], [one(16, 511)], [none, one(1, 5), one(1, 3)]):
+        cut_at_each_byte(calls, oracle, ONE, 0, [8], packets)
+    k = ([1, 1], [5, 5], [0, 0])
+    cut_at_each_byte(calls, oracle, TWO, 0, [8, 7], [k])
+    for style, n in ((1, 13), (0, 110), (4, 5)):
+        marks = [int(generator.last_of_segment(style, p) and p + 1 < n) for p in range(n)]
+        cut_at_each_byte(calls, oracle, ONE, style, [8], [([n], [1] * n, marks)])
+    for sop, eph in MARKERS[1:]:
+        cut_at_each_byte(calls, oracle, ONE, 0, [8], [one(1, 5)], sop, eph)
+    cut_at_each_byte(calls, oracle, ONE, 0, [5], [one(37, 200)], 1, 1)
+    cut_at_each_byte(calls, oracle, TWO, 0, [8, 7], [k], 1, 1)
+    some = [([1, 0, 2, 0, 0, 37, 1], [3] * 41, [0] * 41), ([2, 1, 0, 0, 0, 1, 6], [70] * 10, [0] * 10)]
+    cut_at_each_byte(calls, oracle, WIDE, 0, [8, 6, 7, 5, 6, 4, 6], some)
+    for layer, low in ((10, 0), (700, 100), *((layer, layer - 300) for layer in LAYERS)):
+        for data in ("", "80", "8000", "c0", "ff"):
+            asked_of(calls, oracle, with_node(2, layer, [NOT_YET_INCLUDED, low, 0])).read(list(bytes.fromhex(data)))
+    cut_refusals(calls, oracle)
+    return calls
+
+
+def cut_at_each_byte(calls, oracle, bands, style, planes, packets, sop=0, eph=0):
+    """packets: counts, lengths and marks. A header is read up to each of its bytes, and at last whole."""
+    writer, reader = Scope(), Scope()
+    writer.state, reader.state = started(1, bands, style, planes), started(2, bands, style, [])
+    for k, (counts, lengths, marks) in enumerate(packets):
+        written = writer.ask("write %d %d %d %d / %s / %s / %s / *"
+            % (sop, eph, 255 + 256 * k, AMPLE, spaced(counts), spaced(lengths), spaced(marks)))
+        front = list(bytes.fromhex(written.split()[2]))
+        for end in range(len(front) + 1):
+            asked_of(calls, oracle, reader.words()).read(front[:end], sop, eph)
+        reader.ask("read %d %d %s" % (sop, eph, hexed(front)))
+
+
+def cut_refusals(calls, oracle):
+    """9 behind bits past the end, 12, and 13 behind bits past the end: none of them tells any."""
+    words = words_in_range(2, oracle)
+    block = len(words) - 8
+    wide = changed(words, (2, 0), (block + 1, 32), (block + 2, 109))
+    asked_of(calls, oracle, wide).read([0xfc])
+    calls.load(started(2, ONE, 0, []))
+    calls.read(0, 0, [0xef], 4, 0, refused_read(13), from_crate=False)
+    calls.read(0, 0, [], 5, 0, refused_read(3), from_crate=False)
+    asked_of(calls, oracle, started(2, ONE, 0, [])).read([0xfe, 0xad, 0xff])
+
+
 # ---- big geometries
 
 def big_case(calls, oracles, seed, bands, style, most):
@@ -849,6 +909,7 @@ def main():
             ("markers", [marker_run], "reader", 60),
             ("reloaded", [generator.loaded_reader_run], "reader", 60)):
         lists.append(put_random(Calls(name), oracles if side == "writer" else alone, args.seed, kinds, side, answers, 60))
+    lists.append(cut_list(oracles[0]))
     lists.append(big_list(oracles, args.seed))
     lists.append(layer_list(oracles[0]))
     lists.append(refusal_list(oracles[0]))

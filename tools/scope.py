@@ -216,10 +216,10 @@ def code_header(words, counts, lengths, marks):
 
 
 class Bits:
-    """An input, read from a place on."""
+    """An input, read from a place on; `past` counts the bits taken whose byte is not in it."""
 
     def __init__(self, data, at):
-        self.data, self.next, self.byte, self.left = data, at, 0, 0
+        self.data, self.next, self.byte, self.left, self.past = data, at, 0, 0, 0
 
     def take(self, width):
         n = 0
@@ -229,6 +229,7 @@ class Bits:
                 self.byte = self.data[self.next] if self.next < len(self.data) else 0
                 self.next += 1
             self.left -= 1
+            self.past += self.next > len(self.data)
             n = 2 * n + (self.byte >> self.left & 1)
         return n
 
@@ -293,8 +294,15 @@ def skipped(used, data, at, marker, size):
     return (0, at + size) if data[at:at + 2] == marker else (2, at)
 
 
+def without_count(answer):
+    """The part of an answer that the crate gives too: a read's five numbers, without the bits past the end."""
+    first, slash, rest = answer.partition("/")
+    return spaced(first.split()[:6]) + " / " + rest if slash else answer
+
+
 class Scope:
-    """The scope (docs/SCOPE.md) for states in range and lists of the right lengths, asked as crate_answers is, in every layer."""
+    """The scope (docs/SCOPE.md) for states in range and lists of the right lengths, asked as crate_answers is, in every layer. A read
+    tells one number more, the bits past the end, after the EPH mark."""
 
     def ask(self, line):
         name, _, rest = line.partition(" ")
@@ -345,5 +353,5 @@ class Scope:
         words[3] += 1
         self.state = words
         records = [[k] + segment for k, (_, segments) in enumerate(told) for segment in segments]
-        return "ok %s / %s / %s" % (spaced([present, taken, len(records), sop_mark, eph_mark]),
+        return "ok %s / %s / %s" % (spaced([present, taken, len(records), sop_mark, eph_mark, bits.past]),
             spaced(x for report, _ in told for x in report), spaced(x for r in records for x in r))

@@ -106,7 +106,7 @@ impl Follower {
             return;
         }
         let (entry, text) = (self.book.entry(written.layer), || written.text());
-        let answer = [u64::from(entry.present), written.header() as u64, entry.records.len() as u64, 0, 0];
+        let answer = [u64::from(entry.present), written.header() as u64, entry.records.len() as u64, 0, 0, 0];
         same("numbers of the read", &reading.number, &0, &text);
         same("answers of the read", &reading.answer[..], &answer[..], &text);
         same("reports of the read", &reading.reports, &entry.reports, &text);
@@ -114,7 +114,7 @@ impl Follower {
         counts.in_order += 1;
         counts.in_order_empty += u64::from(!entry.present);
         #[cfg(openjp2)]
-        self.by_crate.reads(counts, written, (&answer, &entry.reports, &entry.records), reader);
+        self.by_crate.reads(counts, written, (&answer[..5], &entry.reports, &entry.records), reader);
         #[cfg(not(openjp2))]
         let _ = reader;
     }

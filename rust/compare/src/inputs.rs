@@ -128,6 +128,22 @@ pub fn late_state(random: &mut Random, role: u32, shape: &Shape, far: u64) -> Ve
     state
 }
 
+/// A reader's state whose inclusion trees have told nothing of up to 900 layers before, and its zero-plane trees nothing at all.
+pub fn far_state(random: &mut Random, shape: &Shape) -> Vec<u32> {
+    let layer = if random.once_in(20) { random.between(999, u64::from(LAYERS) - 1) } else { random.between(1, 998) } as u32;
+    let (places, mut state) = with_blocks(random, 2, shape, layer);
+    let far = random.pick(&[2, 40, 900]).min(u64::from(layer));
+    for p in &places {
+        for node in state[p.inclusion..p.zero_planes].chunks_exact_mut(3) {
+            node[..2].copy_from_slice(&[NOT_YET_INCLUDED, layer - random.between(0, far) as u32]);
+        }
+        for node in state[p.zero_planes..p.block_words].chunks_exact_mut(3) {
+            node[0] = NOT_YET_PLANES;
+        }
+    }
+    state
+}
+
 pub fn late_layer(random: &mut Random) -> u32 {
     match random.once_in(4) {
         true => random.between(998, LAYERS.into()) as u32,
@@ -271,6 +287,42 @@ pub fn damaged_bytes(random: &mut Random, bytes: &[u8]) -> Vec<u8> {
         0 => bytes.truncate(random.between(0, bytes.len() as u64) as usize),
         1 => bytes.extend(random.bytes(3)),
         _ => {}
+    }
+    bytes
+}
+
+/// A header cut short: anywhere, behind one of its bytes FF if it has any, or with an FF in place of its next byte; some to no bytes.
+pub fn cut(random: &mut Random, header: &[u8]) -> Vec<u8> {
+    let mut end = random.below(header.len().max(1) as u64) as usize;
+    let behind_ff: Vec<usize> = (1..header.len()).filter(|at| header[at - 1] == 0xff).collect();
+    if !behind_ff.is_empty() && random.once_in(4) {
+        end = random.pick(&behind_ff);
+    }
+    let mut cut = header[..end].to_vec();
+    match random.below(16) {
+        0 => cut.clear(),
+        1 | 2 => cut.push(0xff),
+        _ => {}
+    }
+    cut
+}
+
+/// A first bit 1 and little else, in up to four bytes.
+pub fn short(random: &mut Random) -> Vec<u8> {
+    let mut bytes: Vec<u8> = (0..random.below(5)).map(|_| random.pick(&[0, 0, 0x01, 0x10, 0x80, 0xc0, 0xe0, 0xfe, 0xff, 0xff])).collect();
+    if let Some(byte) = bytes.first_mut() {
+        *byte |= 0x80;
+    }
+    bytes
+}
+
+/// One to nine bytes to go behind an input, some of them EPH or a part of it.
+pub fn more(random: &mut Random) -> Vec<u8> {
+    let n = random.between(1, 9) as usize;
+    let mut bytes = random.bytes(n);
+    if random.once_in(3) {
+        let eph = [0xff, 0x92];
+        bytes.splice(..n.min(2), eph[random.below(2) as usize..].to_vec());
     }
     bytes
 }

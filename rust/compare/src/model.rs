@@ -276,16 +276,25 @@ struct Bits<'a> {
     next: usize,
     byte: u8,
     left: u32,
+    /// Bits taken whose byte is not in the input.
+    past: u64,
 }
 
 impl Bits<'_> {
+    fn at(src: &[u8], place: usize) -> Bits<'_> {
+        Bits { src, next: place, byte: 0, left: 0, past: 0 }
+    }
+
     fn next(&mut self) -> u32 {
         if self.left == 0 {
             self.left = if self.byte == 0xff { 7 } else { 8 };
             self.byte = self.src.get(self.next).copied().unwrap_or(0);
-            self.next = (self.next + 1).min(self.src.len() + 1);
+            self.next += 1;
         }
         self.left -= 1;
+        if self.next > self.src.len() {
+            self.past += 1;
+        }
         u32::from(self.byte >> self.left & 1)
     }
 
@@ -612,7 +621,7 @@ pub fn read(
     records: &mut [Record],
     answer: &mut [u64],
 ) -> u32 {
-    if answer.len() != 5 {
+    if answer.len() != 6 {
         return 3;
     }
     answer.fill(0);
@@ -627,7 +636,7 @@ pub fn read(
         return 3;
     }
     let (sop_mark, skipped) = marker(sop, src, 0, 6, 0x91);
-    let mut bits = Bits { src, next: skipped, byte: 0, left: 0 };
+    let mut bits = Bits::at(src, skipped);
     let mut words = state.to_vec();
     let present = bits.next() == 1;
     let mut told = Told { reports: vec![[0; 4]; blocks], records: Vec::new() };
@@ -662,7 +671,7 @@ pub fn read(
         words.copy_from_slice(&record.numbers);
     }
     records[..told.records.len()].copy_from_slice(&told.records);
-    answer.copy_from_slice(&[u64::from(present), (end + after) as u64, told.records.len() as u64, sop_mark, eph_mark]);
+    answer.copy_from_slice(&[u64::from(present), (end + after) as u64, told.records.len() as u64, sop_mark, eph_mark, bits.past]);
     0
 }
 

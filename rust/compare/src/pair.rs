@@ -1,5 +1,7 @@
 //! Each call made twice, by the engine and by the scope's plain Rust (model.rs), on equal copies of every buffer; and where the call lies
-//! in the crate's domain, by the crate too, but for packets written without passes. Anything unequal ends the run with all arguments.
+//! in the crate's domain, by the crate too, but for packets written without passes. The crate doesn't count bits past the end. A read that
+//! counts none is made again with more input. Anything unequal ends the run with all arguments.
+use crate::inputs;
 use crate::model::{self, Record};
 use crate::random::Random;
 use std::fmt::Debug;
@@ -61,6 +63,14 @@ pub struct Counts {
     /// The same by the crate's reader, carried on from the start.
     pub read_by_crate: u64,
     pub empty_by_crate: u64,
+    /// Reads of inputs that were cut.
+    pub cut_inputs: u64,
+    /// Accepted reads that took bits past the end, and the most bits that one of them took there.
+    pub past_end: u64,
+    pub most_past_end: u64,
+    /// Accepted reads that took none, made again with more input, and those of them whose EPH had had too few bytes.
+    pub longer: u64,
+    pub longer_eph: u64,
 }
 
 impl Counts {
@@ -98,6 +108,9 @@ impl Counts {
             "{} states after packets with passes that this writer has too, {} of them where packets without passes came before",
             self.states_with_crate, self.states_after_empty
         );
+        println!("{} reads of cut inputs", self.cut_inputs);
+        println!("{} accepted reads took bits past the end, at most {}", self.past_end, self.most_past_end);
+        println!("{} that took none told the same with more input, {} of them but for EPH", self.longer, self.longer_eph);
     }
 
     /// Counts what an accepted read's records show of the starts.
@@ -130,6 +143,28 @@ impl Layer {
 
     pub fn without_passes(&self) -> bool {
         self.counts.iter().all(|count| *count == 0)
+    }
+}
+
+/// The lists of a read.
+#[derive(Clone, PartialEq, Debug)]
+struct Lent {
+    state: Vec<u32>,
+    scratch: Vec<u32>,
+    reports: Vec<u32>,
+    work: Vec<u32>,
+    records: Vec<words::Segment>,
+    answer: Vec<u64>,
+}
+
+impl Lent {
+    fn read_by_engine(&mut self, src: &[u8], markers: Markers) -> u32 {
+        let Lent { state, scratch, reports, work, records, answer } = self;
+        words::read(state, scratch, src, markers.sop, markers.eph, reports, work, records, answer)
+    }
+
+    fn records(&self) -> Vec<Record> {
+        self.records.iter().map(record).collect()
     }
 }
 
@@ -286,43 +321,79 @@ impl Pair {
         records: usize,
         answer: usize,
     ) -> Reading {
-        let before = state.clone();
-        let mut buffers = (vec![USED; scratch], vec![USED; reports], vec![USED; work], vec![u64::MAX; answer]);
-        let mut expected = buffers.clone();
-        let mut expected_state = state.clone();
-        let mut lent = self.used_records(records);
-        let mut expected_records: Vec<Record> = lent.iter().map(record).collect();
-        let number =
-            words::read(state, &mut buffers.0, src, markers.sop, markers.eph, &mut buffers.1, &mut buffers.2, &mut lent, &mut buffers.3);
+        let before = Lent {
+            state: std::mem::take(state),
+            scratch: vec![USED; scratch],
+            reports: vec![USED; reports],
+            work: vec![USED; work],
+            records: self.used_records(records),
+            answer: vec![u64::MAX; answer],
+        };
+        let (mut left, mut expected, mut expected_records) = (before.clone(), before.clone(), before.records());
+        let number = left.read_by_engine(src, markers);
         let should = model::read(
-            &mut expected_state,
-            &mut expected.0,
+            &mut expected.state,
+            &mut expected.scratch,
             src,
             markers.sop,
             markers.eph,
-            &mut expected.1,
-            &mut expected.2,
+            &mut expected.reports,
+            &mut expected.work,
             &mut expected_records,
-            &mut expected.3,
+            &mut expected.answer,
         );
         let text = || {
             format!(
-                "read {before:?} scratch {scratch} {src:02x?} {markers:?} \
-                 reports {reports} work {work} records {records} answer {answer}"
+                "read {:?} scratch {scratch} {src:02x?} {markers:?} \
+                 reports {reports} work {work} records {records} answer {answer}",
+                before.state
             )
         };
-        let mut lent: Vec<Record> = lent.iter().map(record).collect();
+        let mut records = left.records();
         same("numbers", &number, &should, &text);
-        same("states", state, &expected_state, &text);
-        same("buffers", &buffers, &expected, &text);
-        same("records", &lent, &expected_records, &text);
-        let told = (number, &state[..], &buffers.1[..], &lent[..], &buffers.3[..]);
-        let with_crate = matches!(number, 0 | 9 | 12) && crate_reads(&before, src, markers, told, &text);
-        self.count_packet(Call::Read, &before, number, with_crate);
-        self.left(number, state, &text);
-        lent.truncate(if number == 0 { buffers.3[2] as usize } else { 0 });
-        self.counts.records(&lent);
-        Reading { number, answer: buffers.3, reports: buffers.1, records: lent }
+        same("states", &left.state, &expected.state, &text);
+        let buffers = |lent: &Lent| (lent.scratch.clone(), lent.reports.clone(), lent.work.clone());
+        same("buffers", &buffers(&left), &buffers(&expected), &text);
+        same("records", &records, &expected_records, &text);
+        same("answers", &left.answer, &expected.answer, &text);
+        let told = (number, &left.state[..], &left.reports[..], &records[..], &left.answer[..]);
+        let with_crate = matches!(number, 0 | 9 | 12) && crate_reads(&before.state, src, markers, told, &text);
+        self.count_packet(Call::Read, &before.state, number, with_crate);
+        self.left(number, &left.state, &text);
+        if number == 0 {
+            self.past_end(&before, src, markers, &left, &text);
+        }
+        records.truncate(if number == 0 { left.answer[2] as usize } else { 0 });
+        self.counts.records(&records);
+        *state = left.state;
+        Reading { number, answer: left.answer, reports: left.reports, records }
+    }
+
+    /// Counts an accepted read that took bits past the end. One that took none, whose SOP had its bytes, is made again with more input: it
+    /// tells and leaves the same, but that EPH is looked for again where it had too few bytes.
+    fn past_end(&mut self, before: &Lent, src: &[u8], markers: Markers, left: &Lent, text: &dyn Fn() -> String) {
+        let (taken, sop, eph, past) = (left.answer[1], left.answer[3], left.answer[4], left.answer[5]);
+        self.counts.past_end += u64::from(past > 0);
+        self.counts.most_past_end = self.counts.most_past_end.max(past);
+        if past > 0 || sop == 1 {
+            return;
+        }
+        let mut longer_src = src.to_vec();
+        longer_src.extend(inputs::more(&mut self.random));
+        let (mut longer, mut expected) = (before.clone(), left.clone());
+        let number = longer.read_by_engine(&longer_src, markers);
+        if eph == 1 {
+            let (mark, skipped) = match longer_src[taken as usize..] {
+                [0xff, 0x92, ..] => (0, 2),
+                [_, _, ..] => (2, 0),
+                _ => (1, 0),
+            };
+            (expected.answer[1], expected.answer[4]) = (taken + skipped, mark);
+            self.counts.longer_eph += 1;
+        }
+        same("numbers with more input", &number, &0, text);
+        same("lists with more input", &longer, &expected, text);
+        self.counts.longer += 1;
     }
 
     /// So many structs that each hold anything.
@@ -448,7 +519,7 @@ fn crate_reads(
         Err(Failed::HeaderEnd) => same("numbers of the crate", &number, &12, text),
         Ok(told) => {
             same("numbers of the crate", &number, &0, text);
-            same("answers of the crate", &answer, &&told.answer[..], text);
+            same("answers of the crate", &answer[..5], &told.answer[..], text);
             same("reports of the crate", &reports, &&told.reports[..], text);
             let theirs = told.records();
             same("records of the crate", &&records[..theirs.len()], &&theirs[..], text);

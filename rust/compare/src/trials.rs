@@ -37,7 +37,13 @@ impl Trials {
 
     fn read(&mut self, state: &mut Vec<u32>, src: &[u8], markers: Markers, records: usize) -> Reading {
         let (length, reports) = (state.len(), 4 * inputs::blocks_in(state));
-        self.pair.read(state, length, src, markers, reports, 4 * records, records, 5)
+        self.pair.read(state, length, src, markers, reports, 4 * records, records, 6)
+    }
+
+    /// A read of an input that was cut, on a copy of the state.
+    fn read_cut(&mut self, state: &[u32], src: &[u8], markers: Markers, records: usize) -> Reading {
+        self.pair.counts.cut_inputs += 1;
+        self.read(&mut state.to_vec(), src, markers, records)
     }
 
     // ---- starts
@@ -133,19 +139,29 @@ impl Trials {
             let (layers, with_passes) = (self.random.between(2, 24) as u32, self.random.pick(&[1, 2, 3, 10]));
             for number in 0..layers {
                 let rare = if self.random.once_in(with_passes) { self.random.pick(&[1, 1, 3]) } else { 0 };
-                self.chained(&mut writer, &mut reader, &mut follower, number, rare);
+                self.next_packet(&mut writer, &mut reader, &mut follower, number, rare, |_, _, _, _, _| {});
             }
         }
     }
 
-    /// The next packet of a chain, written into room enough, and read.
-    fn chained(&mut self, writer: &mut Vec<u32>, reader: &mut Vec<u32>, follower: &mut Follower, number: u32, rare: u64) {
+    /// The next packet of a chain, written into room enough, and read; before that, its header is shown to `first`, with the reader's state
+    /// and with as many records as are enough for what is written.
+    fn next_packet(
+        &mut self,
+        writer: &mut Vec<u32>,
+        reader: &mut Vec<u32>,
+        follower: &mut Follower,
+        number: u32,
+        rare: u64,
+        first: impl Fn(&mut Trials, &[u32], &[u8], Markers, usize),
+    ) {
         let layer = inputs::layer_by_block(&mut self.random, writer, |_| rare, 6, true);
         let (markers, words) = (inputs::markers(&mut self.random), writer.len());
         let body = self.random.bytes(layer.body() as usize);
         let room = body.len() + 16 * layer.lengths.len() + 16 * words;
         let (refusal, packet) = self.pair.write(writer, words, &layer, &body, markers, number, room, 1);
         assert_eq!(refusal, 0, "a packet that fits");
+        first(self, reader, &packet[..packet.len() - body.len()], markers, layer.lengths.len().max(9));
         let reading = self.read(reader, &packet, markers, layer.lengths.len());
         let written = Written { layer: &layer, markers, number, packet: &packet, state: writer };
         follower.packet(&mut self.pair.counts, &written, &reading, reader);
@@ -234,7 +250,7 @@ impl Trials {
             let (length, src) = (state.len(), inputs::noise(&mut self.random));
             let other = self.random.once_in(2);
             let work = self.near(400, other);
-            self.pair.read(&mut state, length, &src, markers, reports, work, 100, 5);
+            self.pair.read(&mut state, length, &src, markers, reports, work, 100, 6);
         }
     }
 
@@ -348,11 +364,67 @@ impl Trials {
         let src = inputs::noise(&mut self.random);
         let reports = self.near(4 * shape.planes.len(), list == 0);
         let scratch = self.near(state.len(), list == 3);
-        let answer = self.near(5, list == 4);
+        let answer = self.near(6, list == 4);
         let records = self.random.below(10) as usize;
         let other = list == 1 || self.random.once_in(4);
         let work = self.near(4 * records, other);
         self.pair.read(&mut state, scratch, &src, markers, reports, work, records, answer);
+    }
+
+    // ---- inputs that end too early
+
+    /// Packets of so many small precincts in order, and before each is read its header cut at every byte, with and without an FF behind.
+    pub fn every_cut(&mut self, precincts: u64) {
+        for _ in 0..precincts {
+            self.cut_packets(3, |t, reader, header, markers, records| {
+                for end in 0..=header.len() {
+                    t.read_cut(reader, &header[..end], markers, records);
+                    t.read_cut(reader, &[&header[..end], &[0xff]].concat(), markers, records);
+                }
+            });
+        }
+    }
+
+    /// So many reads of headers cut anywhere, of short inputs on states that have much to be told, of SOP alone or in part, and of nothing.
+    pub fn cuts(&mut self, reads: u64) {
+        let end = self.pair.counts.cut_inputs + reads;
+        while self.pair.counts.cut_inputs < end {
+            let side = self.random.pick(&[1, 1, 2, 3, 4]);
+            self.cut_packets(side, |t, reader, header, markers, records| {
+                for _ in 0..12 {
+                    let src = inputs::cut(&mut t.random, header);
+                    let records = if t.random.once_in(8) { t.random.below(1 + records as u64) as usize } else { records };
+                    t.read_cut(reader, &src, markers, records);
+                }
+            });
+            self.cut_trees();
+        }
+    }
+
+    /// A small precinct's packets written and read in order, with cut reads of each before it is read whole.
+    fn cut_packets(&mut self, side: u64, cut: impl Fn(&mut Trials, &[u32], &[u8], Markers, usize)) {
+        let shape = inputs::shape(&mut self.random, side);
+        let (mut writer, mut reader) = (self.start(true, &shape), self.start(false, &shape));
+        let mut follower = Follower::new(&shape, true);
+        for number in 0..self.random.between(1, 5) as u32 {
+            let rare = self.random.pick(&[0, 1, 1, 2, 3]);
+            self.next_packet(&mut writer, &mut reader, &mut follower, number, rare, &cut);
+        }
+    }
+
+    /// Short inputs on a state whose trees have much to be told; SOP whole and in part, with nothing behind.
+    fn cut_trees(&mut self) {
+        let side = self.random.pick(&[1, 2, 3]);
+        let shape = inputs::shape(&mut self.random, side);
+        let state = inputs::far_state(&mut self.random, &shape);
+        let markers = inputs::markers(&mut self.random);
+        for _ in 0..4 {
+            let src = inputs::short(&mut self.random);
+            self.read_cut(&state, &src, markers, 200);
+        }
+        let sop = [0xff, 0x91, 0, 4, self.random.next() as u8, self.random.pick(&[0, 1, 0xff])];
+        let end = self.random.pick(&[6, 6, 6, 0, 1, 2, 5]);
+        self.read_cut(&state, &sop[..end], Markers { sop: true, ..markers }, 9);
     }
 
     // ---- every short input, every count
@@ -557,7 +629,7 @@ impl Trials {
             };
             for _ in 0..20 {
                 let cut = self.random.below(packet.len() as u64) as usize;
-                self.read(&mut reader.clone(), &packet[..cut], Markers::default(), 9);
+                self.read_cut(&reader, &packet[..cut], Markers::default(), 9);
             }
             self.read_copies(&reader, &packet, Markers::default());
             assert_eq!(self.read(&mut reader, &packet, Markers::default(), 9).number, 0);
@@ -575,7 +647,7 @@ impl Trials {
             let packet = self.written(&mut writer, &layer, Markers::default(), 0).expect("accepted");
             self.read(&mut reader.clone(), &packet, Markers::default(), 9);
             for cut in 0..packet.len() {
-                self.read(&mut reader.clone(), &packet[..cut], Markers::default(), 9);
+                self.read_cut(&reader, &packet[..cut], Markers::default(), 9);
             }
         }
     }

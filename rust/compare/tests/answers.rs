@@ -77,5 +77,5 @@ fn the_lists_are_the_crates() {
         assert!(again == std::fs::read(list.path()).unwrap(), "{:?} is another list", list.file_name());
         lists += 1;
     }
-    assert_eq!(lists, 12);
+    assert_eq!(lists, 13);
 }

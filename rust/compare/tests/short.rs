@@ -83,6 +83,19 @@ fn lists() {
 }
 
 #[test]
+fn every_cut() {
+    let counts = trial(&[0, 12], |t| t.every_cut(300));
+    assert!(counts.past_end > 10_000 && counts.longer > 1_000, "reads that take bits past the end, and reads that don't");
+}
+
+#[test]
+fn cut_inputs() {
+    let counts = trial(&[0, 9, 12, 13], |t| t.cuts(60_000));
+    assert!(counts.past_end > 30_000 && counts.most_past_end > 998, "zero planes and inclusions past the end");
+    assert!(counts.longer > 1_000 && counts.longer_eph > 100, "reads with more input");
+}
+
+#[test]
 fn short_inputs() {
     trial(&[0, 12], |t| t.short_inputs(7, 1));
 }

@@ -6,6 +6,9 @@ use std::collections::HashMap;
 pub const LANGUAGES: [(&str, &str); 3] =
     [("en", include_str!("../po/en.po")), ("de", include_str!("../po/de.po")), ("fr", include_str!("../po/fr.po"))];
 
+/// Stands in a sentence for the number of bits.
+const BITS: &str = "{bits}";
+
 /// Sentences and advice in one language, by context.
 pub struct Catalogue {
     entries: HashMap<String, String>,
@@ -29,9 +32,13 @@ impl Catalogue {
         self.entries.get(context).map(String::as_str).unwrap_or_default()
     }
 
-    /// One sentence that says what happened.
-    pub fn sentence(&self, message: Message) -> &str {
-        self.entry(&message.number().to_string())
+    /// One sentence that says what happened; a number of bits in it is the message's, or else N.
+    pub fn sentence(&self, message: Message) -> String {
+        let bits = match message {
+            Message::HeaderPast(Some(bits)) => bits.to_string(),
+            _ => "N".to_string(),
+        };
+        self.entry(&message.number().to_string()).replace(BITS, &bits)
     }
 
     /// What to do.
@@ -89,6 +96,18 @@ mod tests {
                 assert!(!catalogue.advice(message).is_empty(), "{language} {message:?} advice");
             }
             assert_eq!(catalogue.entries.len(), 2 * Message::all().len(), "{language}");
+        }
+    }
+
+    #[test]
+    fn bits_are_told() {
+        for (language, _) in LANGUAGES {
+            let catalogue = Catalogue::of(language).unwrap();
+            let said = |bits| catalogue.sentence(Message::HeaderPast(bits));
+            assert!(said(Some(998)).contains(" 998."), "{language}");
+            assert_eq!(said(None), said(Some(998)).replace("998", "N"), "{language}");
+            let placed = catalogue.entries.iter().filter(|(_, text)| text.contains(['{', '}'])).map(|(context, _)| &context[..]);
+            assert_eq!(placed.collect::<Vec<_>>(), ["123"], "{language}");
         }
     }
 

@@ -74,8 +74,8 @@ impl<'a> Check<'a> {
         ];
         let sentence = self.catalogue.sentence(note.message);
         let row = match self.form {
-            Form::Csv => format!("{},{},{}\n", quoted(self.name), fields.join(","), quoted(sentence)),
-            Form::Json => json_row(self.name, &fields, sentence),
+            Form::Csv => format!("{},{},{}\n", quoted(self.name), fields.join(","), quoted(&sentence)),
+            Form::Json => json_row(self.name, &fields, &sentence),
         };
         self.rows.push((note.offset, row));
     }

@@ -34,6 +34,8 @@ pub enum Message {
     Differs,
     /// A packet without contributions has a full header, with a first bit 1.
     FullHeader,
+    /// A packet's header goes past its tile-part or its packed headers, by so many bits; `None` where it is about no packet.
+    HeaderPast(Option<u64>),
 }
 
 impl Message {
@@ -41,7 +43,7 @@ impl Message {
     pub fn all() -> Vec<Message> {
         use Message::*;
         let own = [Sop, Eph, Unread, Foreign, Cut, Damaged, BodyPast, Missing, Left, ZeroPlanes, Packed, TooMany, Differs, FullHeader];
-        Refusal::ALL.iter().copied().map(Refused).chain(own).collect()
+        Refusal::ALL.iter().copied().map(Refused).chain(own).chain([HeaderPast(None)]).collect()
     }
 
     pub fn number(self) -> u32 {
@@ -62,6 +64,7 @@ impl Message {
             // 120 is not used: rows that archives keep have it for a single 0 bit.
             Message::Differs => 121,
             Message::FullHeader => 122,
+            Message::HeaderPast(_) => 123,
         }
     }
 

@@ -59,9 +59,9 @@ impl<'a> Sheet<'a> {
             Form::Csv => {
                 let lists = lists.map(|list| list.join(" "));
                 let _ =
-                    writeln!(self.rows, "{},{},{},{message},{}", quoted(self.name), fields.join(","), lists.join(","), quoted(sentence));
+                    writeln!(self.rows, "{},{},{},{message},{}", quoted(self.name), fields.join(","), lists.join(","), quoted(&sentence));
             }
-            Form::Json => json_row(&mut self.rows, self.name, &fields, &lists, &message, sentence),
+            Form::Json => json_row(&mut self.rows, self.name, &fields, &lists, &message, &sentence),
         }
     }
 }

@@ -371,7 +371,8 @@ struct Read {
     packed: Option<Vec<u8>>,
 }
 
-/// Reads the packet whose turn it is from the front of `src`, its header from `packed` where that is used.
+/// Reads the packet whose turn it is from the front of `src`, its header from `packed` where that is used. A header that is not all there
+/// tells nothing; the reader's words behind it are no packet's.
 fn read(started: &mut Started, settings: &Settings, turn: Turn, src: &[u8], packed: &mut Option<VecDeque<u8>>) -> Result<Read, Message> {
     let precinct = started.turns.precincts()[turn.precinct];
     let opened = match &mut started.opened[turn.precinct] {
@@ -382,13 +383,23 @@ fn read(started: &mut Started, settings: &Settings, turn: Turn, src: &[u8], pack
         }
     };
     let markers = Markers { sop: started.general.sop, eph: started.general.eph };
-    match packed {
-        Some(packed) => read_packed(&mut opened.reader, markers, src, packed),
+    let read = match packed {
+        Some(packed) => read_packed(&mut opened.reader, markers, src, packed)?,
         None => {
+            let src = if markers.sop && is_cut_sop(src) { &[] } else { src };
             let packet = opened.reader.read(src, markers).map_err(Message::Refused)?;
-            Ok(Read { before: packet.taken, packet, markers, packed: None })
+            Read { before: packet.taken, packet, markers, packed: None }
         }
+    };
+    match read.packet.bits_past_end {
+        0 => Ok(read),
+        bits => Err(Message::HeaderPast(Some(bits))),
     }
+}
+
+/// A part of SOP and nothing behind it. No header is so: behind its byte FF a high bit is 0, and behind a last FF there is a byte.
+fn is_cut_sop(src: &[u8]) -> bool {
+    src == [0xff] || (src.len() < 6 && src.starts_with(&[0xff, 0x91]))
 }
 
 /// Reads a header from `packed` and takes it away; SOP, if used, stands before the body in `src`.

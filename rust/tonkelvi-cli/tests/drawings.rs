@@ -263,8 +263,8 @@ fn several_codestreams_in_boxes() {
     assert_eq!(two.packets.len(), 2 * one.packets.len());
 }
 
-/// A codestream whose packets have SOP, with the headers moved to PPM, or else to PPT.
-fn packed(file: &[u8], in_main: bool) -> Vec<u8> {
+/// A codestream whose packets have SOP, with the headers moved to PPM, or else to PPT; those of each tile-part lack so many last bytes.
+fn packed(file: &[u8], in_main: bool, missing: usize) -> Vec<u8> {
     let found = found(file);
     let mut packets = found.packets.iter().zip(&found.headers).peekable();
     let first = file.windows(4).position(|four| four == [0xff, 0x90, 0, 10]).unwrap();
@@ -276,6 +276,7 @@ fn packed(file: &[u8], in_main: bool) -> Vec<u8> {
             bodies.extend(&file[packet.start..packet.start + 6]);
             bodies.extend(&file[packet.start + header..packet.end]);
         }
+        headers.truncate(headers.len().saturating_sub(missing));
         let mut head = file[at..part.start - 2].to_vec();
         if in_main {
             main.extend((headers.len() as u32).to_be_bytes());
@@ -300,7 +301,7 @@ fn packed_headers() {
     for name in ["openjpeg_RPCL.j2k", "grok_LRCP.j2k", "ffmpeg_cprl.j2k"] {
         let file = std::fs::read(Path::new(env!("CARGO_MANIFEST_DIR")).join("tests/drawings").join(name)).unwrap();
         for in_main in [true, false] {
-            let packed = packed(&file, in_main);
+            let packed = packed(&file, in_main, 0);
             let (before, after) = (found(&file), found(&packed));
             assert!(after.notes.is_empty() && after.messages.is_empty(), "{name} {in_main} {:?} {:?}", after.notes, after.messages);
             let headers: Vec<usize> = before.headers.iter().map(|header| header - 6).collect();
@@ -313,6 +314,30 @@ fn packed_headers() {
                 damaged[place] ^= 0x11;
                 Check::of(name, Form::Csv, &english, Some(&damaged));
             }
+        }
+    }
+}
+
+/// Packed headers that end in a header: it is told, and of the other packets nothing else.
+#[test]
+fn packed_headers_that_are_cut() {
+    for name in ["openjpeg_RPCL.j2k", "grok_LRCP.j2k", "ffmpeg_cprl.j2k"] {
+        let file = std::fs::read(Path::new(env!("CARGO_MANIFEST_DIR")).join("tests/drawings").join(name)).unwrap();
+        for in_main in [true, false] {
+            let whole = found(&packed(&file, in_main, 0));
+            let mut cut_headers = 0;
+            for missing in 1..40 {
+                let cut = found(&packed(&file, in_main, missing));
+                assert!(cut.packets.len() < whole.packets.len() || !cut.messages.is_empty(), "{name} {in_main} {missing}");
+                cut_headers += cut.notes.iter().filter(|note| matches!(note.message, Message::HeaderPast(Some(1..)))).count();
+                for told in cut.headers.iter().zip(&cut.segments) {
+                    // EPH is cut off where the mark says so
+                    let full =
+                        |(header, segments)| (header, segments) == told || (header - 2..*header).contains(told.0) && segments == told.1;
+                    assert!(whole.headers.iter().zip(&whole.segments).any(full), "{name} {in_main} {missing}");
+                }
+            }
+            assert!(cut_headers > 0, "{name} {in_main}");
         }
     }
 }

@@ -42,6 +42,10 @@ pub struct Packet {
     pub taken: usize,
     pub sop: Mark,
     pub eph: Mark,
+    /// Bits of the header that were taken past the end of the input, where each is 0; stuffed bits are not counted. Unless it is 0 the
+    /// header is cut off, and what it seems to say is in part made up. If it is 0, more input changes nothing that is told here, but where
+    /// a marker had too few bytes.
+    pub bits_past_end: u64,
     /// One for each block, band by band and row by row.
     pub blocks: Vec<Block>,
     pub segments: Vec<Segment>,
@@ -64,7 +68,9 @@ impl Packet {
 /// let packet = reader.read(&[0xfe, 0xad, 0xff, 0x00], Markers { sop: false, eph: true })?;
 /// assert_eq!((packet.taken, packet.eph), (4, Mark::TooFewBytes));
 /// assert_eq!(packet.blocks, [Block::First { zero_planes: 0, planes: 5, passes: 16 }]);
-/// assert_eq!(packet.body(), 511);
+/// assert_eq!((packet.body(), packet.bits_past_end), (511, 0));
+/// let cut = Reader::new(&[Band { across: 1, down: 1, planes: 5 }], 0)?.read(&[0xfe, 0xad], Markers::NONE)?;
+/// assert_eq!((cut.body(), cut.bits_past_end), (256, 8));
 /// # Ok::<(), Refusal>(())
 /// ```
 #[derive(Clone, PartialEq, Eq, Debug)]
@@ -135,8 +141,8 @@ impl Reader {
         }
     }
 
-    fn read_words(&mut self, src: &[u8], markers: Markers) -> Result<[u64; 5], Refusal> {
-        let mut answer = [0; 5];
+    fn read_words(&mut self, src: &[u8], markers: Markers) -> Result<[u64; 6], Refusal> {
+        let mut answer = [0; 6];
         checked(words::read(
             &mut self.state,
             &mut self.scratch,
@@ -164,12 +170,13 @@ impl Reader {
         self.work.resize(4 * records, 0);
     }
 
-    fn packet(&self, [present, taken, segments, sop, eph]: [u64; 5]) -> Packet {
+    fn packet(&self, [present, taken, segments, sop, eph, bits_past_end]: [u64; 6]) -> Packet {
         Packet {
             present: present != 0,
             taken: taken as usize,
             sop: mark(sop),
             eph: mark(eph),
+            bits_past_end,
             blocks: self.reports.chunks_exact(4).map(block).collect(),
             segments: self.records.iter().take(segments as usize).map(segment).collect(),
         }

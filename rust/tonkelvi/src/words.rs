@@ -213,8 +213,8 @@ pub fn write(
     }
 }
 
-/// Reads a packet's header. `work` is a work list of four words for each record. `answer` has five words: present, bytes taken,
-/// segments, SOP mark, EPH mark.
+/// Reads a packet's header. `work` is a work list of four words for each record. `answer` has six words: present, bytes taken,
+/// segments, SOP mark, EPH mark, bits past the end.
 #[allow(clippy::too_many_arguments)]
 pub fn read(
     state: &mut [u32],

@@ -1,4 +1,4 @@
-/* Packets A, with both markers, and K, and a packet of the last layer, by the calls of include/tonkelvi.h alone, as C and as C++; ends with
+/* Packets A, with both markers, K, D and a packet of the last layer, by the calls of include/tonkelvi.h alone, as C and as C++; ends with
  * 0 where every answer is right. With an argument it writes the version and the sentences of all refusals, a line each, instead. */
 #include "tonkelvi.h"
 
@@ -32,18 +32,43 @@ static int starts(void) {
     const struct tonkelvi_segment wanted[3] = {{0, 1, 1, 5, 0}, {1, 1, 1, 5, 5}, {7, 7, 7, 7, 7}}, wiped = {0, 0, 0, 0, 0};
     struct tonkelvi_segment records[3] = {{7, 7, 7, 7, 7}, {7, 7, 7, 7, 7}, {7, 7, 7, 7, 7}};
     uint32_t state[39], scratch[39], reports[8], work[12];
-    uint64_t answer[5];
+    uint64_t answer[6];
 
     EXPECT(tonkelvi_start_reader(1, bands, 9, 0, NULL, 0, state, 39) == 0);
-    EXPECT(tonkelvi_read(state, 39, scratch, 39, header, 3, false, false, reports, 8, work, 12, records, 3, answer, 5) == 0);
-    EXPECT(answer[2] == 2 && memcmp(records, wanted, sizeof wanted) == 0);
-    EXPECT(tonkelvi_read(state, 39, scratch, 39, NULL, 0, false, false, reports, 8, work, 12, records, 3, answer, 5) == 0);
-    EXPECT(answer[2] == 0 && memcmp(records, wanted, sizeof wanted) == 0);
+    EXPECT(tonkelvi_read(state, 39, scratch, 39, header, 3, false, false, reports, 8, work, 12, records, 3, answer, 6) == 0);
+    EXPECT(answer[2] == 2 && answer[5] == 0 && memcmp(records, wanted, sizeof wanted) == 0);
+    EXPECT(tonkelvi_read(state, 39, scratch, 39, NULL, 0, false, false, reports, 8, work, 12, records, 3, answer, 6) == 0);
+    EXPECT(answer[2] == 0 && answer[5] == 1 && memcmp(records, wanted, sizeof wanted) == 0);
     EXPECT(tonkelvi_start_reader(1, bands, 9, 0, NULL, 0, state, 39) == 0);
-    EXPECT(tonkelvi_read(state, 39, scratch, 39, header, 3, false, false, reports, 8, work, 4, records + 1, 1, answer, 5)
+    EXPECT(tonkelvi_read(state, 39, scratch, 39, header, 3, false, false, reports, 8, work, 4, records + 1, 1, answer, 6)
            == TONKELVI_RECORDS);
     EXPECT(memcmp(&records[0], &wanted[0], sizeof wiped) == 0 && memcmp(&records[1], &wiped, sizeof wiped) == 0);
     EXPECT(memcmp(&records[2], &wanted[2], sizeof wiped) == 0);
+    return 0;
+}
+
+/* Packet D whole and cut: bits past the end; with an answer of another length, nothing changes. */
+static int past_end(void) {
+    const uint32_t bands[9] = {1, 1, 5, 0, 0, 0, 0, 0, 0};
+    const uint8_t header[4] = {0xff, 0x78, 0x06, 0x40};
+    const uint64_t past[5] = {1, 12, 13, 5, 0};
+    struct tonkelvi_segment record;
+    uint32_t fresh[23], state[23], scratch[23], reports[4], work[4];
+    uint64_t answer[7] = {9, 9, 9, 9, 9, 9, 9};
+    size_t n;
+
+    EXPECT(tonkelvi_start_reader(1, bands, 9, 0, NULL, 0, fresh, 23) == 0);
+    memcpy(state, fresh, sizeof fresh);
+    for (n = 0; n < 8; n++) {
+        if (n == 6) continue;
+        EXPECT(tonkelvi_read(state, 23, scratch, 23, header, 4, false, false, reports, 4, work, 4, &record, 1, answer, n) == TONKELVI_LIST);
+        EXPECT(memcmp(state, fresh, sizeof fresh) == 0 && answer[0] == 9 && answer[5] == 9 && answer[6] == 9);
+    }
+    for (n = 0; n < 5; n++) {
+        memcpy(state, fresh, sizeof fresh);
+        EXPECT(tonkelvi_read(state, 23, scratch, 23, header, n, false, false, reports, 4, work, 4, &record, 1, answer, 6) == 0);
+        EXPECT(answer[1] == n && answer[5] == past[n] && answer[6] == 9);
+    }
     return 0;
 }
 
@@ -55,7 +80,7 @@ static int last_layer(void) {
     struct tonkelvi_segment record;
     static uint8_t output[8198];
     uint32_t state[23], scratch[23], reports[4], work[4];
-    uint64_t answer[5];
+    uint64_t answer[6];
 
     EXPECT(tonkelvi_start_writer(1, bands, 9, 0, planes, 1, state, 23) == 0 && state[13] == 65535 && state[16] == 0);
     state[3] = 65534;
@@ -69,9 +94,9 @@ static int last_layer(void) {
 
     EXPECT(tonkelvi_start_reader(1, bands, 9, 0, NULL, 0, state, 23) == 0 && state[13] == 65535 && state[16] == 999);
     state[3] = 65534;
-    EXPECT(tonkelvi_read(state, 23, scratch, 23, output, 8198, false, false, reports, 4, work, 4, &record, 1, answer, 5) == 0);
+    EXPECT(tonkelvi_read(state, 23, scratch, 23, output, 8198, false, false, reports, 4, work, 4, &record, 1, answer, 6) == 0);
     EXPECT(answer[1] == 8193 && answer[2] == 1 && reports[0] == 1 && record.bytes == 5);
-    EXPECT(tonkelvi_read(state, 23, scratch, 23, output, 8198, false, false, reports, 4, work, 4, &record, 1, answer, 5)
+    EXPECT(tonkelvi_read(state, 23, scratch, 23, output, 8198, false, false, reports, 4, work, 4, &record, 1, answer, 6)
            == TONKELVI_LAYERS);
     state[3] = 65536;
     EXPECT(tonkelvi_describe(state, 23, answer, 3) == TONKELVI_STATE);
@@ -88,7 +113,7 @@ int main(int argc, char **argv) {
     struct tonkelvi_segment records[2] = {{7, 7, 7, 7, 7}, {7, 7, 7, 7, 7}};
     uint32_t reports[4], work[9];
     uint8_t output[14];
-    uint64_t answer[5];
+    uint64_t answer[6];
 
     (void)argv;
     if (argc > 1) return texts();
@@ -115,19 +140,20 @@ int main(int argc, char **argv) {
     EXPECT(tonkelvi_describe(state, n, answer, 3) == 0 && answer[0] == 1 && answer[1] == 1 && answer[2] == 1);
 
     EXPECT(tonkelvi_start_reader(1, bands, 9, 0, NULL, 0, state, n) == 0);
-    EXPECT(tonkelvi_read(state, n, scratch, n, packet, 14, true, true, reports, 4, NULL, 0, NULL, 0, answer, 5) == TONKELVI_RECORDS);
-    EXPECT(tonkelvi_read(state, n, scratch, n, packet, 14, true, true, reports, 4, work, 7, records, 2, answer, 5) == TONKELVI_LIST);
-    EXPECT(tonkelvi_read(state, n, scratch, n, packet, 14, true, true, reports, 4, work, 9, records, 2, answer, 5) == TONKELVI_LIST);
+    EXPECT(tonkelvi_read(state, n, scratch, n, packet, 14, true, true, reports, 4, NULL, 0, NULL, 0, answer, 6) == TONKELVI_RECORDS);
+    EXPECT(tonkelvi_read(state, n, scratch, n, packet, 14, true, true, reports, 4, work, 7, records, 2, answer, 6) == TONKELVI_LIST);
+    EXPECT(tonkelvi_read(state, n, scratch, n, packet, 14, true, true, reports, 4, work, 9, records, 2, answer, 6) == TONKELVI_LIST);
     EXPECT(memcmp(records, &unused, sizeof unused) == 0);
-    EXPECT(tonkelvi_read(state, n, scratch, n, packet, 14, true, true, reports, 4, work, 8, records, 2, answer, 5) == 0);
-    EXPECT(answer[0] == 1 && answer[1] == 9 && answer[2] == 1 && answer[3] == 0 && answer[4] == 0);
+    EXPECT(tonkelvi_read(state, n, scratch, n, packet, 14, true, true, reports, 4, work, 8, records, 2, answer, 6) == 0);
+    EXPECT(answer[0] == 1 && answer[1] == 9 && answer[2] == 1 && answer[3] == 0 && answer[4] == 0 && answer[5] == 0);
     EXPECT(memcmp(reports, report, sizeof report) == 0);
     EXPECT(memcmp(&records[0], &record, sizeof record) == 0 && memcmp(&records[1], &unused, sizeof unused) == 0);
-    EXPECT(tonkelvi_read(state, n, scratch, n, NULL, 0, false, false, reports, 4, work, 8, records, 2, answer, 5) == 0);
-    EXPECT(answer[0] == 0 && answer[1] == 0);
+    EXPECT(tonkelvi_read(state, n, scratch, n, NULL, 0, false, false, reports, 4, work, 8, records, 2, answer, 6) == 0);
+    EXPECT(answer[0] == 0 && answer[1] == 0 && answer[5] == 1);
     EXPECT(tonkelvi_describe(state, n, answer, 3) == 0 && answer[0] == 2 && answer[1] == 2 && answer[2] == 1);
     free(state);
     free(scratch);
     int failed = starts();
+    if (!failed) failed = past_end();
     return failed ? failed : last_layer();
 }

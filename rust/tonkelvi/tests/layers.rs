@@ -72,6 +72,7 @@ fn all_of_them_there_and_back() {
         let read = reader.read(&packet, markers).unwrap();
         let present = layer.counts != [0; 4];
         assert_eq!((read.present, read.sop, read.eph, read.taken), (present, Mark::InOrder, Mark::InOrder, packet.len() - body.len()));
+        assert_eq!(read.bits_past_end, 0, "layer {number}");
         assert_eq!(packet.len() == 1, !present && markers == Markers::NONE, "layer {number}");
         assert_eq!((read.blocks, read.segments), (layer.reports, layer.segments), "layer {number}");
         so_far.iter_mut().zip(layer.counts).for_each(|(sum, count)| *sum += count);
@@ -91,9 +92,9 @@ fn ended(writer: &[u32], reader: &[u32]) {
     assert_eq!((written, &state[..], output, answer), (6, writer, [7; 99], [0; 2]));
     assert_eq!(scratch, vec![7; writer.len()]);
     let record = Record { block: 7, opens: 7, passes: 7, bytes: 7, start: 7 };
-    let (mut state, mut reports, mut work, mut records, mut answer) = (reader.to_vec(), [7; 16], [7; 8], [record; 2], [7; 5]);
+    let (mut state, mut reports, mut work, mut records, mut answer) = (reader.to_vec(), [7; 16], [7; 8], [record; 2], [7; 6]);
     let read = words::read(&mut state, &mut scratch, &[0xe5], false, false, &mut reports, &mut work, &mut records, &mut answer);
-    assert_eq!((read, &state[..], reports, work, records, answer), (6, reader, [7; 16], [7; 8], [record; 2], [0; 5]));
+    assert_eq!((read, &state[..], reports, work, records, answer), (6, reader, [7; 16], [7; 8], [record; 2], [0; 6]));
     assert_eq!(scratch, vec![7; reader.len()]);
     assert_eq!((writer[3], reader[3]), (LAYERS, LAYERS));
 }
@@ -126,6 +127,9 @@ fn a_bit_for_each_layer_before() {
     let mut header = vec![0; 8193];
     (header[0], header[8191], header[8192]) = (0x80, 0x01, 0x94);
     assert_eq!(packet, [&header[..], b"hello"].concat());
+    // Behind the first bit a zero for each of 65,535 layers, seven of them in the first byte.
+    let cut = reader.clone().read(&packet[..1], Markers::NONE).unwrap();
+    assert_eq!((cut.taken, cut.bits_past_end, cut.blocks), (1, u64::from(LAYERS) - 7, vec![Block::Absent]));
     let read = reader.read(&packet, Markers::NONE).unwrap();
     assert_eq!((read.taken, read.blocks, read.segments.len()), (8193, vec![Block::First { zero_planes: 0, planes: 5, passes: 1 }], 1));
     assert_eq!((writer.next_layer(), reader.next_layer()), (LAYERS, LAYERS));

@@ -69,7 +69,7 @@ impl Lent {
         let mut state = vec![0; words::state_length(1, &bands)];
         assert_eq!(words::start_reader(1, &bands, style, &[], &mut state), 0);
         let (scratch, records) = (state.clone(), (0..records as u32).map(old).collect::<Vec<_>>());
-        Lent { state, scratch, reports: vec![9; 8], work: vec![9; 4 * records.len()], records, answer: vec![9; 5] }
+        Lent { state, scratch, reports: vec![9; 8], work: vec![9; 4 * records.len()], records, answer: vec![9; 6] }
     }
 
     fn read(&mut self, src: &[u8]) -> u32 {
@@ -157,7 +157,7 @@ fn refusals_9_12_and_13_wipe() {
     let reads = [(9, 0x04, 12, &wide[..]), (9, 0x04, 1, &wide_at_once), (12, 0, 3, &cut), (13, 0, 1, &TWO_BLOCKS), (13, 0x04, 9, &ten)];
     for (number, style, records, src) in reads {
         let mut lent = Lent::new(style, records);
-        assert_eq!((lent.read(src), lent.records), (number, vec![Segment::default(); records]));
+        assert_eq!((lent.read(src), lent.records, lent.answer), (number, vec![Segment::default(); records], vec![0; 6]));
     }
     let mut lent = Lent::new(0, 3);
     assert_eq!(lent.read(&[&cut[..], &[0]].concat()), 0);
@@ -168,13 +168,14 @@ type Spoil = fn(&mut Lent);
 
 #[test]
 fn refusals_5_6_and_3_change_nothing() {
-    let spoils: [(u32, Spoil); 6] = [
+    let spoils: [(u32, Spoil); 7] = [
         (5, |lent| lent.state[0] = 1),
         (5, |lent| lent.scratch.truncate(38)),
         (6, |lent| lent.state[3] = 65_535),
         (3, |lent| lent.reports.push(9)),
         (3, |lent| lent.work.truncate(15)),
         (3, |lent| lent.answer.push(9)),
+        (3, |lent| lent.answer.truncate(5)),
     ];
     for (number, spoil) in spoils {
         let mut lent = Lent::new(0, 4);

@@ -203,7 +203,7 @@ mod timed {
 
         fn engine_reads(&mut self, check: bool) -> Duration {
             let Lent { states, scratch, reports, work, records, .. } = &mut self.lent;
-            let mut answer = [0; 5];
+            let mut answer = [0; 6];
             let mut total = Duration::ZERO;
             let begin = Instant::now();
             for state in states.iter_mut() {

@@ -26,6 +26,8 @@ fn main() {
     part("largest", &|t| t.largest(share(1) as u32 / 20_000 + 2));
     part("shapes", &|t| t.shapes(if calls < 4_000_000 { 61 } else { 1 }));
     part("counts and lengths", &|t| t.counts_and_lengths(1));
+    part("every cut", &|t| t.every_cut(share(1) / 10 + 10));
+    part("cut inputs", &|t| t.cuts(share(110)));
     part("wide fields", &|t| t.wide_fields());
     part("long bodies", &|t| t.long_bodies(share(2)));
     part("short inputs", &|t| t.short_inputs(if calls < 4_000_000 { 1 } else { 3 }, 2));
