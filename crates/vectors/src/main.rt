@@ -704,7 +704,8 @@ fn expect_answer(list: &[u8], at: usize, r: ReadAnswer) -> Compared {
     let c = expect(list, b, r.taken);
     let d = expect(list, c, r.segments);
     let e = expect(list, d, r.sop as u64);
-    expect(list, e, r.eph as u64)
+    let f = expect(list, e, r.eph as u64);
+    expect(list, f, r.past)
 }
 
 // The start of each segment, as a struct has it that is stored from the records' numbers.
