@@ -27,6 +27,8 @@ rows() {
     row "the statement of fewer layers" "t800/specs/FewerLayers.antt" $specs/FewerLayers.antt
     row "the statements of packets without passes" "empty_packets/specs/WithoutPasses.antt, LaterPackets.antt" \
         crates/empty_packets/specs/WithoutPasses.antt crates/empty_packets/specs/LaterPackets.antt
+    row "the statements of bits past the input's end" "past_end/specs/PastEnd.antt, and bits_taken/specs/Taken.antt for bits taken one after another" \
+        crates/past_end/specs/PastEnd.antt crates/bits_taken/specs/Taken.antt
     row "the statement of the walk down" "tgt/specs/Walk.antt, and Path.antt for what contracts call a path" \
         crates/tgt/specs/Walk.antt crates/tgt/specs/Path.antt
     row "what the calls and the exported calls are as interfaces" "theorems/specs/; the record \`exports\` at the end of theorems/proofs/Exports.antt puts it together" \
@@ -45,7 +47,7 @@ rows | while IFS= read -r line; do
 done
 # Each module of the definitions is in one of the rows.
 for file in crates/t800/specs/*.antt crates/tgt/specs/*.antt crates/theorems/specs/*.antt crates/t2_layer/specs/*.antt \
-    crates/empty_packets/specs/*.antt; do
+    crates/empty_packets/specs/*.antt crates/past_end/specs/*.antt crates/bits_taken/specs/*.antt; do
     name=$(basename "$file")
     [ "$name" = Lib.antt ] || grep -q "/$name" tools/believed.sh || { echo "$file is in no row of tools/believed.sh" >&2; exit 1; }
 done
