@@ -74,17 +74,21 @@ ephAgain form m src r =
       past = a .past;
     })
 
--- An accepted read that took no bit past the end, whose SOP had its six bytes or isn't used: with more input it answers and leaves the
--- same; but where EPH had too few bytes it is looked for again, and nothing else changes.
-unfoldable pub MoreInput : Type 1
-MoreInput =
-    (form : RecordForm) (state scratch : Words) (m : Markers) (src more : Bytes) (reports : Words) (records : form .Lent)
-    → let r = read form state scratch m src reports records in
-    let longer = read form state scratch m (src ++ more) reports records in
+-- What holds of the result r of a read and the result of the same read with more input, of which src is all. Where r is accepted, took no
+-- bit past the end, and its SOP had its six bytes or isn't used: with more input the read answers and leaves the same; but where EPH had too
+-- few bytes it is looked for again, and nothing else changes.
+abbrev pub SameWithMore : (form : RecordForm) → Markers → (src : Bytes) (r longer : ReadResult form) → Type 0
+SameWithMore form m src r longer =
     r .answer .refusal ≡ 0
     → r .answer .past ≡ 0
     → r .answer .sop ≢ 1
-    → (r .answer .eph ≢ 1 → longer ≡ r) × (r .answer .eph ≡ 1 → longer ≡ ephAgain form m (src ++ more) r)
+    → (r .answer .eph ≢ 1 → longer ≡ r) × (r .answer .eph ≡ 1 → longer ≡ ephAgain form m src r)
+
+unfoldable pub MoreInput : Type 1
+MoreInput =
+    (form : RecordForm) (state scratch : Words) (m : Markers) (src more : Bytes) (reports : Words) (records : form .Lent)
+    → SameWithMore form m (src ++ more) (read form state scratch m src reports records)
+    (read form state scratch m (src ++ more) reports records)
 
 -- ---- the same of the calls of every interface that meets the definitions
 
@@ -102,12 +106,7 @@ unfoldable pub MoreInputOf : Interface → Type 0
 MoreInputOf I =
     (m n : I .reads .Made) (more : Bytes)
     → let c = I .reads .args m in
-    let r = I .reads .left m in
     I .reads .found n ≡ I .reads .found m
     → I .reads .args n ≡ withMore (I .form) c more
     → I .reads .asked n ≡ true
-    → r .answer .refusal ≡ 0
-    → r .answer .past ≡ 0
-    → r .answer .sop ≢ 1
-    → (r .answer .eph ≢ 1 → I .reads .left n ≡ r)
-    × (r .answer .eph ≡ 1 → I .reads .left n ≡ ephAgain (I .form) (c .markers) (c .input ++ more) r)
+    → SameWithMore (I .form) (c .markers) (c .input ++ more) (I .reads .left m) (I .reads .left n)
