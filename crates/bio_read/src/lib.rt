@@ -1,6 +1,6 @@
 // Bits of a packet header out of bytes, high bit first, without the 0 that is stuffed after a byte FF (bio.rs).
 ghost use mathlib.Core.Path.{_≡_};
-ghost use Prim.Native.Nat.{_+_, _≤_, min};
+ghost use Prim.Native.Nat.{_+_, _≤_, max, min};
 ghost use lib.ListN.{length};
 ghost use Rattle.t800.specs.Bits.{reach, bioAt, byteIn, getBit, readBit, readBits};
 ghost use Rattle.bio_read.specs.Chunks.{refill, heldBits};
@@ -43,13 +43,14 @@ fn wide(byte: u8) -> u32
 
 // The place after one that lies past the input's end.
 fn place_past(src: &[u8], bp: usize) -> usize
-    ensures { λ r. ⌜ r ≡ min (bp + 1) (length (now (src .entry)) + reach) ⌝ }
+    requires { ⌜ length (now src) ≤ bp ⌝ }
+    ensures { λ r. ⌜ r ≡ max bp (min (bp + 1) (length (now (src .entry)) + reach)) ⌝ }
 {
-    let last = src.len() + REACH;
-    if bp < last {
+    let beyond = bp - src.len();
+    if beyond < REACH {
         return bp + 1;
     }
-    last
+    bp
 }
 
 pub fn opj_bio_bytein(src: &[u8], b: Bio) -> Bio

@@ -82,8 +82,9 @@ module _ (src more : List ℕ) where
   byte-inside b h =
       let l : b .bp < length src = omega arith in
       let n = length-append src more in
-      let e : min (b .bp + 1) (length longer + reach) ≡ min (b .bp + 1) (length src + reach) = omega arith in
-      rw (e, List·getD-append src more 0 (b .bp) l)
+      let e : max (b .bp) (min (b .bp + 1) (length longer + reach)) ≡ b .bp + 1 = omega arith in
+      let f : max (b .bp) (min (b .bp + 1) (length src + reach)) ≡ b .bp + 1 = omega arith in
+      rw (e, f, List·getD-append src more 0 (b .bp) l)
 
   same-by : (b : Bio) (t : Bool) → heldBit (cond t (byteIn src b) b) .bio .bp ≤ length src
       → heldBit (cond t (byteIn longer b) b) ≡ heldBit (cond t (byteIn src b) b)

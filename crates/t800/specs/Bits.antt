@@ -1,6 +1,6 @@
 -- Bits and bytes of a packet header (T.800, B.10.1; SCOPE S13): bits fill bytes from the high end, and after a byte FF
 -- the next byte's high bit is a stuffed 0. A bit is the number 0 or 1.
-use Prim.Native.Nat.{ℕ, zero, suc, _+_, _-_, _*_, _/_, _%_, _^_, min}
+use Prim.Native.Nat.{ℕ, zero, suc, _+_, _-_, _*_, _/_, _%_, _^_, max, min}
 use mathlib.Core.Bool.{Bool, cond, _&&_}
 use mathlib.Core.List.{[], _∷_}
 use lib.ListN.{length, getD}
@@ -48,11 +48,15 @@ abbrev pub reach : ℕ
 reach = 2 ^ 40
 
 -- The held word is moved up by eight and cut to sixteen bits, and the next byte moves in, a 0 past the end. After FF seven bits
--- of it count.
+-- of it count. The place goes on by one, but not out of reach.
 unfoldable pub byteIn : (src : Bytes) → Bio → Bio
 byteIn src b =
     let moved = b .buf * 256 % 65536 in
-    record { bp = min (b .bp + 1) (length src + reach); buf = moved + getD src (b .bp) 0; ct = cond (eqb moved 0xff00) 7 8 }
+    record {
+      bp = max (b .bp) (min (b .bp + 1) (length src + reach));
+      buf = moved + getD src (b .bp) 0;
+      ct = cond (eqb moved 0xff00) 7 8;
+    }
 
 -- the next bit of the held word
 unfoldable pub heldBit : Bio → Decoded

@@ -3,7 +3,7 @@ use mathlib.Core.Path.{_≡_, refl, sym, ap, _∙_, subst, subst₂}
 use mathlib.Core.Logic.{_≢_}
 use mathlib.Core.Bool.{Bool, true, false, cond, _&&_}
 use mathlib.Core.List.{List}
-use Prim.Native.Nat.{ℕ, zero, suc, _+_, _-_, _*_, _%_, _^_, _≤_, _<_, min}
+use Prim.Native.Nat.{ℕ, zero, suc, _+_, _-_, _*_, _%_, _^_, _≤_, _<_, max, min}
 use native.Mathlib.Nat.{le-refl, zero-add, add-zero}
 use native.Mathlib.Omega.{arith}
 use lib.ListN.{length, getD, List·getD-eq-default}
@@ -34,7 +34,7 @@ on-bit : (P : Bio → Type 0) (src : List ℕ) (b : Bio) → b .bp < length src 
     → P (getBit src b .bio)
 unfolding getBit heldBit byteIn
 on-bit P src b h f g =
-    let m : min (b .bp + 1) (length src + 2 ^ 40) ≡ b .bp + 1 = omega arith in
+    let m : max (b .bp) (min (b .bp + 1) (length src + 2 ^ 40)) ≡ b .bp + 1 = omega arith in
     on-eq (b .ct) 0 (λ z. rw (if-eq (b .ct) 0 (byteIn src b) b z, m) (g z)) (λ z. rw (if-ne (b .ct) 0 (byteIn src b) b z) (f z))
 
 bit-place : (src : List ℕ) (b : Bio) → b .bp < length src + reach → getBit src b .bio .bp ≤ b .bp + 1

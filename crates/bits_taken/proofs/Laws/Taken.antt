@@ -44,7 +44,7 @@ bit-inside : (src : List ℕ) (b : Bio) → getBit src b .bio .bp ≤ length src
 unfolding getBit heldBit byteIn
 bit-inside src b h =
     on-eq (b .ct) 0
-    (λ z. let g : min (b .bp + 1) (length src + 2 ^ 40) ≤ length src = rw (if-eq (b .ct) 0 (byteIn src b) b z) at h in omega arith)
+    (λ z. let g : max (b .bp) (min (b .bp + 1) (length src + 2 ^ 40)) ≤ length src = rw (if-eq (b .ct) 0 (byteIn src b) b z) at h in omega arith)
     (λ z. rw (if-ne (b .ct) 0 (byteIn src b) b z) at h)
 
 -- ---- bits one after another

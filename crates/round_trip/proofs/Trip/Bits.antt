@@ -4,7 +4,7 @@ use mathlib.Core.Path.{_≡_, refl, sym, ap, _∙_, subst}
 use mathlib.Core.Logic.{_≢_}
 use mathlib.Core.Bool.{Bool, true, false, cond}
 use mathlib.Core.List.{List, [], _∷_, _++_}
-use Prim.Native.Nat.{ℕ, zero, suc, _+_, _-_, _*_, _/_, _%_, _^_, _≤_, _<_, min}
+use Prim.Native.Nat.{ℕ, zero, suc, _+_, _-_, _*_, _/_, _%_, _^_, _≤_, _<_, max, min}
 use native.Mathlib.Nat.{pow-suc, mul-le-mul-right, le-of-suc-le-suc, add-zero, zero-add}
 use native.Mathlib.Omega.{arith}
 use lib.ListN.{length, getD, drop, replicate, List·getD-eq-default}
@@ -122,7 +122,7 @@ byte-in : (s : List ℕ) (q u : ℕ) → q < length s → byteIn s (bioWith q u 
 unfolding byteIn
 byte-in s q u h =
     let e : u * 256 % 65536 ≡ u % 256 * 256 = omega arith in
-    let p : min (q + 1) (length s + reach) ≡ suc q = omega arith in
+    let p : max q (min (q + 1) (length s + reach)) ≡ suc q = omega arith in
     rw (e, span-shifted (u % 256), p)
 
 -- of the next byte
