@@ -109,11 +109,16 @@ pub fn opj_bio_getbit(src: &[u8], b: Bio) -> BitRead
     requires { ⌜ b .ct ≤ 8 ⌝ }
     ensures { λ r. ⌜ bitRead r ≡ readBit (now (src .entry)) b ⌝ }
 {
-    let r = one_bit(src, b);
-    let bio = r.bio;
+    let m = refill(src, b);
+    let ct = m.ct - 1;
     let bit = Bit {
-        value: r.value,
-        past: src.len() < bio.bp,
+        value: (m.buf >> ct) & 1,
+        past: src.len() < m.bp,
+    };
+    let bio = Bio {
+        bp: m.bp,
+        buf: m.buf,
+        ct,
     };
     BitRead { bit, bio }
 }
