@@ -14,6 +14,7 @@ use Rattle.t800.specs.Bits.{bioAt, reach, byteIn, heldBit, getBit, pastEnd, rea
 use Rattle.t800_laws.proofs.Laws.Tests.{if-true, if-false, if-eq, if-ne, on-eq, on-lt}
 use Rattle.bits_taken.specs.Taken.{afterBits, flagged, Reached, stuffedPast}
 use Rattle.bits_taken.proofs.Laws.Taken.{byte-few, bit-few, takes-few}
+use Rattle.bits_taken.proofs.Laws.Inside.{there}
 
 -- ---- one bit
 
@@ -78,9 +79,6 @@ not-yet b e h = go (eqb (b .bp) (e .bp)) (eqb (b .ct) (e .ct)) refl refl
     go true true p c = absurd (omega (arith, eqb-true (b .bp) (e .bp) p, eqb-true (b .ct) (e .ct) c))
     go true false p c = refl
     go false c p q = refl
-
-there : (b : Bio) → (eqb (b .bp) (b .bp) && eqb (b .ct) (b .ct)) ≡ true
-there b = rw (eq-eqb (b .bp) (b .bp) refl, eq-eqb (b .ct) (b .ct) refl)
 
 counts-flagged : (src : List ℕ) (n bound : ℕ) (b : Bio) → b .ct ≤ 8 → InReach src n b → n ≤ bound
     → bitsPastFrom src bound b (afterBits src n b) ≡ flagged src n b

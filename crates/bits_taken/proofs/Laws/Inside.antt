@@ -1,6 +1,6 @@
 -- Bits that end inside the input: none of them lies past its end.
 use mathlib.Core.Path.{_≡_, refl, ap, _∙_, subst}
-use mathlib.Core.Bool.{cond, _&&_}
+use mathlib.Core.Bool.{true, cond, _&&_}
 use mathlib.Core.List.{List}
 use Prim.Native.Nat.{ℕ, zero, suc, _-_, _*_, _≤_}
 use native.Mathlib.Omega.{arith}
@@ -13,6 +13,10 @@ use Rattle.t800_laws.proofs.Laws.Tests.{either, if-true, if-false}
 use Rattle.bits_taken.specs.Taken.{afterBits, Takes}
 use Rattle.bits_taken.proofs.Laws.Taken.{after-inside}
 
+-- a walk that has come to its end
+pub there : (b : Bio) → (eqb (b .bp) (b .bp) && eqb (b .ct) (b .ct)) ≡ true
+there b = rw (eq-eqb (b .bp) (b .bp) refl, eq-eqb (b .ct) (b .ct) refl)
+
 module _ (src : List ℕ) where
   not-flagged : (b : Bio) → getBit src b .bio .bp ≤ length src → _≡_ {A = ℕ} (cond (readBit src b .past) 1 0) 0
   unfolding readBit pastEnd
@@ -21,8 +25,7 @@ module _ (src : List ℕ) where
   none-among : (n bound : ℕ) (b : Bio) → afterBits src n b .bp ≤ length src → bitsPastFrom src bound b (afterBits src n b) ≡ 0
   unfolding bitsPastFrom afterBits readBit
   none-among n zero b h = refl
-  none-among zero (suc bound) b h =
-      if-true (eqb (b .bp) (b .bp) && eqb (b .ct) (b .ct)) 0 _ (rw (eq-eqb (b .bp) (b .bp) refl, eq-eqb (b .ct) (b .ct) refl) refl)
+  none-among zero (suc bound) b h = if-true (eqb (b .bp) (b .bp) && eqb (b .ct) (b .ct)) 0 _ (there b)
   none-among (suc n) (suc bound) b h =
       let e : Bio = afterBits src n (getBit src b .bio) in
       let rest : bitsPastFrom src bound (readBit src b .bio) e ≡ 0 = none-among n bound (getBit src b .bio) h in

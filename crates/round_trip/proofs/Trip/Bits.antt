@@ -18,7 +18,7 @@ use Rattle.t800.specs.Bits.{bitsPast}
 use Rattle.t800_laws.proofs.Laws.Pack.{AreBits}
 use Rattle.t800_laws.proofs.Laws.Tests.{if-eq, if-ne, on-eq, on-lt, drop-head}
 use Rattle.bits_taken.specs.Taken.{Takes}
-use Rattle.bits_taken.proofs.Laws.Taken.{takes-none, one-then}
+use Rattle.bits_taken.proofs.Laws.Taken.{byte-few, takes-none, one-then}
 use Rattle.bits_taken.proofs.Laws.Inside as inside
 
 abbrev bioWith : ℕ → ℕ → ℕ → Bio
@@ -270,17 +270,13 @@ no-one-past s b z l e = go (eqb (b .buf * 256 % 65536) 65280) (rw (if-eq (b .ct)
     go true h = omega arith
     go false h = omega arith
 
-span-most : (f : Bool) → cond f 7 8 - 1 ≤ 7
-span-most true = omega arith
-span-most false = omega arith
-
 one-fewer : (s : List ℕ) (b : Bio) → nextBit s b ≡ 1
     → 8 * (length s - bioAfter s b .bp) + bioAfter s b .ct + 1 ≤ 8 * (length s - b .bp) + b .ct
 unfolding getBit heldBit byteIn
 one-fewer s b e =
     on-eq (b .ct) 0
     (λ z. on-lt (b .bp) (length s)
-    (λ h. let m = span-most (eqb (b .buf * 256 % 65536) 65280) in rw (if-eq (b .ct) 0 (byteIn s b) b z) (omega arith))
+    (λ h. let m = byte-few (eqb (b .buf * 256 % 65536) 65280) in rw (if-eq (b .ct) 0 (byteIn s b) b z) (omega arith))
     (λ h. absurd (no-one-past s b z h e)))
     (λ z. rw (if-ne (b .ct) 0 (byteIn s b) b z) (omega arith))
 
