@@ -1,13 +1,12 @@
 -- The calls of an interface that meets the definitions: what an accepted read counts, and what it answers with more input.
 use mathlib.Core.Path.{_≡_, refl, sym, ap, _∙_, subst}
-use mathlib.Core.Logic.{_≢_}
 use mathlib.Core.Bool.{Bool, true, false}
 use mathlib.Core.List.{List, _++_}
 use Prim.Native.Nat.{ℕ}
 use native.Mathlib.Omega.{arith}
 use Rattle.t800.specs.MarkerSegments.{readSop}
 use Rattle.t800.specs.Packet.{ReadResult}
-use Rattle.t800.specs.Interface.{ReadCall, readOf, readUntouched, Interface}
+use Rattle.t800.specs.Interface.{readOf, Interface}
 use Rattle.past_end.specs.PastEnd.{CountsFlags, lastBit, CountOfReads, ephAgain, MoreInput, CountOf, MoreInputOf}
 use Rattle.past_end.proofs.AcceptedReads.{count-of-reads, more-input}
 

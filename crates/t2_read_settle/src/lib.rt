@@ -1,7 +1,7 @@
 // What a read leaves in the lent lists (t2.rs): an absent packet's next layer, a header's words settled in the state, or all wiped.
 ghost use mathlib.Core.Path.{_≡_};
 ghost use mathlib.Core.Bool.{true};
-ghost use Prim.Native.Nat.{_+_, _<_, _≤_};
+ghost use Prim.Native.Nat.{_+_, _<_};
 ghost use lib.ListN.{length, set};
 ghost use Rattle.t800.specs.Base.{wiped};
 ghost use Rattle.t800.specs.State.{reader, layer, notYetIncluded};
