@@ -1,18 +1,20 @@
--- A bit's flag, and bits one after another.
-use mathlib.Core.Path.{_≡_, refl, sym, ap, _∙_}
+-- A bit's flag, and bits one after another: with more input, and how many they are.
+use mathlib.Core.Path.{_≡_, refl, sym, ap, _∙_, subst}
 use mathlib.Core.Logic.{_≢_}
 use mathlib.Core.Bool.{Bool, true, false, cond}
 use mathlib.Core.List.{List, _++_}
-use Prim.Native.Nat.{ℕ, zero, suc, _-_, _≤_, _<_}
+use Prim.Native.Nat.{ℕ, zero, suc, _+_, _-_, _≤_, _<_}
 use native.Mathlib.Omega.{arith}
 use lib.ListN.{length, length-append}
 use lib.Dec.{eqb, ltb, leb}
 use borrow.Author.Tests.{eqb-false, ltb-false, lt-ltb, le-ltb, le-leb, lt-leb}
 use Rattle.t800.specs.declared.Bio.{Bio}
-use Rattle.t800.specs.Bits.{Decoded, bioAt, byteIn, heldBit, getBit, pastEnd, readBit}
+use Rattle.t800.specs.Bits.{Decoded, bioAt, reach, byteIn, heldBit, getBit, pastEnd, readBit}
 use Rattle.t800_laws.proofs.Laws.Tests.{on-lt}
 use Rattle.bits_taken.specs.Taken.{afterBits}
-use Rattle.past_end.specs.PastEnd.{byteOf, FlagOfBit, UnflaggedBitStays}
+use Rattle.bits_taken.proofs.Laws.Taken.{after-sum, after-few}
+use Rattle.bits_taken.proofs.Laws.Counting.{bitsUpTo, after-rises}
+use Rattle.past_end.specs.PastEnd.{byteOf, FlagOfBit, UnflaggedBitStays, OneNumberOfBits}
 use Rattle.past_end.proofs.SameBits.{Stays, ofDecoded, here, then, same-bit, bit-stays}
 
 -- ---- where a bit is flagged
@@ -76,3 +78,30 @@ after-stays src more zero b = here src itself b
 after-stays src more (suc n) b =
     then src ofDecoded itself b (getBit src b) (getBit (src ++ more) b) (λ r. afterBits src n (r .bio))
     (λ r. afterBits (src ++ more) n (r .bio)) (bit-stays src more b) (after-stays src more n (getBit src b .bio))
+
+-- ---- the number of bits
+
+-- k bits from a place in reach to the same place are none
+no-bits-between : (src : List ℕ) (k : ℕ) (b : Bio) → b .ct ≤ 8 → afterBits src k b ≡ b → b .bp < length src + reach → k ≡ 0
+no-bits-between src k b few e h =
+    let near = subst (λ (c : Bio). c .bp < length src + reach) (sym e) h in
+    let rise = subst (λ (c : Bio). bitsUpTo b + k ≤ bitsUpTo c) e (after-rises src k b few near) in
+    omega arith
+
+-- m bits and m + k bits
+longer-not-same : (src : List ℕ) (start m k : ℕ) → afterBits src m (bioAt start) ≡ afterBits src (m + k) (bioAt start)
+    → afterBits src m (bioAt start) .bp < length src + reach → k ≡ 0
+longer-not-same src start m k e h =
+    let b : Bio = afterBits src m (bioAt start) in
+    no-bits-between src k b (after-few src m (bioAt start) (omega arith)) (sym (after-sum src m k (bioAt start)) ∙ sym e) h
+
+pub one-number-of-bits : OneNumberOfBits
+unfolding OneNumberOfBits
+one-number-of-bits src start m n e h =
+    let at : ℕ → Bio = λ k. afterBits src k (bioAt start) in
+    on-lt m n
+    (λ l. let q : m + (n - m) ≡ n = omega arith in
+    let near = subst (λ (b : Bio). b .bp < length src + reach) (sym e) h in
+    omega (arith, longer-not-same src start m (n - m) (e ∙ ap at (sym q)) near))
+    (λ l. let q : n + (m - n) ≡ m = omega arith in
+    omega (arith, longer-not-same src start n (m - n) (sym e ∙ ap at (sym q)) h))

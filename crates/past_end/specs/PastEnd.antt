@@ -37,8 +37,15 @@ UnflaggedBitStays = (src more : Bytes) (b : Bio) → readBit src b .past ≡ fal
 
 -- ---- the count
 
--- the header at `start` whose bits end at e takes so many of them, of which this many are flagged; e is in reach, where no two numbers
--- of bits end at the same place
+-- bits that end in reach of the input are told by where they end: no two numbers of them end at the same place
+unfoldable pub OneNumberOfBits : Type 0
+OneNumberOfBits =
+    (src : Bytes) (start m n : ℕ)
+    → afterBits src m (bioAt start) ≡ afterBits src n (bioAt start)
+    → afterBits src n (bioAt start) .bp < length src + reach
+    → m ≡ n
+
+-- the header at `start` whose bits end at e takes so many of them, of which this many are flagged; and e is in reach
 pub record CountsFlags (src : Bytes) (start : ℕ) (e : Bio) (count : ℕ) : Type 0 where
   pub bits : ℕ
   pub ends : e ≡ afterBits src bits (bioAt start)

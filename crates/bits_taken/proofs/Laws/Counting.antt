@@ -42,14 +42,35 @@ bit-place : (src : List ℕ) (b : Bio) → b .bp < length src + reach → getBit
 bit-place src b h = on-bit (λ (c : Bio). c .bp ≤ b .bp + 1) src b h (λ z. omega arith) (λ z. omega arith)
 
 -- rises with every bit, by more than one where a bit is stuffed
-abbrev bitsUpTo : Bio → ℕ
+abbrev pub bitsUpTo : Bio → ℕ
 bitsUpTo b = 8 * b .bp + (8 - b .ct)
 
 bit-rises : (src : List ℕ) (b : Bio) → b .ct ≤ 8 → b .bp < length src + reach → bitsUpTo b < bitsUpTo (getBit src b .bio)
 bit-rises src b few h =
     on-bit (λ (c : Bio). bitsUpTo b < bitsUpTo c) src b h (λ z. omega arith) (λ z. omega (arith, byte-few (afterFF b)))
 
--- ---- n bits one after another, too few to leave the reach
+-- ---- n bits one after another, to a place in reach
+
+bit-forward : (src : List ℕ) (b : Bio) → b .bp ≤ getBit src b .bio .bp
+unfolding getBit heldBit byteIn
+bit-forward src b =
+    on-eq (b .ct) 0 (λ z. rw (if-eq (b .ct) 0 (byteIn src b) b z) (omega arith)) (λ z. rw (if-ne (b .ct) 0 (byteIn src b) b z) (omega arith))
+
+after-forward : (src : List ℕ) (n : ℕ) (b : Bio) → b .bp ≤ afterBits src n b .bp
+unfolding afterBits
+after-forward src zero b = omega arith
+after-forward src (suc n) b = omega (arith, bit-forward src b, after-forward src n (getBit src b .bio))
+
+pub after-rises : (src : List ℕ) (n : ℕ) (b : Bio) → b .ct ≤ 8 → afterBits src n b .bp < length src + reach
+    → bitsUpTo b + n ≤ bitsUpTo (afterBits src n b)
+unfolding afterBits
+after-rises src zero b few h = omega arith
+after-rises src (suc n) b few h =
+    let c : Bio = getBit src b .bio in
+    let near : b .bp < length src + reach = omega (arith, bit-forward src b, after-forward src n c) in
+    omega (arith, bit-rises src b few near, after-rises src n c (omega (arith, bit-few src b few)) h)
+
+-- ---- n bits, too few to leave the reach
 
 abbrev InReach : (src : List ℕ) (n : ℕ) → Bio → Type 0
 InReach src n b = b .bp + n ≤ length src + 2 ^ 39
@@ -62,13 +83,6 @@ unfolding afterBits
 after-place src zero b h = omega arith
 after-place src (suc n) b h =
     omega (arith, bit-place src b (omega arith), after-place src n (getBit src b .bio) (reach-after src n b h))
-
-after-rises : (src : List ℕ) (n : ℕ) (b : Bio) → b .ct ≤ 8 → InReach src n b → bitsUpTo b + n ≤ bitsUpTo (afterBits src n b)
-unfolding afterBits
-after-rises src zero b few h = omega arith
-after-rises src (suc n) b few h =
-    let c : Bio = getBit src b .bio in
-    omega (arith, bit-rises src b few (omega arith), after-rises src n c (omega (arith, bit-few src b few)) (reach-after src n b h))
 
 -- ---- the count is that of the flagged bits
 
@@ -91,7 +105,7 @@ counts-flagged src (suc n) (suc bound) b few h m =
     let small : c .ct ≤ 8 = omega (arith, bit-few src b few) in
     let near = reach-after src n b h in
     let more : bitsUpTo b < bitsUpTo (afterBits src n c) =
-    omega (arith, bit-rises src b few (omega arith), after-rises src n c small near) in
+    omega (arith, bit-rises src b few (omega arith), after-rises src n c small (omega (arith, after-place src n c near))) in
     if-false _ _ _ (not-yet b (afterBits src n c) more)
     ∙ ap (λ (k : ℕ). cond (pastEnd src c) 1 0 + k) (counts-flagged src n bound c small near (omega arith))
 
@@ -212,7 +226,7 @@ module _ (src : List ℕ) (start : ℕ) where
         let few = reached-few in
         let rise : 8 * start + 8 + n ≤ bitsUpTo e =
         subst (λ (b : Bio). 8 * start + 8 + n ≤ bitsUpTo b) (sym (r .takes .ends))
-        (after-rises src n (bioAt start) (omega arith) (omega arith)) in
+        (after-rises src n (bioAt start) (omega arith) (omega (arith, after-place src n (bioAt start) (omega arith)))) in
         ap (bitsPastFrom src (8 * (e .bp - start)) (bioAt start)) (r .takes .ends)
         ∙ counts-flagged src n (8 * (e .bp - start)) (bioAt start) (omega arith) (omega arith) (omega arith)
 

@@ -49,12 +49,12 @@ bit-inside src b h =
 
 -- ---- bits one after another
 
-after-sum : (src : List ℕ) (m n : ℕ) (b : Bio) → afterBits src (m + n) b ≡ afterBits src n (afterBits src m b)
+pub after-sum : (src : List ℕ) (m n : ℕ) (b : Bio) → afterBits src (m + n) b ≡ afterBits src n (afterBits src m b)
 unfolding afterBits
 after-sum src zero n b = ap (λ (k : ℕ). afterBits src k b) (zero-add n)
 after-sum src (suc m) n b = ap (λ (k : ℕ). afterBits src k b) (suc-add m n) ∙ after-sum src m n (getBit src b .bio)
 
-after-few : (src : List ℕ) (n : ℕ) (b : Bio) → b .ct ≤ 8 → afterBits src n b .ct ≤ 8
+pub after-few : (src : List ℕ) (n : ℕ) (b : Bio) → b .ct ≤ 8 → afterBits src n b .ct ≤ 8
 unfolding afterBits
 after-few src zero b h = h
 after-few src (suc n) b h = after-few src n (getBit src b .bio) (omega (arith, bit-few src b h))
