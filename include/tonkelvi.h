@@ -1,4 +1,4 @@
-/* Tonkelvi: JPEG 2000 packet headers for one precinct, layer by layer. Link with libtonkelvi.a, which `rt staticlib tonkelvi` makes. */
+/* Tonkelvi: JPEG 2000 packet headers, layer by layer. Link with libtonkelvi.a, which `rt staticlib tonkelvi` makes. */
 #ifndef TONKELVI_H
 #define TONKELVI_H
 
@@ -27,7 +27,7 @@ extern "C" {
  *
  * Result. Every call but tonkelvi_state_length gives 0, or the number of the first refusal that applies, in the order given there.
  * Further answers come in a lent list of 64-bit words, `answer`, of exactly the length given at each call. With another length the
- * call gives 3 and changes nothing. Otherwise its words are 0 after a refusal.
+ * call gives 3 and changes nothing. Otherwise its words are 0 after a refusal, but for the place that tonkelvi_write_layer tells.
  *
  * State. A list of 32-bit words that the calls keep between them: role (1 writer, 2 reader), band count, style, next layer; across, down
  * and planes of each of three bands, 0 where unused; then band by band the nodes of the inclusion tree, the nodes of the zero-plane tree
@@ -35,18 +35,20 @@ extern "C" {
  * and taken up again. In the inclusion tree the value 65,535 says "not yet", and any other value a layer; in a state that a version before
  * 0.3.0 has stored 999 says "not yet" there: put 65,535 in its place. Blocks are numbered from 0, band by band, row by row.
  *
- * Scratch. A list as long as the state, with any content. It holds after
+ * Scratch. A list as long as the state, or for a layer as long as its states together, with any content. It holds after
  *     measure, 0                  the state after the packet
  *     write or read, 0            the state after the packet, as the state does
+ *     write_layer, 0              the states after the packets, as the states do; with no precinct what it held before
  *     write, 11                   zeros
  *     read, 9, 12 or 13           zeros
+ *     write_layer, 3 to 11        zeros, whatever its length; with 3 for `answer` what it held before
  *     any other refusal           what it held before
  *
  * Linking. The archive has no names but those declared here, and needs memset alone. It has no unwind tables (.eh_frame): a call neither
  * throws nor calls back, but a debugger or profiler cannot walk through its frames by them.
  */
 
-/* Why a call was turned away. A refused call leaves the state as it was. */
+/* Why a call was turned away. A refused call leaves every state as it was. */
 enum tonkelvi_refusal {
     TONKELVI_SHAPE = 1,       /* band count not 1 to 3, or a side above 64 */
     TONKELVI_STYLE = 2,       /* style bit 0x40 or 0x80 set */
@@ -60,9 +62,11 @@ enum tonkelvi_refusal {
     TONKELVI_BODY = 10,       /* body bytes differ from the sum of pass lengths */
     TONKELVI_SPACE = 11,      /* the packet is longer than the output, which is wiped to 0 */
     TONKELVI_HEADER_END = 12, /* the last bit read lies in a byte FF and the input ends with that byte */
-    TONKELVI_RECORDS = 13     /* more segments than records lent */
+    TONKELVI_RECORDS = 13,    /* more segments than records lent */
+    TONKELVI_PRECINCTS = 14   /* more than 16 precincts in one layer */
 };
-/* In reading, 9, 12 and 13 wipe reports, work and records to 0. But for these, 11, scratch and `answer` a refusal changes no list. */
+/* In reading, 9, 12 and 13 wipe reports, work and records to 0. A refused layer wipes its output to 0, but with 14 and with 3 for
+ * `answer`. But for these, 11, scratch and `answer` a refusal changes no list. */
 
 /* One sentence for a refusal, and "" for any other number. */
 static inline const char *tonkelvi_text(uint32_t refusal) {
@@ -80,6 +84,7 @@ static inline const char *tonkelvi_text(uint32_t refusal) {
     case TONKELVI_SPACE: return "The packet is longer than the output.";
     case TONKELVI_HEADER_END: return "The input ends with a byte FF that the header ends in.";
     case TONKELVI_RECORDS: return "The packet has more segments than records were lent.";
+    case TONKELVI_PRECINCTS: return "More than 16 precincts were given for one layer.";
     default: return "";
     }
 }
@@ -131,6 +136,38 @@ uint32_t tonkelvi_write(
     const uint8_t *marks, size_t n_marks,
     const uint8_t *body, size_t n_body,
     bool sop, bool eph, uint32_t number,
+    uint8_t *output, size_t n_output,
+    uint64_t *answer, size_t n_answer);
+
+/* Writes the next packet of each of up to 16 precincts, one behind another at the front of `output`, in the list's order; or none of them.
+ * `packet_numbers` is the list of the precincts: one number for each, for its SOP, as in tonkelvi_write. `states` has their writers' states
+ * behind one another, and so have `counts`, `lengths`, `marks` and `bodies` what each of them brings. The precincts may be of any shapes
+ * and in any layers. `sop` and `eph` hold for all of them.
+ *
+ * With 0, states, scratch and output are what calls of tonkelvi_write, one for each precinct in that order, would leave, each with its
+ * parts of the lists and with what the packets before leave of the output; output after the last packet is unchanged. An empty list gives 0
+ * and writes 0 bytes: no other list but `answer` is looked at or changed.
+ *
+ * Refusals: 14, which changes no list but `answer`; 5 at place 0 for a scratch not as long as `states`; then 5, 6, 3, 7, 8, 9, 10, 11 for
+ * each precinct in full before the next. A precinct that is not the last has exactly its part of each list, or less where the list ends: as
+ * many words of `states` as its own first words ask, a count for each block, lengths and marks by the sum of its counts, bytes of `bodies`
+ * by the sum of its lengths. The last has all that is left. So a part cut short, and what is left over at the last, gives 5 in `states`, 3
+ * in `counts`, `lengths` and `marks`, 10 in `bodies`; and 11 is given where a packet does not fit behind those before it. A refused layer
+ * leaves all states as they were, and but for 14 all of output and scratch is wiped to 0.
+ * answer, 2 words: the refused precinct's place in the list, from 0 (0 with success and with 14); the bytes of all packets.
+ *
+ * Where each packet begins in the output is not told. tonkelvi_measure on each state before the call gives the packets' lengths, and their
+ * sum is the output that is needed; or the packets are read back one after another, each by tonkelvi_read on its reader's state: the next
+ * begins behind the bytes taken and those of the segments. */
+uint32_t tonkelvi_write_layer(
+    uint32_t *states, size_t n_states,
+    uint32_t *scratch, size_t n_scratch,
+    const uint32_t *packet_numbers, size_t n_packet_numbers,
+    const uint32_t *counts, size_t n_counts,
+    const uint32_t *lengths, size_t n_lengths,
+    const uint8_t *marks, size_t n_marks,
+    const uint8_t *bodies, size_t n_bodies,
+    bool sop, bool eph,
     uint8_t *output, size_t n_output,
     uint64_t *answer, size_t n_answer);
 

@@ -7,18 +7,21 @@ the scope (docs/SCOPE.md) as plain Python. In the repository's root:
 
 crate_answers runs the code of crate openjp2 0.6.1; rust/compare/src/answers.rs says how it is asked. Each run is one precinct with some
 calls on it. The calls come from a seeded generator. In runs of the kinds `later` the states are in any layer, with any value in the
-inclusion trees, and the answers are those of scope.py, written from the scope's text. In all others the layer is below 999, and every
-answer, and the whole state after every call, comes from the crate; scope.py is asked beside it and must agree. Packets without passes,
-which the crate writes otherwise, are written by scope.py alone; the crate's writer goes on from the words after them, and its reader reads
-them. A run becomes one row of crates/t800/proofs/Table.antt. Rows stand in chunks, each a crate of a temporary repository beside a copy of
-crates/t800, outside the project and no part of its tests; `rt check` computes the definitions on them and proves `failing 0 rows ≡ []`.
+inclusion trees, and the answers are those of scope.py, written from the scope's text. So they are in runs of the kind `layers`: layers of
+up to 16 precincts that are written whole or not at all, with every number that such a call gives, from lists that fit and from damaged
+ones. In all others the layer is below 999, and every answer, and the whole state after every call, comes from the crate; scope.py is asked
+beside it and must agree. Packets without passes, which the crate writes otherwise, are written by scope.py alone; the crate's writer goes
+on from the words after them, and its reader reads them. A run becomes one row of crates/t800/proofs/Table.antt. Rows stand in chunks, each
+a crate of a temporary repository beside a copy of crates/t800, outside the project and no part of its tests; `rt check` computes the
+definitions on them and proves `failing 0 rows ≡ []`.
 
 The bits that a read takes past the input's end, which the crate doesn't count, are scope.py's in every run.
 
 How answers are matched: write `ok` 0, `panic` 9, `failed` 11; read `ok` 0, `failed width` 9, `failed align` 12. Where a call fails on a
 short output and the same call panics with room enough, the scope puts 9 before 11, and the row says 9; such calls are counted. The crate
-has none of the other numbers, and of these only 6 is compared, by scope.py. After a call that fails, crate_answers puts the precinct back,
-while the crate leaves its trees as far as it came: that a refused call leaves the state alone is the scope's demand, which the row checks.
+has none of the other numbers, and of these, layers apart, only 6 is compared, by scope.py. After a call that fails, crate_answers puts the
+precinct back, while the crate leaves its trees as far as it came: that a refused call leaves the state alone is the scope's demand, which
+the row checks.
 
 The exit status is 0 only if every chunk is proved, no answer was outside that list and scope.py agreed with the crate. For a chunk that is
 not proved the failing runs are named, and for the smallest of all the calls up to the first one that differs.
@@ -35,6 +38,7 @@ import sys
 import tempfile
 import time
 
+import layer_calls
 from scope import LAYERS_REFUSED, NOT_YET_INCLUDED, NOT_YET_PLANES, READ_REFUSALS, Scope, blocks_in, hexed, level_sizes, spaced
 from scope import stuffed, whole, without_count
 
@@ -294,6 +298,18 @@ class Run:
             sop=sop, eph=eph, data=data, reports=4 * self.blocks, records=4 * lent, told=told,
             rows=(reports, records), after=after)))
         return told[0]
+
+    def write_layer(self, call):
+        told = layer_calls.told(call, 0, 0)
+        refusal, place, size = told.answer
+        self.steps.append("writes-layer (record { states = %s; contribution = record { counts = %s; lengths = %s; marks = %s }; "
+            "bodies = %s; markers = %s; numbers = %s; scratch = %d; output = %d }) %s %s %s" % (nats(call.states), nats(call.counts),
+            nats(call.lengths), nats(call.marks), nats(call.bodies), markers(call.sop, call.eph), nats(call.numbers), call.scratch,
+            call.output, nats(told.answer), nats(told.output[:size]), nats(told.states)))
+        self.log.append((len(self.steps) - 1, "layer", str(call), str(told.answer)))
+        self.tally["layers %d" % refusal] += 1
+        self.tally["layers: refused at place %d" % place] += refusal not in (0, layer_calls.PRECINCTS_REFUSED)
+        self.cost += len(call.states) // 4
 
     def row(self, steps=None):
         bands = "".join("record { across = %d; down = %d; planes = %d } ∷ " % b for b in self.bands)
@@ -773,9 +789,16 @@ def later_trip_run(rng, run):
     tripping(rng, run)
 
 
+def several_run(rng, run):
+    """Layers of several precincts, of which the run's own is none."""
+    run.ask_the_scope()
+    for call in layer_calls.Layers(rng, sys.modules[__name__], lambda n: [rng.randrange(256) for _ in range(n)]).calls:
+        run.write_layer(call)
+
+
 KINDS = [("writer", writer_run, 22), ("reader", reader_run, 24), ("trip", trip_run, 22), ("loaded writer", loaded_writer_run, 18),
     ("loaded reader", loaded_reader_run, 14), ("later writer", later_writer_run, 14), ("later reader", later_reader_run, 11),
-    ("later trip", later_trip_run, 11), ("cut reader", cut_run, 16)]
+    ("later trip", later_trip_run, 11), ("cut reader", cut_run, 16), ("layers", several_run, 14)]
 
 
 def make_run(seed, i, oracles, tally):
@@ -799,7 +822,7 @@ use Rattle.t800.specs.declared.Band.{Band}
 use Rattle.t800.specs.declared.Markers.{Markers}
 use Rattle.t800.specs.WriteHeader.{Contribution}
 use Rattle.t800.proofs.Table.{Writing, Reading, Step, loads-writer, loads-reader, holds-writer, holds-reader, writes, heads, reads}
-use Rattle.t800.proofs.Table.{Row, rowHolds, failing}
+use Rattle.t800.proofs.Table.{LayerWriting, writes-layer, Row, rowHolds, failing}
 
 """
 
@@ -932,8 +955,8 @@ def main():
                 holding.add(name)
 
     print("seed %d: %d runs, %d calls, %d of %d chunks proved, %.0f s (%.0f s of them to ask the crate), %d MB at most a process" % (
-        args.seed, len(runs), sum(v for k, v in tally.items() if re.fullmatch(r"(writes|heads|reads) \d+", k)), len(holding), len(chunks),
-        time.time() - began, made - began, resource.getrusage(resource.RUSAGE_CHILDREN).ru_maxrss // 1024))
+        args.seed, len(runs), sum(v for k, v in tally.items() if re.fullmatch(r"(writes|heads|reads|layers) \d+", k)), len(holding),
+        len(chunks), time.time() - began, made - began, resource.getrusage(resource.RUSAGE_CHILDREN).ru_maxrss // 1024))
     print("  styles %d, shapes %d, most blocks %d, pass counts written %d, layers of loaded states %d" % (
         len({r.style for r in runs}), len({tuple(b[:2] for b in r.bands) for r in runs}), max(r.blocks for r in runs),
         len(set().union(*(r.counts for r in runs))), len({r.layer for r in runs if r.layer})))

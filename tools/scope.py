@@ -1,6 +1,6 @@
-"""The scope (docs/SCOPE.md) as plain Python, for states in range and lists of the right lengths, in every layer. It is written from the
-paper's words and knows nothing of the definitions; below layer 999 compare_definitions.py and make_vectors.py hold it to the crate, but for
-packets written without passes."""
+"""The scope (docs/SCOPE.md) as plain Python, in every layer: for states in range and lists of the right lengths, and for any of them in a
+layer written whole or not at all. It is written from the paper's words and knows nothing of the definitions; below layer 999
+compare_definitions.py and make_vectors.py hold it to the crate, but for packets written without passes."""
 import collections
 
 NOT_YET_INCLUDED = 65535
@@ -214,6 +214,106 @@ def code_header(words, counts, lengths, marks):
     words[3] += 1
     return stuffed(bits), words
 
+
+# ---- a layer of several precincts
+
+WRITE_REFUSALS = {"state": 5, "layers": 6, "list": 3, "passes": 7, "length": 8, "width": 9, "body": 10, "space": 11}
+PRECINCTS_REFUSED = 14
+
+
+def asked_words(words):
+    """How many words the state has that begins with these, or None where its bands don't tell."""
+    if len(words) < HEADER_WORDS or not 1 <= words[1] <= 3:
+        return None
+    return HEADER_WORDS + sum(6 * sum(level_sizes(w, h)) + 4 * w * h for w, h, _ in bands_of(words))
+
+
+def writer_in_range(words):
+    """The ranges of refusal 5, for a writer's state as long as its bands ask."""
+    role, count, style, layer = words[:4]
+    bands = bands_of(words)
+    if role != 1 or style > 63 or layer > NOT_YET_INCLUDED or any(words[4 + 3 * count:HEADER_WORDS]):
+        return False
+    if any(w > 64 or h > 64 or planes >= NOT_YET_PLANES for w, h, planes in bands):
+        return False
+    at = HEADER_WORDS
+    for w, h, _ in bands:
+        nodes = sum(level_sizes(w, h))
+        for most in (NOT_YET_INCLUDED, NOT_YET_PLANES):
+            for _ in range(nodes):
+                value, low, known = words[at:at + 3]
+                if value > most or low > most or known > 1:
+                    return False
+                at += 3
+        for _ in range(w * h):
+            passes, length_bits, limit, used = words[at:at + 4]
+            if passes > 164 * layer or limit or used or not (3 <= length_bits <= 32 if passes else length_bits == 0):
+                return False
+            at += 4
+    return True
+
+
+def write_one(state, counts, lengths, marks, body, sop, eph, number, room):
+    """A packet and the state after it, or the refusal of the single call."""
+    if len(state) != asked_words(state) or not writer_in_range(state):
+        raise Failed("state")
+    if state[3] == NOT_YET_INCLUDED:
+        raise Failed("layers")
+    blocks = sum(w * h for w, h, _ in bands_of(state))
+    if len(counts) != blocks or len(lengths) != sum(counts) or len(marks) != sum(counts):
+        raise Failed("list")
+    if any(c > 164 for c in counts):
+        raise Failed("passes")
+    at = 0
+    for c in counts:
+        if any(size >= 1 << 31 for _, size in segments_of(lengths[at:at + c], marks[at:at + c])):
+            raise Failed("length")
+        at += c
+    try:
+        header, after = code_header(state, counts, lengths, marks)
+    except Failed:
+        raise Failed("width")
+    if len(body) != sum(lengths):
+        raise Failed("body")
+    packet = [0xff, 0x91, 0, 4, number >> 8 & 255, number & 255] * sop + header + [0xff, 0x92] * eph + list(body)
+    if len(packet) > room:
+        raise Failed("space")
+    return packet, after
+
+
+def write_layer(states, scratch, numbers, counts, lengths, marks, bodies, sop, eph, output):
+    """The answer's refusal, place and bytes; states, scratch and output after the call."""
+    if len(numbers) > 16:
+        return [PRECINCTS_REFUSED, 0, 0], states, scratch, output
+    if not numbers:
+        return [0, 0, 0], states, scratch, output
+    left, after, packets, place = [states, counts, lengths, marks, bodies], [], [], 0
+
+    def first(k, n):
+        """A precinct's part of a list, cut where the list ends; of the last one all that is left."""
+        part = left[k] if place + 1 == len(numbers) else left[k][:n]
+        left[k] = left[k][len(part):]
+        return part
+
+    try:
+        if len(scratch) != len(states):
+            raise Failed("state")
+        for place, number in enumerate(numbers):
+            size = asked_words(left[0])
+            if size is None or size > len(left[0]):
+                raise Failed("state")
+            state = first(0, size)
+            own = first(1, sum(w * h for w, h, _ in bands_of(state)))
+            own_lengths, own_marks = first(2, sum(own)), first(3, sum(own))
+            packet, words = write_one(state, own, own_lengths, own_marks, first(4, sum(own_lengths)), sop, eph, number,
+                len(output) - len(packets))
+            packets, after = packets + packet, after + words
+    except Failed as why:
+        return [WRITE_REFUSALS[str(why)], place, 0], states, [0] * len(scratch), [0] * len(output)
+    return [0, 0, len(packets)], after, after, packets + output[len(packets):]
+
+
+# ---- reading
 
 class Bits:
     """An input, read from a place on; `past` counts the bits taken whose byte is not in it."""

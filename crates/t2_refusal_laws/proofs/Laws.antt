@@ -1,2 +1,3 @@
 pub mod WriterState
 pub mod NotRefused
+pub mod Accepted

@@ -1,26 +1,10 @@
-// Writing a packet (opj_t2_encode_packet of t2.rs): check, copy the state, code, body, settle.
+// Writing a packet (opj_t2_encode_packet of t2.rs): check, put, settle.
 ghost use mathlib.Core.Path.{_≡_};
-ghost use Prim.Native.Nat.{_+_, _≤_};
-ghost use lib.ListN.{length, set};
-ghost use Rattle.t800.specs.State.{layer};
 ghost use Rattle.t800.specs.Packet.{write};
 ghost use Rattle.t800.specs.WriteHeader.{contribution};
 use t800::Markers;
 use t800::Refusal;
 use t800::WriteAnswer;
-
-// The state becomes the scratch; without passes the next layer is the only word that differs.
-fn settle(scratch: &[u32], state: &mut [u32], passes: usize)
-    requires { ⌜ (13 ≤ length (now state)) × (length (now scratch) ≡ length (now state))
-        × (passes ≡ 0 → now scratch ≡ set (now state) 3 (layer (now state) + 1)) ⌝ }
-    ensures { λ _. ⌜ now (state .exit) ≡ now (scratch .entry) ⌝ }
-{
-    if passes == 0 {
-        state[3] = scratch[3];
-        return;
-    }
-    lists::copy(scratch, state);
-}
 
 pub fn write(
     state: &mut [u32],
@@ -51,20 +35,22 @@ pub fn write(
             bytes: 0,
         };
     }
-    lists::copy(state, scratch);
-    let end = t2_write_packet::put_front(scratch, output, counts, lengths, marks, markers, number);
-    if !t2_write_packet::has_room(output.len(), end, body.len()) {
+    let r = t2_put_packet::put(
+        state,
+        scratch,
+        counts,
+        lengths,
+        marks,
+        body,
+        markers,
+        number,
+        output,
+    );
+    if r.refusal != 0 {
         lists::wipe(scratch);
         lists::wipe_bytes(output);
-        return WriteAnswer {
-            refusal: Refusal::SPACE,
-            bytes: 0,
-        };
+        return r;
     }
-    let bytes = t2_write_packet::put_body(output, end, body);
-    settle(scratch, state, lengths.len());
-    WriteAnswer {
-        refusal: 0,
-        bytes: bytes as u64,
-    }
+    t2_put_packet::settle(scratch, state, lengths.len());
+    r
 }

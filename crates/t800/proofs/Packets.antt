@@ -1,10 +1,10 @@
--- SCOPE S16, packets to check by hand: A to L and every refusal named beside them; then each of the 13 numbers, each place where two
+-- SCOPE S16, packets to check by hand: A to L and every refusal named beside them; then each of the 14 numbers, each place where two
 -- of them could be given, and the slips. One table, and one statement that covers its rows.
 use mathlib.Core.Path.{_≡_, refl}
 use Prim.Native.Nat.{ℕ, _+_, _-_, _*_, _^_}
 use mathlib.Core.Bool.{true, false, cond}
-use mathlib.Core.List.{List, [], _∷_, _++_}
-use lib.ListN.{length, replicate, set}
+use mathlib.Core.List.{List, [], _∷_, _++_, flatMap}
+use lib.ListN.{length, replicate, set, take}
 use lib.Dec.{eqb}
 use Rattle.t800.specs.declared.Band.{Band}
 use Rattle.t800.specs.declared.Markers.{Markers}
@@ -13,7 +13,7 @@ use Rattle.t800.specs.Base.{sum}
 use Rattle.t800.specs.Segments.{termAll, bypass}
 use Rattle.t800.specs.State.{notYetIncluded, notYetPlanes}
 use Rattle.t800.proofs.Table.{Step, starts, loads-writer, loads-reader, holds-writer, holds-reader, writes, heads}
-use Rattle.t800.proofs.Table.{reads-starts, reads, Row, rowHolds, failing}
+use Rattle.t800.proofs.Table.{reads-starts, reads, LayerWriting, writes-layer, Row, rowHolds, failing}
 
 -- ---- short forms
 
@@ -1070,14 +1070,255 @@ past-rows =
     ∷ one (reading 23 4 0 (0xef ∷ []) 13 ∷ [])
     ∷ []
 
+-- ---- a layer of several precincts, all of it or none (SCOPE S21)
+
+-- a precinct's part of the lists
+record Part : Type 0 where
+  state : List ℕ
+  counts : List ℕ
+  lengths : List ℕ
+  marks : List ℕ
+  body : List ℕ
+
+-- a state with counts and lengths, no pass terminated, and a body of one byte repeated
+abbrev part : List ℕ → List ℕ → List ℕ → ℕ → Part
+part state cs ls byte = record { state = state; counts = cs; lengths = ls; marks = copies (length ls) 0; body = copies (sum ls) byte }
+
+abbrev states-of : List Part → List ℕ
+states-of ps = flatMap (λ p. p .state) ps
+
+-- the parts behind one another, with so many words of scratch and bytes of output
+abbrev gathered : Markers → List ℕ → List Part → ℕ → ℕ → LayerWriting
+gathered m numbers ps scratch room = record {
+  states = states-of ps;
+  contribution = contribution (flatMap (λ p. p .counts) ps) (flatMap (λ p. p .lengths) ps) (flatMap (λ p. p .marks) ps);
+  bodies = flatMap (λ p. p .body) ps;
+  markers = m;
+  numbers = numbers;
+  scratch = scratch;
+  output = room;
+}
+
+-- without markers, and with as much scratch as states: the packets, and the states after them
+abbrev lays : List Part → ℕ → List ℕ → List ℕ → Step
+lays ps room packets after =
+    writes-layer (gathered plain (copies (length ps) 0) ps (length (states-of ps)) room) (0 ∷ 0 ∷ length packets ∷ []) packets after
+
+-- refused with a number, at a place
+abbrev lays-not : List Part → ℕ → ℕ → ℕ → Step
+lays-not ps room why place =
+    writes-layer (gathered plain (copies (length ps) 0) ps (length (states-of ps)) room) (why ∷ place ∷ 0 ∷ []) [] []
+
+-- and with 5, at place 0, where the scratch has so many words
+abbrev lays-not-with : ℕ → List Part → Step
+lays-not-with scratch ps = writes-layer (gathered plain (copies (length ps) 0) ps scratch 20) (5 ∷ 0 ∷ 0 ∷ []) [] []
+
+-- A's block, which comes first with a pass of 5 bytes, and its state then; a packet of 6 bytes
+abbrev fresh : List ℕ
+fresh = words 1 0 0 fresh-included (node 0 0 0) (block 0 0 0 0)
+
+abbrev fresh-written : List ℕ
+fresh-written = words 1 0 1 (node 0 0 1) (node 0 0 1) (block 1 3 0 0)
+
+abbrev as-a : ℕ → Part
+as-a byte = part fresh (1 ∷ []) (5 ∷ []) byte
+
+-- the block in the last layer and after it
+abbrev at-the-end : Part
+at-the-end = part (wrote 65534 3) (1 ∷ []) (3 ∷ []) 0x11
+
+abbrev ended : List ℕ
+ended = words 1 0 65535 (node 0 1 1) (node 0 1 1) (block 2 3 0 0)
+
+abbrev past-the-end : Part
+past-the-end = part (wrote 65535 3) (1 ∷ []) (3 ∷ []) 0x11
+
+-- K's two blocks, and their state then
+abbrev as-k : Part
+as-k = part (two-uncoded 0) (1 ∷ 1 ∷ []) (5 ∷ 5 ∷ []) 0x22
+
+abbrev k-written : List ℕ
+k-written =
+    1 ∷ 1 ∷ 0 ∷ 1 ∷ 2 ∷ 1 ∷ 5 ∷ copies 6 0 ++ node 0 0 1 ++ node 0 0 1 ++ node 0 0 1 ++ node 0 0 1 ++ node 1 1 1 ++ node 0 0 1
+    ++ block 1 3 0 0 ++ block 1 3 0 0
+
+-- three bands without blocks, in the layer t
+abbrev no-blocks : ℕ → List ℕ
+no-blocks t = bare 1 3 63 t largest
+
+-- the block with passes split by marks, with style 0x04 in layer 7: two passes, of 3 bytes and of 2
+abbrev terminated : Part
+terminated = record {
+  state = words 1 4 7 (node 0 1 1) (node 0 1 1) (block 1 3 0 0);
+  counts = 2 ∷ [];
+  lengths = 3 ∷ 2 ∷ [];
+  marks = 1 ∷ 1 ∷ [];
+  body = copies 5 0x33;
+}
+
+-- a reader's state; two passes with 32 length bits; 165 passes; 2^31 bytes, and no body
+abbrev gives-5 : Part
+gives-5 = part (unread 0) (1 ∷ []) (5 ∷ []) 0x44
+
+abbrev gives-7 : Part
+gives-7 = part fresh (165 ∷ []) (copies 165 0) 0x44
+
+abbrev gives-8 : Part
+gives-8 = record { state = fresh; counts = 1 ∷ []; lengths = 2 ^ 31 ∷ []; marks = 0 ∷ []; body = [] }
+
+abbrev gives-9 : Part
+gives-9 = part (wrote 1 32) (2 ∷ []) (1 ∷ 1 ∷ []) 0x44
+
+-- such a precinct in each place among three, the others A's
+abbrev in-each-place : ℕ → Part → List Step
+in-each-place why bad =
+    lays-not (bad ∷ as-a 1 ∷ as-a 2 ∷ []) 20 why 0
+    ∷ lays-not (as-a 1 ∷ bad ∷ as-a 2 ∷ []) 20 why 1
+    ∷ lays-not (as-a 1 ∷ as-a 2 ∷ bad ∷ []) 20 why 2
+    ∷ []
+
+-- three precincts, with lists that need not fit them: states, counts, lengths, marks, body bytes; the refusal and its place
+abbrev three-of : List ℕ → List ℕ → List ℕ → List ℕ → ℕ → ℕ → ℕ → Step
+three-of states cs ls ms bytes why place =
+    writes-layer
+    (record {
+      states = states;
+      contribution = contribution cs ls ms;
+      bodies = copies bytes 7;
+      markers = plain;
+      numbers = copies 3 0;
+      scratch = length states;
+      output = 20;
+    })
+    (why ∷ place ∷ 0 ∷ []) [] []
+
+-- A's block three times, with other counts, lengths, marks or body bytes
+abbrev three-with : List ℕ → List ℕ → List ℕ → ℕ → ℕ → ℕ → Step
+three-with cs ls ms bytes why place = three-of (fresh ++ fresh ++ fresh) cs ls ms bytes why place
+
+-- the same with other states
+abbrev three-on : List ℕ → ℕ → ℕ → Step
+three-on states why place = three-of states (copies 3 1) (copies 3 5) (copies 3 0) 15 why place
+
+-- so many packet numbers, with lists that fit no precinct: refused or not, no list is changed
+abbrev unlooked : ℕ → ℕ → List ℕ → ℕ → Step
+unlooked precincts why states scratch =
+    writes-layer
+    (record {
+      states = states;
+      contribution = contribution (165 ∷ []) (2 ^ 31 ∷ []) (1 ∷ 1 ∷ []);
+      bodies = copies 3 7;
+      markers = marked;
+      numbers = copies precincts 1;
+      scratch = scratch;
+      output = 4;
+    })
+    (why ∷ 0 ∷ 0 ∷ []) [] []
+
+pub whole-layer-rows : List Row
+whole-layer-rows =
+    -- one precinct, as the single call writes it
+    one
+    (puts 23 (1 ∷ []) (5 ∷ []) (0 ∷ []) (0xe5 ∷ []) ∷ holds-writer fresh-written
+    ∷ lays (as-a 7 ∷ []) 6 (0xe5 ∷ copies 5 7) fresh-written
+    ∷ [])
+    -- two and three of different shapes, styles and layers; output as long as the packets, and longer
+    ∷ one
+    (lays (as-k ∷ as-a 7 ∷ []) 19 (0xf9 ∷ 0x69 ∷ 0x40 ∷ copies 10 0x22 ++ 0xe5 ∷ copies 5 7) (k-written ++ fresh-written)
+    ∷ lays (terminated ∷ part (no-blocks 0) [] [] 0 ∷ at-the-end ∷ []) 15
+    (0xe3 ∷ 0x40 ∷ copies 5 0x33 ++ 0x00 ∷ 0xc6 ∷ copies 3 0x11)
+    (words 1 4 8 (node 0 1 1) (node 0 1 1) (block 3 3 0 0) ++ no-blocks 1 ++ ended)
+    ∷ lays (part (no-blocks 65534) [] [] 0 ∷ as-k ∷ part (no-blocks 3) [] [] 0 ∷ []) 40
+    (0x00 ∷ 0xf9 ∷ 0x69 ∷ 0x40 ∷ copies 10 0x22 ++ 0x00 ∷ [])
+    (no-blocks 65535 ++ k-written ++ no-blocks 4)
+    ∷ [])
+    -- two layers, in the first of which the first precinct has no passes
+    ∷ one
+    (lays (part fresh (0 ∷ []) [] 0 ∷ as-a 7 ∷ []) 7 (0x00 ∷ 0xe5 ∷ copies 5 7)
+    (words 1 0 1 fresh-included (node 0 0 0) (block 0 0 0 0) ++ fresh-written)
+    ∷ lays
+    (part (words 1 0 1 fresh-included (node 0 0 0) (block 0 0 0 0)) (1 ∷ []) (5 ∷ []) 8 ∷ part fresh-written (1 ∷ []) (3 ∷ []) 9 ∷ []) 12
+    (0xb2 ∷ 0x80 ∷ copies 5 8 ++ 0xc6 ∷ copies 3 9)
+    (words 1 0 2 (node 1 1 1) (node 0 0 1) (block 1 3 0 0) ++ words 1 0 2 (node 0 0 1) (node 0 0 1) (block 2 3 0 0))
+    ∷ [])
+    -- both markers, with a number for each; they count in 11
+    ∷ one
+    (writes-layer (gathered marked (513 ∷ 65538 ∷ []) (part fresh (0 ∷ []) [] 0 ∷ as-a 7 ∷ []) 46 25) (0 ∷ 0 ∷ 23 ∷ [])
+    (0xff ∷ 0x91 ∷ 0x00 ∷ 0x04 ∷ 0x02 ∷ 0x01 ∷ 0x00 ∷ 0xff ∷ 0x92 ∷ stamped 2 (0xe5 ∷ []) ++ copies 5 7)
+    (words 1 0 1 fresh-included (node 0 0 0) (block 0 0 0 0) ++ fresh-written)
+    ∷ writes-layer (gathered marked (1 ∷ 2 ∷ []) (as-a 7 ∷ as-a 8 ∷ []) 46 27) (11 ∷ 1 ∷ 0 ∷ []) [] []
+    ∷ [])
+    -- sixteen; seventeen give 14 before all else, and an empty list none
+    ∷ one
+    (lays (replicate 16 (part (no-blocks 1) [] [] 0)) 17 (copies 16 0) (flatMap (λ t. no-blocks t) (copies 16 2))
+    ∷ unlooked 17 14 [] 3 ∷ unlooked 17 14 fresh 23 ∷ unlooked 17 14 (unread 0) 22
+    ∷ unlooked 0 0 [] 3 ∷ unlooked 0 0 fresh 0 ∷ unlooked 0 0 fresh 23 ∷ unlooked 0 0 (unread 0) 22
+    ∷ [])
+    -- 5 for the scratch, before each precinct's own number
+    ∷ one
+    (lays-not-with 45 (as-a 1 ∷ as-a 2 ∷ []) ∷ lays-not-with 47 (as-a 1 ∷ as-a 2 ∷ []) ∷ lays-not-with 0 (as-a 1 ∷ [])
+    ∷ lays-not-with 45 (past-the-end ∷ as-a 2 ∷ []) ∷ lays-not-with 47 (as-a 1 ∷ past-the-end ∷ [])
+    ∷ lays-not-with 47 (as-a 1 ∷ gives-5 ∷ [])
+    ∷ [])
+    -- each number in each place
+    ∷ one
+    (in-each-place 5 gives-5 ++ in-each-place 6 past-the-end ++ in-each-place 7 gives-7 ++ in-each-place 8 gives-8
+    ++ in-each-place 9 gives-9)
+    -- and a state that asks more words than there are
+    ∷ one
+    (lays-not (part (set (set fresh 4 (2 ^ 32 - 1)) 5 (2 ^ 32 - 1)) (1 ∷ []) (5 ∷ []) 7 ∷ as-a 1 ∷ []) 20 5 0
+    ∷ lays-not (as-a 1 ∷ part (set (set fresh 4 (2 ^ 32 - 1)) 5 (2 ^ 32 - 1)) (1 ∷ []) (5 ∷ []) 7 ∷ as-a 1 ∷ []) 20 5 1
+    ∷ [])
+    -- 3 and 10: a part cut short where the list ends in it, or more than the last one needs
+    ∷ one
+    (three-with [] (copies 3 5) (copies 3 0) 15 3 0 ∷ three-with (1 ∷ []) (copies 3 5) (copies 3 0) 15 3 1
+    ∷ three-with (copies 2 1) (copies 3 5) (copies 3 0) 15 3 2 ∷ three-with (copies 3 1 ++ 0 ∷ []) (copies 3 5) (copies 3 0) 15 3 2
+    ∷ three-with (copies 3 1) [] (copies 3 0) 15 3 0 ∷ three-with (copies 3 1) (5 ∷ []) (copies 3 0) 15 3 1
+    ∷ three-with (copies 3 1) (copies 2 5) (copies 3 0) 15 3 2 ∷ three-with (copies 3 1) (copies 3 5 ++ 0 ∷ []) (copies 3 0) 15 3 2
+    ∷ three-with (copies 3 1) (copies 3 5) [] 15 3 0 ∷ three-with (copies 3 1) (copies 3 5) (0 ∷ []) 15 3 1
+    ∷ three-with (copies 3 1) (copies 3 5) (copies 2 0) 15 3 2 ∷ three-with (copies 3 1) (copies 3 5) (copies 4 0) 15 3 2
+    ∷ three-with (copies 3 1) (copies 3 5) (copies 3 0) 4 10 0 ∷ three-with (copies 3 1) (copies 3 5) (copies 3 0) 9 10 1
+    ∷ three-with (copies 3 1) (copies 3 5) (copies 3 0) 14 10 2 ∷ three-with (copies 3 1) (copies 3 5) (copies 3 0) 16 10 2
+    ∷ [])
+    -- 5: states cut short in the last one's words, before them, in the middle one's, in the first one's first words; left-over words
+    ∷ one
+    (three-on (take 68 (fresh ++ fresh ++ fresh)) 5 2 ∷ three-on (fresh ++ fresh) 5 2 ∷ three-on (take 45 (fresh ++ fresh)) 5 1
+    ∷ three-on (take 26 (fresh ++ fresh)) 5 1 ∷ three-on fresh 5 1 ∷ three-on (take 22 fresh) 5 0 ∷ three-on (take 1 fresh) 5 0
+    ∷ three-on [] 5 0 ∷ three-on (fresh ++ fresh ++ fresh ++ 0 ∷ []) 5 2
+    ∷ three-on (fresh ++ fresh ++ fresh ++ fresh) 5 2
+    -- before 6 of the last
+    ∷ three-on (fresh ++ fresh ++ wrote 65535 3 ++ 0 ∷ []) 5 2 ∷ three-on (fresh ++ fresh ++ wrote 65535 3) 6 2
+    ∷ [])
+    -- 11: behind packets of 6 bytes each
+    ∷ one
+    (lays-not (as-a 1 ∷ as-a 2 ∷ as-a 3 ∷ []) 5 11 0 ∷ lays-not (as-a 1 ∷ as-a 2 ∷ as-a 3 ∷ []) 11 11 1
+    ∷ lays-not (as-a 1 ∷ as-a 2 ∷ as-a 3 ∷ []) 17 11 2 ∷ lays-not (as-a 1 ∷ part (no-blocks 0) [] [] 0 ∷ []) 6 11 1
+    ∷ lays-not (as-a 1 ∷ []) 0 11 0
+    ∷ [])
+    -- the first precinct decides, whatever the others' numbers are
+    ∷ one
+    (lays-not (as-a 1 ∷ gives-5 ∷ []) 5 11 0 ∷ lays-not (as-a 1 ∷ gives-9 ∷ gives-5 ∷ []) 20 9 1
+    ∷ lays-not (past-the-end ∷ gives-5 ∷ gives-8 ∷ []) 20 6 0 ∷ lays-not (gives-8 ∷ past-the-end ∷ []) 0 8 0
+    ∷ three-of (fresh ++ wrote 65535 3 ++ unread 0) (1 ∷ []) (5 ∷ []) (0 ∷ []) 5 6 1
+    ∷ three-of (fresh ++ fresh ++ unread 0) (1 ∷ []) (5 ∷ []) (0 ∷ []) 5 3 1
+    ∷ three-of (fresh ++ fresh ++ unread 0) (copies 3 1) (copies 3 5) (copies 3 0) 5 10 1
+    ∷ [])
+    -- sums above 2^32, of counts and of lengths
+    ∷ one
+    (three-of (two-uncoded 0 ++ fresh ++ fresh) ((2 ^ 32 - 1) ∷ (2 ^ 32 - 1) ∷ 1 ∷ 1 ∷ []) (copies 4 5) (copies 4 0) 20 3 0
+    ∷ three-of (two-uncoded 0 ++ fresh ++ fresh) ((2 ^ 32 - 1) ∷ 3 ∷ 1 ∷ 1 ∷ []) (copies 4 5) (copies 4 0) 20 3 0
+    ∷ three-of (two-uncoded 0 ++ fresh ++ fresh) (1 ∷ 2 ∷ 1 ∷ 1 ∷ []) ((2 ^ 31 - 1) ∷ (2 ^ 31 - 1) ∷ 2 ∷ 0 ∷ 0 ∷ []) (copies 5 1) 0 10 0
+    ∷ [])
+    ∷ []
+
 pub rows : List Row
 rows =
     a-to-l ++ start-rows ++ write-rows ++ read-rows ++ range-rows ++ marker-rows ++ slip-rows ++ segment-rows ++ layer-rows ++ tree-rows
-    ++ empty-rows ++ past-rows
+    ++ empty-rows ++ past-rows ++ whole-layer-rows
 
 -- ---- the statement: no row fails
 
 pub all-rows-hold : failing 0 rows ≡ []
 unfolding rows a-to-l start-rows write-rows read-rows range-rows marker-rows slip-rows segment-rows layer-rows tree-rows
-    empty-rows past-rows failing rowHolds
+    empty-rows past-rows whole-layer-rows failing rowHolds
 all-rows-hold = refl

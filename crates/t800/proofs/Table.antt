@@ -3,11 +3,12 @@
 -- on this.
 use Prim.Native.Nat.{ℕ, zero, suc, _+_, _/_}
 use mathlib.Core.Bool.{Bool, true, false, cond, _&&_, _||_}
-use mathlib.Core.List.{List, [], _∷_, _++_}
+use mathlib.Core.List.{List, [], _∷_, _++_, flatMap}
 use lib.ListN.{length, getD, drop, replicate}
 use lib.Dec.{leb, eqb}
 use Rattle.t800.specs.declared.Band.{Band}
 use Rattle.t800.specs.declared.Markers.{Markers}
+use Rattle.t800.specs.declared.LayerAnswer.{LayerAnswer}
 use Rattle.t800.specs.declared.ReadAnswer.{ReadAnswer}
 use Rattle.t800.specs.declared.SegmentRecord.{SegmentRecord}
 use Rattle.t800.specs.Base.{every, any, sum, halvings, floorLog2, overwrite, wiped}
@@ -35,6 +36,7 @@ use Rattle.t800.specs.MarkerSegments.{sopBytes, ephBytes, withMarkers, r
 use Rattle.t800.specs.Packet.{wrongLists, measureRefusalWith, front, MeasureResult, measure, measureWith, packet, writeRefusalWith}
 use Rattle.t800.specs.Packet.{WriteResult}
 use Rattle.t800.specs.Packet.{write, writeWith, readRefusalWith, readAbsent, readPresent, ReadResult, read, readWith}
+use Rattle.t800.specs.Layer.{LayerResult, asks, inFront, behind, singles, firstRefused, writeLayer}
 use Rattle.t800.specs.Book.{BlockEntry, Entry, opensAt, newEntries, newBook, reportOf, recordsFrom, recordsOf, entryFrom}
 use Rattle.t800.specs.Book.{entry, addCounts}
 
@@ -58,6 +60,16 @@ pub record Writing : Type 0 where
   pub body : ℕ
   pub output : ℕ
 
+-- a layer call: what it is given, and how many scratch words and output bytes it is lent
+pub record LayerWriting : Type 0 where
+  pub states : List ℕ
+  pub contribution : Contribution
+  pub bodies : List ℕ
+  pub markers : Markers
+  pub numbers : List ℕ
+  pub scratch : ℕ
+  pub output : ℕ
+
 -- a reading call: what it is given, and how many words of scratch, reports and records it is lent
 pub record Reading : Type 0 where
   pub markers : Markers
@@ -75,6 +87,8 @@ pub data Step : Type 0 where
   writes : Writing → ℕ → List ℕ → Step
   -- the same of a packet whose body is too long to be built: measured, its header computed, and the state moved on
   heads : Writing → ℕ → List ℕ → Step
+  -- a layer call on states of its own: its answer as refusal, place, bytes; the packets, and the states after them
+  writes-layer : LayerWriting → List ℕ → List ℕ → List ℕ → Step
   -- a reading call: its answer as refusal, present, taken, segments, SOP mark, EPH mark, bits past the end; reports; records, four
   -- words each, and their starts
   reads-starts : Reading → List ℕ → List ℕ → List ℕ → List ℕ → Step
@@ -93,6 +107,9 @@ same [] [] = true
 same [] (y ∷ ys) = false
 same (x ∷ xs) [] = false
 same (x ∷ xs) (y ∷ ys) = eqb x y && same xs ys
+
+abbrev layerWords : LayerAnswer → List ℕ
+layerWords a = a .refusal ∷ a .place ∷ a .bytes ∷ []
 
 abbrev answerWords : ReadAnswer → List ℕ
 answerWords a = a .refusal ∷ a .present ∷ a .taken ∷ a .segments ∷ a .sop ∷ a .eph ∷ a .past ∷ []
@@ -167,6 +184,18 @@ writeHolds c w o why bytes =
     (o .answer .bytes) 0 in
     eqb (o .answer .refusal) why && cond (eqb why 0) done otherwise
 
+-- 14 and an empty list leave each list as it was; otherwise all of it was written, or none
+unfoldable pub layerHolds : LayerWriting → LayerResult → List ℕ → List ℕ → List ℕ → Bool
+layerHolds c o answer packets after =
+    let out = outputOf (c .output) in
+    let scr = scratchOf (c .scratch) in
+    let why = o .answer .refusal in
+    let untouched = same (o .states) (c .states) && same (o .scratch) scr && same (o .output) out in
+    let all = same (o .states) after && same (o .scratch) after && same (o .output) (overwrite out packets) in
+    let none = same (o .states) (c .states) && same (o .scratch) (wiped scr) && same (o .output) (wiped out) in
+    same (layerWords (o .answer)) answer
+    && cond (eqb why 14 || eqb (length (c .numbers)) 0) untouched (cond (eqb why 0) all none)
+
 -- the answer and each list but the records, for either form of them
 unfoldable pub listsHold : {form : RecordForm} → Reading → List ℕ → ReadResult form → List ℕ → List ℕ → Bool
 listsHold c r o answer reports =
@@ -219,6 +248,17 @@ stepsHold style (heads c why bytes ∷ rest) book es w r =
     let next = same (front w p (c .markers) (c .number)) bytes && stepsHold style rest book es (m .scratch) r in
     let otherwise = stepsHold style rest book es w r in
     measureHolds c m why bytes (m .scratch) && cond (eqb why 0) next otherwise
+stepsHold style (writes-layer c answer packets after ∷ rest) book es w r =
+    let o = writeLayer (c .states)
+    (record {
+      scratch = scratchOf (c .scratch);
+      contribution = c .contribution;
+      bodies = c .bodies;
+      markers = c .markers;
+      numbers = c .numbers;
+      output = outputOf (c .output);
+    }) in
+    layerHolds c o answer packets after && stepsHold style rest book es w r
 stepsHold style (reads-starts c answer reports records begins ∷ rest) book es w r =
     let o = read asWords r (scratchOf (c .scratch)) (c .markers) (c .input) (reportsOf (c .reports)) (recordsLent (c .records)) in
     let p = read asRecords r (scratchOf (c .scratch)) (c .markers) (c .input) (reportsOf (c .reports)) (structsLent (c .records)) in
@@ -231,19 +271,21 @@ stepsHold style (reads-starts c answer reports records begins ∷ rest) book es 
 
 -- `unfolding rowHolds` computes a row: it opens every definition of the base
 unfoldable pub rowHolds : Row → Bool
-unfolding same sumsFrom recordsWith fields startHolds measureHolds writeHolds listsHold wordsHold structsHold asOwed stepsHold
-    every any sum halvings floorLog2 overwrite bitsOf bitsAfter lastBytes packFrom pack byteIn heldBit getBit readBitsOnto readBits
-    inFF endsInFF bytesTaken pastEnd readBit bitsPastFrom bitsPast levelsFrom levels nodesIn nodes parentFrom parentOf climbFrom pathToRoot setValue lowAfter nodeBits
-    knownAfter codePath readNode readPath passBits readPasses termAll bypass firstLimit nextLimit isLimit segmentsFrom segmentsOf
-    width bitLength increment commaBits lengthFields readOnes readComma writer reader blocksIn bandNodes bandLength blocksFrom
-    blocksAt endOf blocks stateLength bandAt bands badShape badStyle bandTooDeep blockTooDeep nodeInRange blockInRange
-    bandInRangeWith bandsInRangeWith unusedBandsZero validStateWith freshNodes freshBlocks freshBandsWith bandWords freshStateWith
-    setZeroPlanes startRefusal startWith reportWords recordWords bodyBytes isNew lengthBitsBefore setNewBlocks codeInclusion
-    codeZeroPlanes codePasses codeBlock codeBlocks contributes codePresent codeAbsent codeHeader segmentTooLong fieldTooWide
-    opensSegment currentLimit currentPasses passesTaken readSegment readSegments readZeroPlanesFrom readZeroPlanes firstReport
-    againReport readIncluded readNewBlock readOldBlock readBlock readBlocks readHeader sopBytes ephBytes withMarkers readMarker
-    readSop readEph wrongLists measureRefusalWith front measureWith packet writeRefusalWith writeWith readRefusalWith readAbsent
-    readPresent readWith opensAt newEntries newBook reportOf recordsFrom recordsOf entryFrom entry addCounts
+unfolding same sumsFrom recordsWith fields startHolds measureHolds writeHolds layerHolds listsHold wordsHold structsHold asOwed
+    stepsHold every any sum halvings floorLog2 overwrite bitsOf bitsAfter lastBytes packFrom pack byteIn heldBit getBit
+    readBitsOnto readBits inFF endsInFF bytesTaken pastEnd readBit bitsPastFrom bitsPast levelsFrom levels nodesIn nodes
+    parentFrom parentOf climbFrom pathToRoot setValue lowAfter nodeBits knownAfter codePath readNode readPath passBits
+    readPasses termAll bypass firstLimit nextLimit isLimit segmentsFrom segmentsOf width bitLength increment commaBits
+    lengthFields readOnes readComma writer reader blocksIn bandNodes bandLength blocksFrom blocksAt endOf blocks stateLength
+    bandAt bands badShape badStyle bandTooDeep blockTooDeep nodeInRange blockInRange bandInRangeWith bandsInRangeWith
+    unusedBandsZero validStateWith freshNodes freshBlocks freshBandsWith bandWords freshStateWith setZeroPlanes startRefusal
+    startWith reportWords recordWords bodyBytes isNew lengthBitsBefore setNewBlocks codeInclusion codeZeroPlanes codePasses
+    codeBlock codeBlocks contributes codePresent codeAbsent codeHeader segmentTooLong fieldTooWide opensSegment currentLimit
+    currentPasses passesTaken readSegment readSegments readZeroPlanesFrom readZeroPlanes firstReport againReport readIncluded
+    readNewBlock readOldBlock readBlock readBlocks readHeader sopBytes ephBytes withMarkers readMarker readSop readEph
+    wrongLists measureRefusalWith front measureWith packet writeRefusalWith writeWith readRefusalWith readAbsent readPresent
+    readWith asks inFront behind singles firstRefused writeLayer flatMap opensAt newEntries newBook reportOf recordsFrom
+    recordsOf entryFrom entry addCounts
 rowHolds row =
     let bs = row .given in
     let lent = scratchOf (stateLength bs) in

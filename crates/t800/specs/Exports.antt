@@ -18,6 +18,7 @@ use Rattle.t800.specs.Start.{StartResult, start}
 use Rattle.t800.specs.Reports.{recordWidth, asRecords, asWords}
 use Rattle.t800.specs.WriteHeader.{Contribution}
 use Rattle.t800.specs.Packet.{stateChecks, MeasureResult, measure, WriteResult, write, ReadResult, read, readResult, refusedAnswer}
+use Rattle.t800.specs.Layer.{LayerCall, LayerResult, writeLayer}
 
 -- ---- starts
 
@@ -78,6 +79,29 @@ unfoldable pub writeCall : (state scratch : Words) (brought : Contribution) (bod
 writeCall state scratch brought body markers number output answer =
     cond (eqb (length answer) 1) (writeExit (write state scratch brought body markers number output))
     (record { refusal = listRefusal; state = state; scratch = scratch; output = output; answer = answer })
+
+-- ---- writing a layer
+
+pub record LayerExit : Type 0 where
+  pub refusal : ℕ
+  pub states : Words
+  pub scratch : Words
+  pub output : Bytes
+  pub answer : Words
+
+abbrev pub layerExit : (result : LayerResult) → LayerExit
+layerExit r = record {
+  refusal = r .answer .refusal;
+  states = r .states;
+  scratch = r .scratch;
+  output = r .output;
+  answer = r .answer .place ∷ r .answer .bytes ∷ [];
+}
+
+unfoldable pub writeLayerCall : (states : Words) (call : LayerCall) (answer : Words) → LayerExit
+writeLayerCall states call answer =
+    cond (eqb (length answer) 2) (layerExit (writeLayer states call))
+    (record { refusal = listRefusal; states = states; scratch = call .scratch; output = call .output; answer = answer })
 
 -- ---- reading
 

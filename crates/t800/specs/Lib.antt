@@ -14,6 +14,7 @@ pub mod ReadHeader
 pub mod MarkerSegments
 pub mod Packet
 pub mod Interface
+pub mod Layer
 pub mod Book
 pub mod Numbers
 pub mod RoundTrip

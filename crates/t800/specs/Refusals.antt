@@ -42,6 +42,9 @@ headerEndRefusal = 12
 abbrev pub recordsRefusal : ℕ
 recordsRefusal = 13
 
+abbrev pub precinctsRefusal : ℕ
+precinctsRefusal = 14
+
 -- a number, and whether its condition holds
 pub record Check : Type 0 where
   pub number : ℕ

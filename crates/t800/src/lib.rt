@@ -41,6 +41,13 @@ pub struct WriteAnswer {
     pub bytes: u64,
 }
 
+// `place` is that of the precinct refused, and 0 with a success.
+pub struct LayerAnswer {
+    pub refusal: u32,
+    pub place: u64,
+    pub bytes: u64,
+}
+
 pub struct ReadAnswer {
     pub refusal: u32,
     pub present: u32,
@@ -92,6 +99,8 @@ impl Refusal {
     pub const HEADER_END: u32 = 12;
 
     pub const RECORDS: u32 = 13;
+
+    pub const PRECINCTS: u32 = 14;
 }
 
 // The words of a block's report, and of a segment's record in a list of words.

@@ -1,1 +1,2 @@
 pub mod RangeParts
+pub mod Front

@@ -1,20 +1,21 @@
 // What a state must meet: refusal 5, over its first words, its bands and its length.
 ghost use mathlib.Core.Path.{_≡_};
-ghost use mathlib.Core.Bool.{_&&_};
+ghost use mathlib.Core.Bool.{cond, _&&_};
 ghost use Prim.Native.Nat.{_≤_};
 ghost use lib.ListN.{length, take};
-ghost use lib.Dec.{eqb};
+ghost use lib.Dec.{leb};
 ghost use Rattle.t800.specs.State.{stateLength};
 ghost use Rattle.t800.specs.Ranges.{bandsInRange, validState};
 ghost use Rattle.tcd_laws.specs.Geometry.{AllUpTo64};
+ghost use Rattle.tcd_state.specs.Front.{wordsInFront};
 use t800::Band;
 
-// The words of the bands end where the state does, and are in range.
-fn bands_in_range(state: &[u32], bands: [Band; 3], n: usize) -> bool
-    requires { ⌜ (n ≤ 3) × AllUpTo64 (take n bands) ⌝ }
+// Where the words of the bands end, if they are there and in range; else 0.
+fn bands_in_range(states: &[u32], bands: [Band; 3], n: usize) -> usize
+    requires { ⌜ (n ≤ 3) × AllUpTo64 (take n bands) × (13 ≤ length (now states)) ⌝ }
     ensures { λ r.
-        ⌜ r ≡ (eqb (length (now (state .entry))) (stateLength (take n bands)) && bandsInRange (now (state .entry)) 13
-        (take n bands)) ⌝ }
+        ⌜ r ≡ cond (leb (stateLength (take n bands)) (length (now (states .entry))) && bandsInRange (now (states .entry)) 13 (take n bands))
+        (stateLength (take n bands)) 0 ⌝ }
 {
     let mut at: usize = 13;
     let mut i: usize = 0;
@@ -23,32 +24,43 @@ fn bands_in_range(state: &[u32], bands: [Band; 3], n: usize) -> bool
         let nodes = tcd_layout::band_nodes(band);
         let blocks = tcd_layout::band_blocks(band);
         let end = at + 6 * nodes + 4 * blocks;
-        if state.len() < end {
-            return false;
+        if states.len() < end {
+            return 0;
         }
-        if !tcd_band_ranges::band_in_range(state, at, band, nodes) {
-            return false;
+        if !tcd_band_ranges::band_in_range(states, at, band, nodes) {
+            return 0;
         }
         at = end;
         i += 1;
     }
-    state.len() == at
+    at
 }
 
-// Whether refusal 5 is not given: a state for this role, and a scratch as long.
+// The words of the state in front of a list of states; 0 where refusal 5 is given for it.
+pub fn state_in_front(role: u32, states: &[u32]) -> usize
+    ensures { λ r. ⌜ r ≡ wordsInFront role (now (states .entry)) ⌝ }
+{
+    if states.len() < 13 {
+        return 0;
+    }
+    let bands = tcd_first_words::bands_of(states);
+    if !tcd_first_words::first_words_in_range(role, states, bands) {
+        return 0;
+    }
+    let n = tcd_first_words::word(states, 1) as usize;
+    bands_in_range(states, bands, n)
+}
+
+// Whether refusal 5 is not given: a state for this role with no words behind it, and a scratch as long.
 pub fn valid_state(role: u32, state: &[u32], scratch_len: usize) -> bool
     ensures { λ r. ⌜ r ≡ validState role (now (state .entry)) «scratch_len» ⌝ }
 {
-    if state.len() < 13 {
+    let words = state_in_front(role, state);
+    if words == 0 {
         return false;
     }
-    let bands = tcd_first_words::bands_of(state);
-    if !tcd_first_words::first_words_in_range(role, state, bands) {
+    if words != state.len() {
         return false;
     }
-    if scratch_len != state.len() {
-        return false;
-    }
-    let n = tcd_first_words::word(state, 1) as usize;
-    bands_in_range(state, bands, n)
+    scratch_len == words
 }

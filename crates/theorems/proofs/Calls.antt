@@ -5,7 +5,11 @@ use Rattle.round_trip.proofs.Numbers.{numbers}
 use Rattle.round_trip.proofs.Trip.Interfaces.{round-trip, writer-in-range}
 use Rattle.past_end.specs.PastEnd.{CountOf, MoreInputOf}
 use Rattle.past_end.proofs.Interfaces.{count-of, more-input-of}
-use Rattle.theorems.specs.Calls.{calls}
+use Rattle.whole_layer.specs.SingleCalls.{WholeLayerOf}
+use Rattle.whole_layer.specs.Several.{SeveralRoundTrip, SeveralInRange}
+use Rattle.whole_layer.proofs.SingleCalls.{whole-layer-of}
+use Rattle.whole_layer.proofs.Several.{several-round-trip, several-in-range}
+use Rattle.theorems.specs.Calls.{calls, layerCalls}
 
 pub numbers-of-calls : Numbers calls
 numbers-of-calls = numbers calls
@@ -21,3 +25,12 @@ count-of-calls = count-of calls
 
 pub more-input-of-calls : MoreInputOf calls
 more-input-of-calls = more-input-of calls
+
+pub whole-layer-of-calls : WholeLayerOf layerCalls
+whole-layer-of-calls = whole-layer-of layerCalls
+
+pub layers-of-calls : SeveralRoundTrip layerCalls
+layers-of-calls = several-round-trip layerCalls
+
+pub writers-of-calls-in-range : SeveralInRange layerCalls
+writers-of-calls-in-range = several-in-range layerCalls

@@ -24,13 +24,13 @@ use Rattle.theorems.proofs.Exports.{exports, round-trip-of-exports, sta
 abbrev bands : List ℕ
 bands = 1 ∷ 1 ∷ 5 ∷ replicate 6 0
 
-abbrev lent : List ℕ
+abbrev pub lent : List ℕ
 lent = replicate 23 3
 
-abbrev plain : Markers
+abbrev pub plain : Markers
 plain = record { sop = false; eph = false }
 
-abbrev started : (role : ℕ) → List ℕ → StartMade role
+abbrev pub started : (role : ℕ) → List ℕ → StartMade role
 started role planes = record {
   count = 1;
   bands = bands;
@@ -52,7 +52,7 @@ call = record {
   output = replicate 6 9;
 }
 
-abbrev wrote : WriteMade
+abbrev pub wrote : WriteMade
 wrote =
     let state = started writer (5 ∷ []) .left .state in
     record {
@@ -64,10 +64,10 @@ wrote =
     }
 
 -- the input is the packet with its body; one record is lent
-abbrev records : List SegmentRecord
+abbrev pub records : List SegmentRecord
 records = record { block = 6; opens = 6; passes = 6; bytes = 6; start = 6 } ∷ []
 
-abbrev was-read : ReadMade
+abbrev pub was-read : ReadMade
 was-read =
     let state = started reader [] .left .state in
     let input = wrote .left .output in
@@ -85,7 +85,7 @@ was-read =
     }
 
 -- what is owed: the byte E5, one block with no zero planes, 5 planes and 1 pass, and one segment of 5 bytes
-abbrev packet : Owed
+abbrev pub packet : Owed
 packet = record {
   front = 0xe5 ∷ [];
   markers = plain;

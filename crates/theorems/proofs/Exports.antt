@@ -6,14 +6,17 @@ use Prim.Native.Nat.{ℕ, _≤_, _*_}
 use native.Mathlib.Omega.{arith}
 use lib.ListN.{length, getD}
 use lib.Dec.{eqb}
+use Rattle.t800.specs.declared.LayerAnswer.{LayerAnswer}
 use Rattle.t800.specs.Refusals.{listRefusal}
 use Rattle.t800.specs.State.{notYetIncluded, reader, layer}
 use Rattle.t800.specs.Ranges.{validState}
 use Rattle.t800.specs.Reports.{recordWidth, asRecords}
 use Rattle.t800.specs.Packet.{WriteResult, ReadResult, readResult, refusedAnswer}
-use Rattle.t800.specs.Exports.{startCall, MeasureExit, measureCall, WriteExit, writeCall, ReadExit, workRefusal, readCall}
+use Rattle.t800.specs.Exports.{startCall, MeasureExit, measureCall, WriteExit, writeCall, LayerExit, writeLayerCall, ReadExit}
+use Rattle.t800.specs.Exports.{workRefusal, readCall}
 use Rattle.t800.specs.Interface.{startOf, startUntouched, measureOf, measureUntouched, writeOf, writeUntouched, readOf, readUntouched}
 use Rattle.t800.specs.Interface.{Interface}
+use Rattle.t800.specs.Layer.{LayerResult, layerUntouched, writeLayer}
 use Rattle.t800.specs.Numbers.{Numbers}
 use Rattle.t800.specs.RoundTrip.{RoundTrip, WriterInRange}
 use Rattle.t800.specs.Starts.{StartsFit, StartsOfReads}
@@ -24,6 +27,11 @@ use Rattle.round_trip.proofs.Trip.Interfaces.{round-trip, writer-in-range}
 use Rattle.round_trip.proofs.Starts.{starts-of-reads}
 use Rattle.past_end.specs.PastEnd.{CountOf, MoreInputOf}
 use Rattle.past_end.proofs.Interfaces.{count-of, more-input-of}
+use Rattle.whole_layer.specs.SingleCalls.{LayerInterface, WholeLayerOf}
+use Rattle.whole_layer.specs.Several.{SeveralRoundTrip, SeveralInRange}
+use Rattle.whole_layer.proofs.SingleCalls.{whole-layer-of}
+use Rattle.whole_layer.proofs.Several.{several-round-trip, several-in-range}
+use Rattle.theorems.specs.Exports.{LayerMade, layerAsked, layerLeft}
 use Rattle.theorems.specs.Exports.{StartMade, startAsked, startArgs, MeasureMade, measureAsked, measureLeft, WriteMade}
 use Rattle.theorems.specs.Exports.{writeAsked, writeLeft, ReadMade, readAsked, readArgs, readLeft, readOtherwise, readTold}
 use Rattle.theorems.specs.Exports.{StartsOfExports}
@@ -72,6 +80,25 @@ module _ (m : WriteMade) where
   write-refuses a =
       ap (λ (n : ℕ). by-bytes n (m .left)) (if-false (writeAsked m) (getD (m .left .answer) 0 0) 0 a)
       ∙ ap (by-bytes 0) (m .met ∙ if-false (writeAsked m) _ _ a)
+
+module _ (m : LayerMade) where
+  abbrev layerResult : LayerAnswer → LayerExit → LayerResult
+  layerResult answer z = record { answer = answer; states = z .states; scratch = z .scratch; output = z .output }
+
+  abbrev by-layer-answer : (place bytes : ℕ) → LayerExit → LayerResult
+  by-layer-answer place bytes z = layerResult (record { refusal = z .refusal; place = place; bytes = bytes }) z
+
+  pub layer-meets : layerAsked m ≡ true → layerLeft m ≡ writeLayer (m .states) (m .call)
+  unfolding writeLayerCall
+  layer-meets a =
+      ap (λ (x : LayerAnswer). layerResult x (m .left)) (if-true (layerAsked m) _ _ a)
+      ∙ ap (λ (z : LayerExit). by-layer-answer (getD (z .answer) 0 0) (getD (z .answer) 1 0) z) (m .met ∙ if-true (layerAsked m) _ _ a)
+
+  pub layer-refuses : layerAsked m ≡ false → layerLeft m ≡ layerUntouched (m .states) (m .call) listRefusal
+  unfolding writeLayerCall
+  layer-refuses a =
+      ap (λ (x : LayerAnswer). layerResult x (m .left)) (if-false (layerAsked m) _ _ a)
+      ∙ ap (by-layer-answer 0 0) (m .met ∙ if-false (layerAsked m) _ _ a)
 
 work-numbered : (ws scratch : List ℕ) → (1 ≤ workRefusal ws scratch) × (workRefusal ws scratch ≤ 13)
 unfolding workRefusal
@@ -185,6 +212,22 @@ exports = record {
   };
 }
 
+abbrev pub layerExports : LayerInterface
+layerExports = record {
+  single = exports;
+  layers = record {
+    Made = LayerMade;
+    found = λ m. m .states;
+    args = λ m. m .call;
+    left = layerLeft;
+    asked = layerAsked;
+    otherwise = λ m. listRefusal;
+    meets = layer-meets;
+    refuses = layer-refuses;
+    numbered = λ m. omega arith;
+  };
+}
+
 pub numbers-of-exports : Numbers exports
 numbers-of-exports = numbers exports
 
@@ -203,3 +246,12 @@ more-input-of-exports = more-input-of exports
 pub starts-of-exports : StartsOfExports
 unfolding StartsOfExports
 starts-of-exports m = told-start m
+
+pub whole-layer-of-exports : WholeLayerOf layerExports
+whole-layer-of-exports = whole-layer-of layerExports
+
+pub layers-of-exports : SeveralRoundTrip layerExports
+layers-of-exports = several-round-trip layerExports
+
+pub writers-of-exports-in-range : SeveralInRange layerExports
+writers-of-exports-in-range = several-in-range layerExports

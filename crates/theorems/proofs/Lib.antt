@@ -1,3 +1,4 @@
 pub mod Calls
 pub mod Exports
 pub mod Example
+pub mod LayersExample

@@ -8,6 +8,8 @@ use Rattle.t800.specs.Base.{Words}
 use Rattle.t800.specs.Reports.{asWords}
 use Rattle.t800.specs.Interface.{startOf, startUntouched, measureOf, measureUntouched, writeOf, writeUntouched, readOf, readUntouched}
 use Rattle.t800.specs.Interface.{Calls, Interface}
+use Rattle.t800.specs.Layer.{layerUntouched, writeLayer}
+use Rattle.whole_layer.specs.SingleCalls.{LayerInterface}
 
 -- a call that was made, with its contract's equation
 pub record MadeByEquation {Args Result : Type 0} (gives : Words → Args → Result) : Type 0 where
@@ -38,3 +40,6 @@ calls = record {
   form = asWords;
   reads = byEquation (readOf asWords) (readUntouched asWords);
 }
+
+abbrev pub layerCalls : LayerInterface
+layerCalls = record { single = calls; layers = byEquation writeLayer layerUntouched }

@@ -7,14 +7,17 @@ use Prim.Native.Nat.{ℕ, _*_}
 use lib.ListN.{length, getD, take}
 use lib.Dec.{eqb}
 use Rattle.t800.specs.declared.Markers.{Markers}
+use Rattle.t800.specs.declared.LayerAnswer.{LayerAnswer}
 use Rattle.t800.specs.declared.SegmentRecord.{SegmentRecord}
 use Rattle.t800.specs.Base.{Words, Bytes}
 use Rattle.t800.specs.Refusals.{listRefusal}
 use Rattle.t800.specs.Start.{StartResult}
 use Rattle.t800.specs.Reports.{recordWidth, asRecords}
 use Rattle.t800.specs.Packet.{MeasureResult, WriteResult, ReadResult, readResult, refusedAnswer}
-use Rattle.t800.specs.Exports.{bandsIn, startCall, MeasureExit, measureCall, WriteExit, writeCall, ReadExit, workRefusal, readCall}
+use Rattle.t800.specs.Exports.{bandsIn, startCall, MeasureExit, measureCall, WriteExit, writeCall, LayerExit, writeLayerCall, ReadExit}
+use Rattle.t800.specs.Exports.{workRefusal, readCall}
 use Rattle.t800.specs.Interface.{StartCall, WriteCall, ReadCall}
+use Rattle.t800.specs.Layer.{LayerCall, LayerResult}
 use Rattle.t800.specs.Starts.{StartsFit}
 
 -- ---- starts
@@ -76,6 +79,30 @@ writeLeft m =
     record {
       answer = record { refusal = m .left .refusal; bytes = bytes };
       state = m .left .state;
+      scratch = m .left .scratch;
+      output = m .left .output;
+    }
+
+-- ---- writing a layer
+
+pub record LayerMade : Type 0 where
+  pub states : Words
+  pub call : LayerCall
+  pub answer : Words
+  pub left : LayerExit
+  pub met : left ≡ writeLayerCall states call answer
+
+abbrev pub layerAsked : LayerMade → Bool
+layerAsked m = eqb (length (m .answer)) 2
+
+abbrev pub layerLeft : LayerMade → LayerResult
+layerLeft m =
+    let a = m .left .answer in
+    let told : LayerAnswer = record { refusal = m .left .refusal; place = getD a 0 0; bytes = getD a 1 0 } in
+    let untold : LayerAnswer = record { refusal = m .left .refusal; place = 0; bytes = 0 } in
+    record {
+      answer = cond (layerAsked m) told untold;
+      states = m .left .states;
       scratch = m .left .scratch;
       output = m .left .output;
     }

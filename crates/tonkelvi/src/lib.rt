@@ -2,7 +2,7 @@
 ghost use mathlib.Core.Path.{_≡_};
 ghost use Rattle.t800.specs.State.{writer, reader};
 ghost use Rattle.t800.specs.WriteHeader.{contribution};
-ghost use Rattle.t800.specs.Exports.{stateLengthOf, startCall, measureCall, writeCall, readCall, describeCall};
+ghost use Rattle.t800.specs.Exports.{stateLengthOf, startCall, measureCall, writeCall, writeLayerCall, readCall, describeCall};
 use t800::SegmentRecord;
 
 // ---- starts
@@ -104,6 +104,53 @@ pub extern "C" fn tonkelvi_write(
         sop,
         eph,
         number,
+        output,
+        answer,
+    )
+}
+
+// Answers the place of the precinct refused, and the bytes of all packets.
+#[no_mangle]
+pub extern "C" fn tonkelvi_write_layer(
+    states: &mut [u32],
+    scratch: &mut [u32],
+    packet_numbers: &[u32],
+    counts: &[u32],
+    lengths: &[u32],
+    marks: &[u8],
+    bodies: &[u8],
+    sop: bool,
+    eph: bool,
+    output: &mut [u8],
+    answer: &mut [u64],
+) -> u32
+    ensures { λ r.
+        ⌜ record {
+          refusal = r;
+          states = now (states .exit);
+          scratch = now (scratch .exit);
+          output = now (output .exit);
+          answer = now (answer .exit);
+        }
+        ≡ writeLayerCall (now (states .entry)) (record {
+          scratch = now (scratch .entry);
+          contribution = contribution (now (counts .entry)) (now (lengths .entry)) (now (marks .entry));
+          bodies = now (bodies .entry);
+          markers = record { sop = sop; eph = eph };
+          numbers = now («packet_numbers» .entry);
+          output = now (output .entry);
+        }) (now (answer .entry)) ⌝ }
+{
+    tonkelvi_layers::write_layer(
+        states,
+        scratch,
+        packet_numbers,
+        counts,
+        lengths,
+        marks,
+        bodies,
+        sop,
+        eph,
         output,
         answer,
     )

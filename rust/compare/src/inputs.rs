@@ -1,7 +1,8 @@
 //! Random shapes, layers, states and inputs.
-use crate::model::{self, Place, LAYERS, NOT_YET_INCLUDED, NOT_YET_PLANES};
-use crate::pair::{Bands, Layer, Markers};
+use crate::model::{self, Lists, Place, LAYERS, NOT_YET_INCLUDED, NOT_YET_PLANES};
+use crate::pair::{Bands, Layer, LayerCall, Markers};
 use crate::random::Random;
+use std::ops::Range;
 
 pub struct Shape {
     pub count: u32,
@@ -249,14 +250,14 @@ pub fn long_header(random: &mut Random, blocks: usize) -> (Vec<u8>, usize) {
 /// more; or the length changed by one.
 pub fn damaged_state(random: &mut Random, state: &[u32]) -> Vec<u32> {
     let mut state = state.to_vec();
-    let most_passes = 164 * state[3];
+    let most_passes = state[3].wrapping_mul(164);
     for _ in 0..random.between(1, 3) {
         let at = if random.once_in(3) { random.below(state.len().min(13) as u64) } else { random.below(state.len() as u64) };
         let word = &mut state[at as usize];
         *word = match random.below(6) {
             0 => word.wrapping_add(1),
             1 => word.wrapping_sub(1),
-            2 => most_passes + random.below(2) as u32,
+            2 => most_passes.wrapping_add(random.below(2) as u32),
             _ => edge(random),
         };
     }
@@ -268,6 +269,100 @@ pub fn damaged_state(random: &mut Random, state: &[u32]) -> Vec<u32> {
         _ => {}
     }
     state
+}
+
+/// A length near another, or far from it.
+pub fn near(random: &mut Random, n: usize) -> usize {
+    random.pick(&[n.saturating_sub(1), n + 1, n.saturating_sub(2), n.saturating_sub(4), n + 4, 0, 2 * n + 1])
+}
+
+/// A length near another, or any shorter one.
+fn near_or_cut(random: &mut Random, n: usize) -> usize {
+    match random.once_in(2) {
+        true => near(random, n),
+        false => random.below(n as u64 + 1) as usize,
+    }
+}
+
+/// Where one precinct's part of a list lies, by the lengths of all parts.
+fn one_part(random: &mut Random, lengths: &[usize]) -> Range<usize> {
+    let place = random.below(lengths.len() as u64) as usize;
+    let begin = lengths[..place].iter().sum();
+    begin..begin + lengths[place]
+}
+
+/// One to three changes: a list cut short or longer, or some of its words changed.
+pub fn damaged_call(random: &mut Random, call: &LayerCall) -> LayerCall {
+    let mut call = call.clone();
+    for _ in 0..random.pick(&[1, 1, 1, 2, 3]) {
+        damage_call(random, &mut call);
+    }
+    call
+}
+
+fn damage_call(random: &mut Random, call: &mut LayerCall) {
+    let parts = call.parts();
+    let part_of = |random: &mut Random, list: fn(&Lists) -> usize| one_part(random, &parts.iter().map(list).collect::<Vec<_>>());
+    let state = part_of(random, |part| part.states.len());
+    let counts = part_of(random, |part| part.counts.len());
+    let lengths = part_of(random, |part| part.lengths.len());
+    let LayerCall { states, layer, bodies, .. } = call;
+    match random.below(18) {
+        0 => call.scratch = near_or_cut(random, call.scratch),
+        1 => states.resize(near_or_cut(random, states.len()), 1),
+        2 | 3 if state.len() > 3 => {
+            let damaged = damaged_state(random, &states[state.clone()]);
+            states.splice(state, damaged);
+            call.scratch = if random.once_in(2) { call.scratch } else { states.len() };
+        }
+        4 if state.len() > 3 => states[state.start + 3] = random.pick(&[65_534, 65_535, 65_535, 65_536]),
+        5 if !state.is_empty() => states[state.start] = 2,
+        6 => call.numbers.resize(near_or_cut(random, call.numbers.len()), 3),
+        7 => call.numbers.resize(random.pick(&[0, 15, 16, 17, 18]), 3),
+        8 => layer.counts.resize(near_or_cut(random, layer.counts.len()), 1),
+        9 if !counts.is_empty() => layer.counts[pick_in(random, &counts)] = edge(random),
+        10 if !counts.is_empty() => many_passes(layer, pick_in(random, &counts), random.between(163, 166) as usize),
+        11 if counts.len() > 1 => {
+            // their sum stays the same modulo 2^32
+            for at in [counts.start, counts.end - 1] {
+                layer.counts[at] = layer.counts[at].wrapping_add(1 << 31);
+            }
+        }
+        12 => layer.lengths.resize(near_or_cut(random, layer.lengths.len()), 2),
+        13 if !lengths.is_empty() => {
+            let (at, any) = (pick_in(random, &lengths), edge(random));
+            let length = layer.lengths[at];
+            layer.lengths[at] = random.pick(&[length.wrapping_add(1), length.saturating_sub(1), (1 << 31) - 1, 1 << 31, any]);
+        }
+        14 if lengths.len() > 3 => {
+            // segments below 2^31 bytes, whose sum stays the same modulo 2^32
+            for at in lengths.clone().take(4) {
+                layer.lengths[at] = layer.lengths[at].wrapping_add(1 << 30);
+            }
+            layer.marks.iter_mut().skip(lengths.start).take(4).for_each(|mark| *mark = 1);
+        }
+        15 => layer.marks.resize(near_or_cut(random, layer.marks.len()), 0),
+        16 => bodies.resize(near_or_cut(random, bodies.len()), 7),
+        17 if random.once_in(3) => call.answer = random.pick(&[0, 1, 3, 4]),
+        _ => call.output = near_or_cut(random, call.output),
+    }
+}
+
+fn pick_in(random: &mut Random, range: &Range<usize>) -> usize {
+    random.between(range.start as u64, range.end as u64 - 1) as usize
+}
+
+/// So many passes for one block; those that it had not are of 0 bytes.
+fn many_passes(layer: &mut Layer, block: usize, passes: usize) {
+    let had = layer.counts[block] as usize;
+    let before: u64 = layer.counts[..block].iter().map(|n| u64::from(*n)).sum();
+    let end = before as usize + had;
+    if end > layer.lengths.len() || end > layer.marks.len() || had > passes {
+        return;
+    }
+    layer.counts[block] = passes as u32;
+    layer.lengths.splice(end..end, vec![0; passes - had]);
+    layer.marks.splice(end..end, vec![0; passes - had]);
 }
 
 /// Bits flipped, bytes set to FF, cut, or longer.

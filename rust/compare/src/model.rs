@@ -1,5 +1,5 @@
-//! The scope (docs/SCOPE.md) as plain Rust, written from its text: start, measure, write and read on lent lists of words. Nothing here
-//! is fast.
+//! The scope (docs/SCOPE.md) as plain Rust, written from its text: start, measure, write, write a layer and read on lent lists of words.
+//! Nothing here is fast.
 
 const WRITER: u32 = 1;
 const READER: u32 = 2;
@@ -10,6 +10,7 @@ pub const NOT_YET_INCLUDED: u32 = 65_535;
 pub const NOT_YET_PLANES: u32 = 999;
 const MOST_PLANES: u32 = 998;
 const MOST_PASSES: u32 = 164;
+pub const MOST_PRECINCTS: usize = 16;
 const FIRST_WORDS: usize = 13;
 
 // ---- where the words of a band stand
@@ -511,6 +512,107 @@ pub fn write(
     state.copy_from_slice(&coded.state);
     scratch.copy_from_slice(&coded.state);
     answer[0] = packet.len() as u64;
+    0
+}
+
+// ---- a whole layer
+
+/// What a layer's precincts are given, behind one another.
+#[derive(Clone, Copy)]
+pub struct Lists<'a> {
+    pub states: &'a [u32],
+    pub counts: &'a [u32],
+    pub lengths: &'a [u32],
+    pub marks: &'a [u8],
+    pub bodies: &'a [u8],
+}
+
+/// The words and the blocks that a state's first words ask; none where it has no such words.
+fn asked(state: &[u32]) -> (usize, usize) {
+    if state.len() < FIRST_WORDS {
+        return (0, 0);
+    }
+    match three(&state[4..FIRST_WORDS]) {
+        Some(bands) if !shape_refused(state[1], &bands) => {
+            let (_, words, blocks) = layout(&bands[..state[1] as usize]);
+            (words, blocks)
+        }
+        _ => (0, 0),
+    }
+}
+
+/// The front of a list, and what is left of it: so many elements, or as many as there are.
+fn front<T>(list: &[T], n: u64) -> (&[T], &[T]) {
+    list.split_at(n.min(list.len() as u64) as usize)
+}
+
+/// Each precinct's part of the lists, in order; the last one's is all that is left.
+pub fn parts(lists: Lists, precincts: usize) -> Vec<Lists> {
+    let (mut parts, mut left) = (Vec::new(), lists);
+    while parts.len() + 1 < precincts {
+        let (words, blocks) = asked(left.states);
+        let (states, states_left) = front(left.states, words as u64);
+        let (counts, counts_left) = front(left.counts, blocks as u64);
+        let passes = counts.iter().map(|n| u64::from(*n)).sum();
+        let (lengths, lengths_left) = front(left.lengths, passes);
+        let (marks, marks_left) = front(left.marks, passes);
+        let (bodies, bodies_left) = front(left.bodies, lengths.iter().map(|n| u64::from(*n)).sum());
+        parts.push(Lists { states, counts, lengths, marks, bodies });
+        left = Lists { states: states_left, counts: counts_left, lengths: lengths_left, marks: marks_left, bodies: bodies_left };
+    }
+    parts.push(left);
+    parts
+}
+
+#[allow(clippy::too_many_arguments)]
+pub fn write_layer(
+    states: &mut [u32],
+    scratch: &mut [u32],
+    numbers: &[u32],
+    counts: &[u32],
+    lengths: &[u32],
+    marks: &[u8],
+    bodies: &[u8],
+    sop: bool,
+    eph: bool,
+    output: &mut [u8],
+    answer: &mut [u64],
+) -> u32 {
+    if answer.len() != 2 {
+        return 3;
+    }
+    answer.fill(0);
+    if numbers.len() > MOST_PRECINCTS {
+        return 14;
+    }
+    if numbers.is_empty() {
+        return 0;
+    }
+    let mut refused = if scratch.len() != states.len() { Some((5, 0)) } else { None };
+    let (mut new_states, mut new_output, mut bytes) = (Vec::new(), output.to_vec(), 0);
+    let lists = Lists { states, counts, lengths, marks, bodies };
+    for (place, (number, part)) in numbers.iter().zip(parts(lists, numbers.len())).enumerate() {
+        let (mut state, mut own_scratch, mut of_packet) = (part.states.to_vec(), part.states.to_vec(), [0]);
+        let Lists { counts, lengths, marks, bodies, .. } = part;
+        let room = &mut new_output[bytes..];
+        let why = write(&mut state, &mut own_scratch, counts, lengths, marks, bodies, sop, eph, *number, room, &mut of_packet);
+        refused = refused.or((why != 0).then_some((why, place as u64)));
+        if refused.is_some() {
+            break;
+        }
+        new_states.extend(state);
+        bytes += of_packet[0] as usize;
+    }
+    if let Some((why, place)) = refused {
+        output.fill(0);
+        scratch.fill(0);
+        answer[0] = place;
+        return why;
+    }
+    states.copy_from_slice(&new_states);
+    scratch.copy_from_slice(&new_states);
+    output.copy_from_slice(&new_output);
+    answer[1] = bytes as u64;
     0
 }
 

@@ -1,8 +1,9 @@
 //! Each call made twice, by the engine and by the scope's plain Rust (model.rs), on equal copies of every buffer; and where the call lies
 //! in the crate's domain, by the crate too, but for packets written without passes. The crate doesn't count bits past the end. A read that
-//! counts none is made again with more input. Anything unequal ends the run with all arguments.
+//! counts none is made again with more input. A layer of several precincts is written again by single calls. Anything unequal ends the run
+//! with all arguments.
 use crate::inputs;
-use crate::model::{self, Record};
+use crate::model::{self, Lists, Record, MOST_PRECINCTS};
 use crate::random::Random;
 use std::fmt::Debug;
 use tonkelvi::words;
@@ -24,25 +25,30 @@ pub enum Call {
     StartReader,
     Measure,
     Write,
+    WriteLayer,
     Read,
     Describe,
 }
 
-pub const CALLS: [(Call, &str); 7] = [
+pub const CALLS: [(Call, &str); 8] = [
     (Call::Length, "state_length"),
     (Call::StartWriter, "start_writer"),
     (Call::StartReader, "start_reader"),
     (Call::Measure, "measure"),
     (Call::Write, "write"),
+    (Call::WriteLayer, "write_layer"),
     (Call::Read, "read"),
     (Call::Describe, "describe"),
 ];
 
+/// 0 and the refusals.
+const NUMBERS: usize = 15;
+
 /// How many calls gave which number, and how many of them the crate was asked too.
 #[derive(Clone, Default)]
 pub struct Counts {
-    pub by_number: [[u64; 14]; 7],
-    pub with_crate: [[u64; 14]; 7],
+    pub by_number: [[u64; NUMBERS]; CALLS.len()],
+    pub with_crate: [[u64; NUMBERS]; CALLS.len()],
     /// Reads of a block with several segments behind another block.
     pub mixed_bodies: u64,
     /// Reads of a segment that starts 2^32 bytes or more into the body.
@@ -71,6 +77,11 @@ pub struct Counts {
     /// Accepted reads that took none, made again with more input, and those of them whose EPH had had too few bytes.
     pub longer: u64,
     pub longer_eph: u64,
+    /// Packets of layers written in one call, and those of them that the crate gave too, from the same words.
+    pub in_layers: u64,
+    pub in_layers_by_crate: u64,
+    /// Layers refused at another precinct than the first.
+    pub refused_later: u64,
 }
 
 impl Counts {
@@ -83,7 +94,7 @@ impl Counts {
     }
 
     pub fn print(&self) {
-        println!("{:>13}  {}", "", (0..14).map(|n| format!("{n:>10}")).collect::<String>());
+        println!("{:>13}  {}", "", (0..NUMBERS).map(|n| format!("{n:>10}")).collect::<String>());
         for (call, name) in CALLS {
             for (counts, label) in [(&self.by_number, name.to_string()), (&self.with_crate, "by the crate".to_string())] {
                 let row = &counts[call as usize];
@@ -111,6 +122,10 @@ impl Counts {
         println!("{} reads of cut inputs", self.cut_inputs);
         println!("{} accepted reads took bits past the end, at most {}", self.past_end, self.most_past_end);
         println!("{} that took none told the same with more input, {} of them but for EPH", self.longer, self.longer_eph);
+        println!(
+            "{} packets of layers written in one call, {} of them by the crate too; {} layers refused behind the first precinct",
+            self.in_layers, self.in_layers_by_crate, self.refused_later
+        );
     }
 
     /// Counts what an accepted read's records show of the starts.
@@ -144,6 +159,17 @@ impl Layer {
     pub fn without_passes(&self) -> bool {
         self.counts.iter().all(|count| *count == 0)
     }
+
+    /// What several precincts bring, behind one another.
+    pub fn joined<'a>(layers: impl Iterator<Item = &'a Layer>) -> Layer {
+        let mut joined = Layer::default();
+        for layer in layers {
+            joined.counts.extend(&layer.counts);
+            joined.lengths.extend(&layer.lengths);
+            joined.marks.extend(&layer.marks);
+        }
+        joined
+    }
 }
 
 /// The lists of a read.
@@ -174,6 +200,67 @@ pub struct Reading {
     pub answer: Vec<u64>,
     pub reports: Vec<u32>,
     pub records: Vec<Record>,
+}
+
+const LONGEST_BODIES: u64 = 1 << 22;
+
+/// What a call for a layer of several precincts is given, behind one another, and the lengths of the other lists lent to it.
+#[derive(Clone, Debug)]
+pub struct LayerCall {
+    pub states: Vec<u32>,
+    pub scratch: usize,
+    /// The packet numbers, one a precinct.
+    pub numbers: Vec<u32>,
+    pub layer: Layer,
+    pub bodies: Vec<u8>,
+    pub markers: Markers,
+    pub output: usize,
+    pub answer: usize,
+}
+
+impl LayerCall {
+    /// These states and contributions, with bodies and numbers of any content; no output, and the other lists in order, but that bodies
+    /// of more than `LONGEST_BODIES` bytes are not made.
+    pub fn new(random: &mut Random, states: Vec<u32>, layers: &[Layer], markers: Markers) -> LayerCall {
+        let layer = Layer::joined(layers.iter());
+        let bodies = random.bytes(if layer.body() > LONGEST_BODIES { 9 } else { layer.body() as usize });
+        let numbers = layers.iter().map(|_| random.next() as u32).collect();
+        LayerCall { scratch: states.len(), states, numbers, layer, bodies, markers, output: 0, answer: 2 }
+    }
+
+    /// Each precinct's part of the lists.
+    pub fn parts(&self) -> Vec<Lists<'_>> {
+        let Layer { counts, lengths, marks } = &self.layer;
+        model::parts(Lists { states: &self.states, counts, lengths, marks, bodies: &self.bodies }, self.numbers.len())
+    }
+}
+
+type WriteLayer = fn(&mut [u32], &mut [u32], &[u32], &[u32], &[u32], &[u8], &[u8], bool, bool, &mut [u8], &mut [u64]) -> u32;
+
+/// The lists that a call for a layer may change.
+#[derive(Clone, PartialEq, Debug)]
+struct LentLayer {
+    states: Vec<u32>,
+    scratch: Vec<u32>,
+    output: Vec<u8>,
+    answer: Vec<u64>,
+}
+
+impl LentLayer {
+    fn new(call: &LayerCall) -> LentLayer {
+        LentLayer {
+            states: call.states.clone(),
+            scratch: vec![USED; call.scratch],
+            output: vec![0xa5; call.output],
+            answer: vec![u64::MAX; call.answer],
+        }
+    }
+
+    fn written(&mut self, by: WriteLayer, call: &LayerCall) -> u32 {
+        let LayerCall { numbers, layer: Layer { counts, lengths, marks }, bodies, markers, .. } = call;
+        let LentLayer { states, scratch, output, answer } = self;
+        by(states, scratch, numbers, counts, lengths, marks, bodies, markers.sop, markers.eph, output, answer)
+    }
 }
 
 #[derive(Clone, Copy, Default, Debug)]
@@ -306,6 +393,57 @@ impl Pair {
         self.counts.bytes_from_words += if with_crate { bytes as u64 } else { 0 };
         buffers.1.truncate(bytes);
         (number, buffers.1)
+    }
+
+    /// A layer of several precincts. Gives the number, the states after it, and the packets where they were written.
+    pub fn write_layer(&mut self, call: &LayerCall) -> (u32, Vec<u32>, Vec<Vec<u8>>) {
+        let mut left = LentLayer::new(call);
+        let mut expected = left.clone();
+        let number = left.written(words::write_layer, call);
+        let should = expected.written(model::write_layer, call);
+        let text = || format!("write_layer {call:?}");
+        same("numbers", &number, &should, &text);
+        same("answers", &left.answer, &expected.answer, &text);
+        same("states", &left.states, &expected.states, &text);
+        same("scratch lists", &left.scratch, &expected.scratch, &text);
+        same("outputs", &left.output, &expected.output, &text);
+        let place = if call.answer == 2 { left.answer[0] } else { 0 };
+        self.counts.refused_later += u64::from(place > 0);
+        let by_crate = self.counts.with_crate[Call::Write as usize][0];
+        let packets = match call.answer == 2 && (1..=MOST_PRECINCTS).contains(&call.numbers.len()) && call.scratch == call.states.len() {
+            true => self.write_singly(call, (number, place as usize), &left, &text),
+            false => Vec::new(),
+        };
+        let by_crate = self.counts.with_crate[Call::Write as usize][0] - by_crate;
+        self.counts.in_layers += packets.len() as u64;
+        self.counts.in_layers_by_crate += if number == 0 { by_crate } else { 0 };
+        self.count(Call::WriteLayer, number, number == 0 && by_crate > 0);
+        (number, left.states, packets)
+    }
+
+    /// The same by single calls, one after another: they are accepted up to the place that the layer was refused at, which gets its number;
+    /// or all of them, and leave what the layer did. Gives the packets of an accepted layer.
+    fn write_singly(&mut self, call: &LayerCall, told: (u32, usize), left: &LentLayer, text: &dyn Fn() -> String) -> Vec<Vec<u8>> {
+        let (mut states, mut packets, mut bytes) = (Vec::new(), Vec::new(), 0);
+        for (place, (part, packet_number)) in call.parts().into_iter().zip(&call.numbers).enumerate() {
+            let layer = Layer { counts: part.counts.to_vec(), lengths: part.lengths.to_vec(), marks: part.marks.to_vec() };
+            let (mut state, words) = (part.states.to_vec(), part.states.len());
+            let room = call.output - bytes;
+            let (number, packet) = self.write(&mut state, words, &layer, part.bodies, call.markers, *packet_number, room, 1);
+            if number != 0 {
+                same("numbers and places of single calls", &told, &(number, place), text);
+                return Vec::new();
+            }
+            bytes += packet.len();
+            states.extend(state);
+            packets.push(packet);
+        }
+        same("numbers and places with accepted single calls", &told, &(0, 0), text);
+        same("states of single calls", &left.states, &states, text);
+        same("scratch lists of single calls", &left.scratch, &states, text);
+        same("packets of single calls", &left.output[..bytes], &packets.concat()[..], text);
+        same("bytes of single calls", &left.answer[1], &(bytes as u64), text);
+        packets
     }
 
     /// A read on the state, with a work list of so many words for so many records.

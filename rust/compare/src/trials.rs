@@ -1,13 +1,20 @@
 //! The trials: each makes calls until its share is used up.
 use crate::follow::{Follower, Written};
 use crate::inputs::{self, Shape};
-use crate::model::{self, LAYERS};
-use crate::pair::{Bands, Layer, Markers, Pair, Reading};
+use crate::model::{self, LAYERS, MOST_PRECINCTS};
+use crate::pair::{Bands, Layer, LayerCall, Markers, Pair, Reading};
 use crate::random::Random;
 
 pub struct Trials {
     pub pair: Pair,
     random: Random,
+}
+
+/// A precinct's writer and reader, and its packets so far.
+struct Precinct {
+    writer: Vec<u32>,
+    reader: Vec<u32>,
+    follower: Follower,
 }
 
 const RANGE_EDGES: [u32; 14] = [0, 1, 2, 997, 998, 999, 1000, 1001, 32_767, 32_768, 65_533, 65_534, 65_535, 65_536];
@@ -316,7 +323,7 @@ impl Trials {
     fn near(&mut self, n: usize, changes: bool) -> usize {
         match changes {
             false => n,
-            true => self.random.pick(&[n.saturating_sub(1), n + 1, n.saturating_sub(2), n.saturating_sub(4), n + 4, 0, 2 * n + 1]),
+            true => inputs::near(&mut self.random, n),
         }
     }
 
@@ -369,6 +376,141 @@ impl Trials {
         let other = list == 1 || self.random.once_in(4);
         let work = self.near(4 * records, other);
         self.pair.read(&mut state, scratch, &src, markers, reports, work, records, answer);
+    }
+
+    // ---- layers of several precincts
+
+    /// Layers of none to 18 precincts, some of them in a row with single packets between; each packet is read back. Before each layer come
+    /// calls with changed lists.
+    pub fn layers(&mut self, calls: u64, side: u64) {
+        self.until(calls, |t| {
+            let precincts = if t.random.once_in(2) { t.random.between(0, 18) } else { t.random.between(1, 4) };
+            let mut precincts: Vec<Precinct> = (0..precincts).map(|_| t.precinct(side)).collect();
+            for _ in 0..t.random.between(1, 4) {
+                for precinct in &mut precincts {
+                    if t.random.once_in(8) {
+                        let (number, rare) = (t.random.next() as u32, t.random.pick(&[0, 1, 2]));
+                        t.next_packet(&mut precinct.writer, &mut precinct.reader, &mut precinct.follower, number, rare, |_, _, _, _, _| {});
+                    }
+                }
+                t.whole_layer(&mut precincts, |t, call| {
+                    for _ in 0..4 {
+                        let damaged = inputs::damaged_call(&mut t.random, call);
+                        t.pair.write_layer(&damaged);
+                    }
+                });
+            }
+        });
+    }
+
+    /// So many layers of small precincts, each first with every list of every length up to two more than is right.
+    pub fn every_length(&mut self, layers: u64) {
+        for _ in 0..layers {
+            let mut precincts: Vec<Precinct> = (0..self.random.between(1, 4)).map(|_| self.precinct(2)).collect();
+            self.whole_layer(&mut precincts, |t, call| {
+                let mut each = |right: usize, change: fn(&mut LayerCall, usize)| {
+                    for length in 0..right + 3 {
+                        let mut call = call.clone();
+                        change(&mut call, length);
+                        t.pair.write_layer(&call);
+                    }
+                };
+                each(call.states.len(), |call, n| call.states.resize(n, 0));
+                each(call.states.len(), |call, n| {
+                    call.states.resize(n, 0);
+                    call.scratch = n;
+                });
+                each(call.scratch, |call, n| call.scratch = n);
+                each(call.scratch, |call, n| {
+                    call.numbers.clear();
+                    call.scratch = n;
+                });
+                each(call.numbers.len().max(16), |call, n| call.numbers.resize(n, 1));
+                each(call.layer.counts.len(), |call, n| call.layer.counts.resize(n, 0));
+                each(call.layer.lengths.len(), |call, n| call.layer.lengths.resize(n, 0));
+                each(call.layer.marks.len(), |call, n| call.layer.marks.resize(n, 0));
+                each(call.bodies.len(), |call, n| call.bodies.resize(n, 0));
+                each(call.output, |call, n| call.output = n);
+                each(2, |call, n| call.answer = n);
+            });
+        }
+    }
+
+    /// Layers of states in range that no call need leave, with long segments and wide fields, and changed lists.
+    pub fn layers_of_states(&mut self, calls: u64) {
+        self.until(calls, |t| {
+            let states: Vec<Vec<u32>> = (0..t.random.between(1, 5)).map(|_| t.any_writer()).collect();
+            let bits = t.random.pick(&[4, 8, 8, 12, 31, 32]);
+            let layers: Vec<Layer> = states.iter().map(|state| inputs::layer(&mut t.random, state, 2, bits)).collect();
+            let markers = inputs::markers(&mut t.random);
+            let mut call = LayerCall::new(&mut t.random, states.concat(), &layers, markers);
+            call.output = call.bodies.len() + t.random.pick(&[20, 200, 2_000]);
+            t.pair.write_layer(&call);
+            let damaged = inputs::damaged_call(&mut t.random, &call);
+            t.pair.write_layer(&damaged);
+        });
+    }
+
+    fn any_writer(&mut self) -> Vec<u32> {
+        let shape = inputs::shape(&mut self.random, 3);
+        match self.random.once_in(4) {
+            true => inputs::late_state(&mut self.random, 1, &shape, 100),
+            false => inputs::state(&mut self.random, 1, &shape),
+        }
+    }
+
+    /// A layer of 16 precincts of three bands of 64 × 64 blocks each, sparse, and one without passes.
+    pub fn largest_layers(&mut self) {
+        let shape = Shape { count: 3, bands: [[64, 64, 12]; 3], style: 0, planes: vec![11; 3 * 64 * 64] };
+        let mut precincts: Vec<Precinct> = (0..16).map(|_| self.precinct_of(&shape, Follower::new(&shape, true))).collect();
+        for rare in [20, 0] {
+            self.layer_as_dense_as(&mut precincts, rare, |t, call| {
+                t.pair.write_layer(&LayerCall { output: call.output - 1, ..call.clone() });
+            });
+        }
+    }
+
+    fn precinct(&mut self, side: u64) -> Precinct {
+        let shape = inputs::shape(&mut self.random, side);
+        let follower = self.follower(&shape);
+        self.precinct_of(&shape, follower)
+    }
+
+    fn precinct_of(&mut self, shape: &Shape, follower: Follower) -> Precinct {
+        Precinct { writer: self.start(true, shape), reader: self.start(false, shape), follower }
+    }
+
+    /// The next packet of each precinct in one call, and each read back; before that the call is shown to `first`. More than 16 are
+    /// refused, and then the precincts stay.
+    fn whole_layer(&mut self, precincts: &mut [Precinct], first: impl Fn(&mut Trials, &LayerCall)) {
+        let rare = self.random.pick(&[0, 1, 1, 2, 3]);
+        self.layer_as_dense_as(precincts, rare, first);
+    }
+
+    fn layer_as_dense_as(&mut self, precincts: &mut [Precinct], rare: u64, first: impl Fn(&mut Trials, &LayerCall)) {
+        let markers = inputs::markers(&mut self.random);
+        let layers: Vec<Layer> =
+            precincts.iter().map(|p| inputs::layer_by_block(&mut self.random, &p.writer, |_| rare, 6, p.follower.matching)).collect();
+        let states = precincts.iter().flat_map(|p| &p.writer).copied().collect();
+        let mut call = LayerCall::new(&mut self.random, states, &layers, markers);
+        for (p, layer) in precincts.iter().zip(&layers) {
+            let (_, header, body) = self.pair.measure(&p.writer, p.writer.len(), layer, markers, 2);
+            call.output += (header + body) as usize;
+        }
+        first(self, &call);
+        call.output += self.random.pick(&[0, 0, 1, 9]);
+        let (refusal, states, packets) = self.pair.write_layer(&call);
+        assert_eq!(refusal, if precincts.len() > MOST_PRECINCTS { 14 } else { 0 }, "a layer that fits");
+        let mut left = &states[..];
+        for (i, packet) in packets.iter().enumerate() {
+            let Precinct { writer, reader, follower } = &mut precincts[i];
+            let (state, others) = left.split_at(writer.len());
+            (*writer, left) = (state.to_vec(), others);
+            let src = if self.random.once_in(2) { packets[i..].concat() } else { packet.clone() };
+            let reading = self.read(reader, &src, markers, layers[i].lengths.len());
+            let written = Written { layer: &layers[i], markers, number: call.numbers[i], packet, state: writer };
+            follower.packet(&mut self.pair.counts, &written, &reading, reader);
+        }
     }
 
     // ---- inputs that end too early

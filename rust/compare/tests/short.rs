@@ -25,6 +25,9 @@ fn the_crate_takes_part() {
     let counts = &trials.pair.counts;
     assert!(counts.bytes_with_crate > 0, "bytes by the crate's writer from the start on");
     assert!(counts.states_after_empty > 0, "states after packets without passes");
+    trials.layers(2_000, 3);
+    let counts = &trials.pair.counts;
+    assert!(counts.in_layers_by_crate > 0, "packets of layers");
     assert!(counts.empty_by_crate > 0 && counts.read_by_crate > counts.empty_by_crate, "packets read by the crate in order");
 }
 
@@ -80,6 +83,31 @@ fn states_described() {
 #[test]
 fn lists() {
     trial(&[0, 3, 5, 7, 10, 11, 13], |t| t.lists(100_000));
+}
+
+#[test]
+fn layers() {
+    let counts = trial(&[0, 3, 5, 6, 7, 8, 10, 11, 14], |t| t.layers(100_000, 3));
+    assert!(counts.in_layers > 5_000 && counts.refused_later > 1_000, "layers written, and refused behind their first precinct");
+}
+
+#[test]
+fn layers_of_states() {
+    let mut trials = Trials::new(20261115);
+    trials.layers_of_states(60_000);
+    for number in [0, 3, 5, 6, 7, 8, 9, 10, 11] {
+        assert!(trials.pair.counts.by_number[Call::WriteLayer as usize][number] > 0, "no layer gave {number}");
+    }
+}
+
+#[test]
+fn largest_layers() {
+    trial(&[0, 11], |t| t.largest_layers());
+}
+
+#[test]
+fn every_length() {
+    trial(&[0, 3, 5, 10, 11, 14], |t| t.every_length(20));
 }
 
 #[test]

@@ -1,5 +1,5 @@
-//! JPEG 2000 packet headers for one precinct, layer by layer: a safe face for the engine, whose functions are proved to meet
-//! equations with definitions written from ITU-T T.800.
+//! JPEG 2000 packet headers, layer by layer: a safe face for the engine, whose functions are proved to meet equations with definitions
+//! written from ITU-T T.800. A [`Writer`] or [`Reader`] has one precinct; a [`Layer`] writes the packets of several, all or none of them.
 //!
 //! ```
 //! use tonkelvi::{Band, Contribution, Markers, Reader, Writer};
@@ -22,11 +22,13 @@
 //! The static library is linked by build.rs: from the folder that the environment variable `TONKELVI_LIB` names, or else it is built by
 //! `rt staticlib tonkelvi`.
 
+mod layer;
 mod reader;
 mod refusal;
 pub mod words;
 mod writer;
 
+pub use layer::{Layer, LayerRefused, Packets, Part};
 pub use reader::{most_segments, Block, Mark, Packet, Reader, Segment};
 pub use refusal::Refusal;
 pub use writer::{Contribution, Measured, Writer};

@@ -19,6 +19,7 @@ pub enum Refusal {
     Space = 11,
     HeaderEnd = 12,
     Records = 13,
+    Precincts = 14,
 }
 
 impl Refusal {
@@ -37,6 +38,7 @@ impl Refusal {
         Refusal::Space,
         Refusal::HeaderEnd,
         Refusal::Records,
+        Refusal::Precincts,
     ];
 
     /// Its number, from 1 on.
@@ -65,6 +67,7 @@ impl Refusal {
             Refusal::Space => "The packet is longer than the output.",
             Refusal::HeaderEnd => "The input ends with a byte FF that the header ends in.",
             Refusal::Records => "The packet has more segments than records were lent.",
+            Refusal::Precincts => "More than 16 precincts were given for one layer.",
         }
     }
 }

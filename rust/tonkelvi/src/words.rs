@@ -76,6 +76,28 @@ mod exported {
             answer: *mut u64,
             n_answer: usize,
         ) -> u32;
+        pub fn tonkelvi_write_layer(
+            states: *mut u32,
+            n_states: usize,
+            scratch: *mut u32,
+            n_scratch: usize,
+            packet_numbers: *const u32,
+            n_packet_numbers: usize,
+            counts: *const u32,
+            n_counts: usize,
+            lengths: *const u32,
+            n_lengths: usize,
+            marks: *const u8,
+            n_marks: usize,
+            bodies: *const u8,
+            n_bodies: usize,
+            sop: bool,
+            eph: bool,
+            output: *mut u8,
+            n_output: usize,
+            answer: *mut u64,
+            n_answer: usize,
+        ) -> u32;
         pub fn tonkelvi_read(
             state: *mut u32,
             n_state: usize,
@@ -205,6 +227,49 @@ pub fn write(
             sop,
             eph,
             number,
+            output.as_mut_ptr(),
+            output.len(),
+            answer.as_mut_ptr(),
+            answer.len(),
+        )
+    }
+}
+
+/// Writes the next packet of each of up to 16 precincts, or none of them: their states, and what each brings, lie behind one another, and
+/// each has a packet number. `answer` has two words: the place of the precinct that was refused, and the bytes of all packets.
+#[allow(clippy::too_many_arguments)]
+pub fn write_layer(
+    states: &mut [u32],
+    scratch: &mut [u32],
+    packet_numbers: &[u32],
+    counts: &[u32],
+    lengths: &[u32],
+    marks: &[u8],
+    bodies: &[u8],
+    sop: bool,
+    eph: bool,
+    output: &mut [u8],
+    answer: &mut [u64],
+) -> u32 {
+    // SAFETY: as in start_writer.
+    unsafe {
+        exported::tonkelvi_write_layer(
+            states.as_mut_ptr(),
+            states.len(),
+            scratch.as_mut_ptr(),
+            scratch.len(),
+            packet_numbers.as_ptr(),
+            packet_numbers.len(),
+            counts.as_ptr(),
+            counts.len(),
+            lengths.as_ptr(),
+            lengths.len(),
+            marks.as_ptr(),
+            marks.len(),
+            bodies.as_ptr(),
+            bodies.len(),
+            sop,
+            eph,
             output.as_mut_ptr(),
             output.len(),
             answer.as_mut_ptr(),

@@ -75,24 +75,19 @@ impl Writer {
         described(&self.state, WRITER).expect("a start or from_state has filled it, and calls keep it in range")
     }
 
+    /// The state's words, and as many of scratch.
+    pub(crate) fn words(&mut self) -> Words<'_> {
+        Words { state: &mut self.state, scratch: &mut self.scratch }
+    }
+
     /// The bytes of the next packet, which is not written.
     pub fn measure(&mut self, layer: Contribution, markers: Markers) -> Result<Measured, Refusal> {
-        let mut answer = [0; 2];
-        let Contribution { counts, lengths, marks } = layer;
-        checked(words::measure(&self.state, &mut self.scratch, counts, lengths, marks, markers.sop, markers.eph, &mut answer))?;
-        Ok(Measured { header: answer[0], body: answer[1] })
+        self.words().measure(layer, markers)
     }
 
     /// The next packet. `number` goes into SOP, by its low 16 bits.
     pub fn write(&mut self, layer: Contribution, body: &[u8], markers: Markers, number: u32) -> Result<Vec<u8>, Refusal> {
-        let size = self.measure(layer, markers)?;
-        if size.body != body.len() as u64 {
-            return Err(Refusal::Body);
-        }
-        let mut packet = vec![0; size.header as usize + body.len()];
-        let bytes = self.write_to(layer, body, markers, number, &mut packet)?;
-        packet.truncate(bytes);
-        Ok(packet)
+        self.words().write(layer, body, markers, number)
     }
 
     /// The next packet, into the front of `output`; answers its bytes. Refused for want of space, it leaves zeros in `output`.
@@ -104,11 +99,54 @@ impl Writer {
         number: u32,
         output: &mut [u8],
     ) -> Result<usize, Refusal> {
+        self.words().write_to(layer, body, markers, number, output)
+    }
+}
+
+/// A writer's state, and as many words of scratch.
+pub(crate) struct Words<'a> {
+    pub state: &'a mut [u32],
+    pub scratch: &'a mut [u32],
+}
+
+impl Words<'_> {
+    pub fn measure(&mut self, layer: Contribution, markers: Markers) -> Result<Measured, Refusal> {
+        let mut answer = [0; 2];
+        let Contribution { counts, lengths, marks } = layer;
+        checked(words::measure(self.state, self.scratch, counts, lengths, marks, markers.sop, markers.eph, &mut answer))?;
+        Ok(Measured { header: answer[0], body: answer[1] })
+    }
+
+    /// Measured, with a body as long as measured.
+    pub fn measure_with_body(&mut self, layer: Contribution, body: &[u8], markers: Markers) -> Result<Measured, Refusal> {
+        let size = self.measure(layer, markers)?;
+        match size.body == body.len() as u64 {
+            true => Ok(size),
+            false => Err(Refusal::Body),
+        }
+    }
+
+    pub fn write(&mut self, layer: Contribution, body: &[u8], markers: Markers, number: u32) -> Result<Vec<u8>, Refusal> {
+        let size = self.measure_with_body(layer, body, markers)?;
+        let mut packet = vec![0; size.header as usize + body.len()];
+        let bytes = self.write_to(layer, body, markers, number, &mut packet)?;
+        packet.truncate(bytes);
+        Ok(packet)
+    }
+
+    pub fn write_to(
+        &mut self,
+        layer: Contribution,
+        body: &[u8],
+        markers: Markers,
+        number: u32,
+        output: &mut [u8],
+    ) -> Result<usize, Refusal> {
         let mut answer = [0; 1];
         let Contribution { counts, lengths, marks } = layer;
         checked(words::write(
-            &mut self.state,
-            &mut self.scratch,
+            self.state,
+            self.scratch,
             counts,
             lengths,
             marks,

@@ -1,5 +1,6 @@
-/* Packets A, with both markers, K, D and a packet of the last layer, by the calls of include/tonkelvi.h alone, as C and as C++; ends with
- * 0 where every answer is right. With an argument it writes the version and the sentences of all refusals, a line each, instead. */
+/* Packets A, with both markers, K, D, a packet of the last layer, and A and K as one layer, by the calls of include/tonkelvi.h alone, as C
+ * and as C++; ends with 0 where every answer is right. With an argument it writes the version and the sentences of all refusals, a line
+ * each, instead. */
 #include "tonkelvi.h"
 
 #include <assert.h>
@@ -21,7 +22,7 @@ static int expect(int right, int line) {
 static int texts(void) {
     uint32_t number;
     printf("%d %s\n", TONKELVI_VERSION, TONKELVI_VERSION_TEXT);
-    for (number = TONKELVI_SHAPE; number <= TONKELVI_RECORDS; number++) puts(tonkelvi_text(number));
+    for (number = TONKELVI_SHAPE; number <= TONKELVI_PRECINCTS; number++) puts(tonkelvi_text(number));
     return 0;
 }
 
@@ -103,6 +104,47 @@ static int last_layer(void) {
     return 0;
 }
 
+/* A and K behind one another, whole, and refused: with an answer of another length, 17 precincts, a scratch one word short, an output one
+ * byte short, a precinct too few and one too many. */
+static int layer(void) {
+    const uint32_t bands[9] = {1, 1, 5, 0, 0, 0, 0, 0, 0}, wide[9] = {2, 1, 5, 0, 0, 0, 0, 0, 0}, planes[2] = {5, 4};
+    const uint32_t numbers[17] = {7}, counts[3] = {1, 1, 1}, lengths[3] = {5, 5, 5};
+    const uint8_t marks[3] = {0, 0, 0}, bodies[15] = {1, 2, 3, 4, 5, 6, 7, 8, 9, 10, 11, 12, 13, 14, 15};
+    const uint8_t packets[20] = {0xe5, 1, 2, 3, 4, 5, 0xf9, 0x69, 0x40, 6, 7, 8, 9, 10, 11, 12, 13, 14, 15, 9}, zeros[20] = {0};
+    uint32_t fresh[62], states[62], scratch[62];
+    uint8_t output[20];
+    uint64_t answer[3];
+    size_t n;
+
+    EXPECT(tonkelvi_start_writer(1, bands, 9, 0, planes, 1, fresh, 23) == 0);
+    EXPECT(tonkelvi_start_writer(1, wide, 9, 0, planes, 2, fresh + 23, 39) == 0);
+    memcpy(states, fresh, sizeof fresh);
+    memset(scratch, 9, sizeof scratch);
+    memset(output, 9, sizeof output);
+#define LAYER(n_scratch, n_numbers, n_output, n_answer) tonkelvi_write_layer(states, 62, scratch, n_scratch, numbers, n_numbers, \
+    counts, 3, lengths, 3, marks, 3, bodies, 15, false, false, output, n_output, answer, n_answer)
+    answer[0] = answer[1] = answer[2] = 9;
+    for (n = 0; n < 4; n++) {
+        EXPECT(n == 2 || LAYER(61, 17, 18, n) == TONKELVI_LIST);
+        EXPECT(answer[0] == 9 && answer[1] == 9 && answer[2] == 9);
+    }
+    EXPECT(LAYER(61, 17, 18, 2) == TONKELVI_PRECINCTS && answer[0] == 0 && answer[1] == 0);
+    EXPECT(LAYER(61, 0, 18, 2) == 0 && answer[0] == 0 && answer[1] == 0);
+    EXPECT(tonkelvi_write_layer(NULL, 0, NULL, 0, NULL, 0, NULL, 0, NULL, 0, NULL, 0, NULL, 0, true, true, NULL, 0, answer, 2) == 0);
+    EXPECT(scratch[0] == 0x09090909 && output[0] == 9);
+    EXPECT(LAYER(61, 2, 18, 2) == TONKELVI_STATE && answer[0] == 0);
+    EXPECT(scratch[60] == 0 && scratch[61] == 0x09090909 && memcmp(output, zeros, 18) == 0 && output[18] == 9);
+    EXPECT(LAYER(62, 2, 18, 2) == TONKELVI_SPACE && answer[0] == 1 && answer[1] == 0);
+    EXPECT(memcmp(output, zeros, 18) == 0 && output[18] == 9 && scratch[0] == 0 && scratch[61] == 0);
+    EXPECT(LAYER(62, 1, 18, 2) == TONKELVI_STATE && answer[0] == 0 && LAYER(62, 3, 20, 2) == TONKELVI_STATE && answer[0] == 2);
+    EXPECT(memcmp(states, fresh, sizeof fresh) == 0);
+    output[19] = 9;
+    EXPECT(LAYER(62, 2, 20, 2) == 0 && answer[0] == 0 && answer[1] == 19 && memcmp(output, packets, sizeof packets) == 0);
+    EXPECT(states[3] == 1 && states[26] == 1 && memcmp(states, scratch, sizeof states) == 0);
+#undef LAYER
+    return 0;
+}
+
 int main(int argc, char **argv) {
     const uint32_t bands[10] = {1, 1, 5, 0, 0, 0, 0, 0, 0, 0};
     const uint32_t planes[1] = {5}, counts[1] = {1}, lengths[1] = {5};
@@ -117,7 +159,7 @@ int main(int argc, char **argv) {
 
     (void)argv;
     if (argc > 1) return texts();
-    EXPECT(tonkelvi_text(0)[0] == 0 && tonkelvi_text(14)[0] == 0);
+    EXPECT(tonkelvi_text(0)[0] == 0 && tonkelvi_text(15)[0] == 0);
 
     size_t n = tonkelvi_state_length(1, bands, 9);
     EXPECT(n == 13 + 6 + 4);
@@ -155,5 +197,6 @@ int main(int argc, char **argv) {
     free(scratch);
     int failed = starts();
     if (!failed) failed = past_end();
-    return failed ? failed : last_layer();
+    if (!failed) failed = last_layer();
+    return failed ? failed : layer();
 }

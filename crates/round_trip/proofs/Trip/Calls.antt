@@ -76,7 +76,7 @@ module _ (ws scratch : List ℕ) (p : Contribution) (body : List ℕ) (m : Marke
   why = writeRefusal ws scratch p body m number output
 
   -- the two ways that a call goes
-  write-done : eqb why 0 ≡ true → write ws scratch p body m number output
+  pub write-done : eqb why 0 ≡ true → write ws scratch p body m number output
       ≡ record {
         answer = record { refusal = 0; bytes = length (packet ws p body m number) };
         state = codeHeader p ws .words;
@@ -151,7 +151,7 @@ pub record FirstOwed (s : ℕ) (ws : List ℕ) (es : List BlockEntry) (cs : List
   pub rest-terminated : T (allTerminatedAsStyle s (writeOf ws call .state) (addCounts es (call .contribution .counts)) rest)
 
 module _ (s : ℕ) (ws : List ℕ) (es : List BlockEntry) (c : WriteCall) (cs : List WriterCall) where
-  owed-accepted : accepted ws c ≡ true → owed s ws es (writing c ∷ cs)
+  pub owed-accepted : accepted ws c ≡ true → owed s ws es (writing c ∷ cs)
       ≡ owedFor s ws es c ∷ owed s (writeOf ws c .state) (addCounts es (c .contribution .counts)) cs
   unfolding owed
   owed-accepted h = if-true (accepted ws c) _ _ h

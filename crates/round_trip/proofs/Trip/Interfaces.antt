@@ -60,16 +60,16 @@ module _ (I : Interface) where
   callsOf (written m ∷ cs) = cond (I .writes .asked m) (writing (I .writes .args m) ∷ callsOf cs) (callsOf cs)
 
   -- a writing call in the state ws: the definition's, or refused with the state as it was
-  record Gives (ws : List ℕ) (m : I .writes .Made) : Type 0 where
-    asked : I .writes .asked m ≡ true
-    left : I .writes .left m ≡ writeOf ws (I .writes .args m)
+  pub record Gives (ws : List ℕ) (m : I .writes .Made) : Type 0 where
+    pub asked : I .writes .asked m ≡ true
+    pub left : I .writes .left m ≡ writeOf ws (I .writes .args m)
 
-  record Keeps (ws : List ℕ) (m : I .writes .Made) : Type 0 where
-    asked : I .writes .asked m ≡ false
-    refused : made.accepted I m ≡ false
-    state : I .writes .left m .state ≡ ws
+  pub record Keeps (ws : List ℕ) (m : I .writes .Made) : Type 0 where
+    pub asked : I .writes .asked m ≡ false
+    pub refused : made.accepted I m ≡ false
+    pub state : I .writes .left m .state ≡ ws
 
-  on-write {ℓ} : {X : Type ℓ} (ws : List ℕ) (m : I .writes .Made) → I .writes .found m ≡ ws → (Gives ws m → X) → (Keeps ws m → X) → X
+  pub on-write {ℓ} : {X : Type ℓ} (ws : List ℕ) (m : I .writes .Made) → I .writes .found m ≡ ws → (Gives ws m → X) → (Keeps ws m → X) → X
   on-write ws m e f g =
       on-bool (I .writes .asked m)
       (λ a. f (record { asked = a; left = I .writes .meets m a ∙ ap (λ (vs : List ℕ). writeOf vs (I .writes .args m)) e }))
@@ -213,35 +213,48 @@ module _ (I : Interface) where
         ∙ same-start reader n (c .bands) given style [] lent (ap (λ (z : ℕ). take z (c .bands)) (sym counts) ∙ bands)
         (subst (λ (z : ℕ). z ≤ length (c .bands)) counts (A .enough)) (B .enough)
 
+    -- of the definitions' calls
+    pub calls-read : (cs : List WriterCall) → T (allTerminatedAsStyle style (I .starts writer .left w .state) (bookOf I w) cs)
+        → (rs : List (ReaderMade I))
+        → made.ReadsAsOwed I (I .starts reader .left r .state) (owed style (I .starts writer .left w .state) (bookOf I w) cs) rs
+    calls-read cs t rs =
+        let planes : List ℕ = I .starts writer .args w .planes in
+        let first : List ℕ = start writer n given style planes (I .starts writer .found w) .state in
+        let same : I .starts writer .left w .state ≡ first = ap (λ (z : StartResult). z .state) writer-is in
+        subst (λ (z : StartResult). made.ReadsAsOwed I (z .state) (owed style (I .starts writer .left w .state) (bookOf I w) cs) rs)
+        (sym reader-is)
+        (subst (λ (z : List ℕ). made.ReadsAsOwed I (start reader n given style [] (I .starts reader .found r) .state)
+        (owed style z (bookOf I w) cs) rs) (sym same)
+        (reads-are (start reader n given style [] (I .starts reader .found r) .state) (owed style first (bookOf I w) cs) rs
+        (λ rcs. all-packets-read (I .form) n given style planes (I .starts writer .found w) (I .starts reader .found r) writer-accepts
+        (sym (ap (λ (z : StartResult). z .answer) reader-is) ∙ er) cs
+        (subst (λ (z : List ℕ). T (allTerminatedAsStyle style z (bookOf I w) cs)) same t) rcs)))
+
     trip : (ws : List (WriterMade I)) → Follows I (I .starts writer .left w .state) ws
         → T (made.allTerminatedAsStyle I style (bookOf I w) ws) → (rs : List (ReaderMade I))
         → made.ReadsAsOwed I (I .starts reader .left r .state) (made.owed I style (bookOf I w) ws) rs
     trip ws f t rs =
-        let planes : List ℕ = I .starts writer .args w .planes in
-        let first : List ℕ = start writer n given style planes (I .starts writer .found w) .state in
-        let g : Follows I first ws = subst (λ (z : StartResult). Follows I (z .state) ws) writer-is f in
-        subst (λ (z : StartResult). made.ReadsAsOwed I (z .state) (made.owed I style (bookOf I w) ws) rs) (sym reader-is)
-        (reads-are (start reader n given style [] (I .starts reader .found r) .state) (made.owed I style (bookOf I w) ws) rs
-        (λ cs. subst (λ (os : List Owed). ReadsAsOwed (I .form) (start reader n given style [] (I .starts reader .found r) .state) os cs)
-        (sym (owed-is style first (bookOf I w) ws g))
-        (all-packets-read (I .form) n given style planes (I .starts writer .found w) (I .starts reader .found r) writer-accepts
-        (sym (ap (λ (z : StartResult). z .answer) reader-is) ∙ er) (callsOf ws)
-        (subst T (terminated-is style first (bookOf I w) ws g) t) cs)))
+        let first : List ℕ = I .starts writer .left w .state in
+        subst (λ (os : List Owed). made.ReadsAsOwed I (I .starts reader .left r .state) os rs)
+        (sym (owed-is style first (bookOf I w) ws f))
+        (calls-read (callsOf ws) (subst T (terminated-is style first (bookOf I w) ws f) t) rs)
 
 -- DEMAND 3
 pub round-trip : (I : Interface) → RoundTrip I
 unfolding RoundTrip
 round-trip I w r ew er counts bands styles ws f t rs = trip I w r ew er counts bands styles ws f t rs
 
-pub writer-in-range : (I : Interface) → WriterInRange I
-unfolding WriterInRange
-writer-in-range I w e ws f =
+pub calls-stay-in-range : (I : Interface) (w : I .starts writer .Made) → Accepted I writer w → (cs : List WriterCall)
+    → validState writer (stateAfter (I .starts writer .left w .state) cs) (length (I .starts writer .found w)) ≡ true
+calls-stay-in-range I w e cs =
     let c : StartCall = I .starts writer .args w in
     let lent : List ℕ = I .starts writer .found w in
     let k = start-by I writer w e in
-    let first : List ℕ = start writer (c .count) (c .bands) (c .style) (c .planes) lent .state in
-    let a : made.stateAfter I (I .starts writer .left w .state) ws ≡ stateAfter first (callsOf I ws) =
-    ap (λ (z : StartResult). made.stateAfter I (z .state) ws) k
-    ∙ after-is I first ws (subst (λ (z : StartResult). Follows I (z .state) ws) k f) in
-    subst (λ (vs : List ℕ). validState writer vs (length lent) ≡ true) (sym a)
-    (calls-in-range (c .count) (c .bands) (c .style) (c .planes) lent (sym (ap (λ (z : StartResult). z .answer) k) ∙ e) (callsOf I ws))
+    subst (λ (z : StartResult). validState writer (stateAfter (z .state) cs) (length lent) ≡ true) (sym k)
+    (calls-in-range (c .count) (c .bands) (c .style) (c .planes) lent (sym (ap (λ (z : StartResult). z .answer) k) ∙ e) cs)
+
+pub writer-in-range : (I : Interface) → WriterInRange I
+unfolding WriterInRange
+writer-in-range I w e ws f =
+    subst (λ (vs : List ℕ). validState writer vs (length (I .starts writer .found w)) ≡ true)
+    (sym (after-is I (I .starts writer .left w .state) ws f)) (calls-stay-in-range I w e (callsOf I ws))

@@ -6,7 +6,7 @@ use native.Mathlib.Omega.{arith}
 use borrow.Author.Needs.{needs}
 use Rattle.t800.specs.WriteHeader.{contribution}
 use Rattle.t2_write_packet.specs.Front.{putFront}
-use Rattle.t2_measure.proofs.Laws.Accepted.{accepted, as-long, copy-accepted}
+use Rattle.t2_refusal_laws.proofs.Laws.Accepted.{accepted, as-long, copy-accepted}
 use Rattle.t2_measure.proofs.Laws.Measured.{measure-refused, measure-done}
 use Rattle.t2_measure.proofs.measure.Statement.{statement}
 use Rattle.t2_measure.proofs.measure.Tie as tie

@@ -173,7 +173,7 @@ module _ (ws scratch : List ℕ) (p : Contribution) (body : List ℕ) (m : Marke
   abbrev wrote : WriteResult
   wrote = write ws scratch p body m number output
 
-  writing-in-range : writeRefusal ws scratch p body m number output ≡ 0 → validState writer ws (length scratch) ≡ true
+  pub writing-in-range : writeRefusal ws scratch p body m number output ≡ 0 → validState writer ws (length scratch) ≡ true
   unfolding writeRefusalWith
   writing-in-range e =
       not-false (validState writer ws (length scratch)) (not-refused (not (validState writer ws (length scratch))) 5 _ (omega arith) e .0)

@@ -2,9 +2,10 @@
 use mathlib.Core.Path.{_≡_}
 use mathlib.Core.Bool.{Bool, true, not, _&&_, _||_}
 use mathlib.Core.List.{List}
-use Prim.Native.Nat.{ℕ, _+_, _*_, _≤_}
+use Prim.Native.Nat.{ℕ, _+_, _*_, _≤_, _<_}
 use native.Mathlib.Omega.{arith}
 use lib.ListN.{getD, take}
+use lib.Seq.{getD-take}
 use lib.Dec.{ltb, leb, eqb}
 use borrow.Author.Tests.{not-true}
 use Rattle.t800.specs.declared.Band.{Band}
@@ -51,3 +52,44 @@ unfolding shapeInRange bands
 shape-known r ws e =
     shape-not-refused (bandCount ws) (threeBands ws)
     (not-true (badShape (bandCount ws) (bands ws)) (and-right (eqb (role ws) r) (not (badShape (bandCount ws) (bands ws))) e))
+
+-- ---- the words in front of a list have its first ones
+
+module _ (ws : List ℕ) (n : ℕ) (h : 13 ≤ n) where
+  at : (i : ℕ) → i < 13 → getD (take n ws) i 0 ≡ getD ws i 0
+  at i l = getD-take n ws i 0 (omega arith)
+
+  pub bands-in-front : bands (take n ws) ≡ bands ws
+  unfolding bands bandAt
+  bands-in-front =
+      rw (
+        at 1 (omega arith),
+        at 4 (omega arith),
+        at 5 (omega arith),
+        at 6 (omega arith),
+        at 7 (omega arith),
+        at 8 (omega arith),
+        at 9 (omega arith),
+        at 10 (omega arith),
+        at 11 (omega arith),
+        at 12 (omega arith),
+      )
+
+  pub first-words-in-front : (r : ℕ) → firstWordsInRange r (take n ws) ≡ firstWordsInRange r ws
+  unfolding firstWordsInRange shapeInRange bands bandAt unusedBandsZero every
+  first-words-in-front r =
+      rw (
+        at 0 (omega arith),
+        at 1 (omega arith),
+        at 2 (omega arith),
+        at 3 (omega arith),
+        at 4 (omega arith),
+        at 5 (omega arith),
+        at 6 (omega arith),
+        at 7 (omega arith),
+        at 8 (omega arith),
+        at 9 (omega arith),
+        at 10 (omega arith),
+        at 11 (omega arith),
+        at 12 (omega arith),
+      )

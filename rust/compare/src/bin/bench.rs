@@ -3,6 +3,7 @@
 //! Both sides' bytes and answers are compared before anything is timed, but for packets without passes and the next ones after them, which
 //! the crate writes otherwise. A row is timed in turn, the crate's side and ours, for so many seconds, and the best time of each side
 //! counts. PATTERN: only the rows whose names hold it.
+//! A second table has layers of 16 precincts, written in turn by 16 calls and by one, on the same lists; starts are not timed there.
 //! Without passes the engine still looks at every word of the state for its range and copies it to scratch; the crate does neither.
 #[cfg(openjp2)]
 mod timed {
@@ -14,7 +15,10 @@ mod timed {
 
     const LAYERS: usize = 4;
 
-    type Side = fn(&mut Row) -> Duration;
+    /// The precincts of a layer that one call writes.
+    const TOGETHER: usize = 16;
+
+    type Side<T> = fn(&mut T) -> Duration;
 
     /// What the layers of a row bring.
     #[derive(Clone, Copy)]
@@ -30,8 +34,11 @@ mod timed {
         Kind { name, rare: [first, later], full_headers }
     }
 
-    const WITH_PASSES: [Kind; 2] = [kind("dense", 1, 1, false), kind("sparse", 8, 8, false)];
-    const NEVER_CAME: [Kind; 2] = [kind("empty", 0, 0, false), kind("empty, full headers", 0, 0, true)];
+    const DENSE: Kind = kind("dense", 1, 1, false);
+    const SPARSE: Kind = kind("sparse", 8, 8, false);
+    const EMPTY: Kind = kind("empty", 0, 0, false);
+    const WITH_PASSES: [Kind; 2] = [DENSE, SPARSE];
+    const NEVER_CAME: [Kind; 2] = [EMPTY, kind("empty, full headers", 0, 0, true)];
     const CAME_BEFORE: [Kind; 2] = [kind("empty after dense", 1, 0, false), kind("empty after dense, full headers", 1, 0, true)];
 
     impl Kind {
@@ -94,14 +101,14 @@ mod timed {
     }
 
     impl Row {
-        /// Some 4,096 blocks a round, but no more precincts than a cache holds of the crate's structs.
-        fn new(side: u32, count: u32, kind: Kind) -> Row {
+        /// Some 4,096 blocks a round, but no more precincts than a cache holds of the crate's structs, and no fewer than `least`.
+        fn new(side: u32, count: u32, kind: Kind, least: usize) -> Row {
             let mut random = Random::new(7);
             let mut bands = Bands::default();
             bands[..count as usize].fill([side, side, 12]);
             let blocks = (count * side * side) as usize;
             let mut row = Row { count, bands, blocks, kind, jobs: Vec::new(), lent: Lent::default() };
-            for _ in 0..(4096 / blocks).clamp(1, 512) {
+            for _ in 0..(4096 / blocks).clamp(least, 512) {
                 let planes = (0..blocks).map(|_| random.between(4, 12) as u32).collect();
                 let layers: Vec<Layer> = (0..LAYERS).map(|i| layer(&mut random, blocks, kind.rare[i.min(1)])).collect();
                 let bodies = layers.iter().map(|l| random.bytes(l.body() as usize)).collect();
@@ -312,17 +319,131 @@ mod timed {
             self.openjpeg_reads(true);
         }
 
-        /// The best of each side, as nanoseconds a packet.
-        fn best(&mut self, time: Duration, sides: &[Side]) -> Vec<f64> {
-            let mut best = vec![Duration::MAX; sides.len()];
-            let begin = Instant::now();
-            while begin.elapsed() < time {
-                for (side, least) in sides.iter().zip(&mut best) {
-                    *least = (*least).min(side(self));
-                }
+        /// The packets that are timed in a round.
+        fn timed_packets(&self) -> f64 {
+            (self.jobs.len() * (LAYERS - self.kind.first())) as f64
+        }
+    }
+
+    /// The best of each side, as nanoseconds a packet, of which there are so many in a round.
+    fn best<T>(row: &mut T, packets: f64, time: Duration, sides: &[Side<T>]) -> Vec<f64> {
+        let mut best = vec![Duration::MAX; sides.len()];
+        let begin = Instant::now();
+        while begin.elapsed() < time {
+            for (side, least) in sides.iter().zip(&mut best) {
+                *least = (*least).min(side(row));
             }
-            let packets = (self.jobs.len() * (LAYERS - self.kind.first())) as f64;
-            best.into_iter().map(|d| d.as_nanos() as f64 / packets).collect()
+        }
+        best.into_iter().map(|d| d.as_nanos() as f64 / packets).collect()
+    }
+
+    // ---- layers of several precincts
+
+    /// Precincts that are written together: their states and what each layer brings, behind one another.
+    struct Group {
+        /// The states of writers at layer 0.
+        fresh: Vec<u32>,
+        states: Vec<u32>,
+        layers: Vec<Layer>,
+        bodies: Vec<Vec<u8>>,
+        /// Passes and body bytes of each precinct in each layer.
+        sizes: Vec<Vec<(usize, usize)>>,
+    }
+
+    impl Group {
+        fn new(row: &Row, jobs: &[Job]) -> Group {
+            let fresh: Vec<u32> = jobs.iter().flat_map(|job| row.started(true, job)).collect();
+            let sizes = |i: usize| jobs.iter().map(|job| (job.layers[i].lengths.len(), job.bodies[i].len())).collect();
+            Group {
+                states: fresh.clone(),
+                fresh,
+                layers: (0..LAYERS).map(|i| Layer::joined(jobs.iter().map(|job| &job.layers[i]))).collect(),
+                bodies: (0..LAYERS).map(|i| jobs.iter().flat_map(|job| &job.bodies[i]).copied().collect()).collect(),
+                sizes: (0..LAYERS).map(sizes).collect(),
+            }
+        }
+    }
+
+    struct Grouped {
+        row: Row,
+        groups: Vec<Group>,
+        scratch: Vec<u32>,
+        output: Vec<u8>,
+        /// The packets of all layers, where they are kept.
+        kept: Option<Vec<Vec<u8>>>,
+    }
+
+    impl Grouped {
+        fn new(side: u32, count: u32, kind: Kind) -> Grouped {
+            let row = Row::new(side, count, kind, TOGETHER);
+            let groups = row.jobs.chunks_exact(TOGETHER).map(|jobs| Group::new(&row, jobs)).collect();
+            let (scratch, output) = (vec![1; TOGETHER * row.length()], vec![1; TOGETHER * row.room()]);
+            Grouped { row, groups, scratch, output, kept: None }
+        }
+
+        /// Every layer of every group by this way of writing one, which answers the bytes of its packets.
+        fn write(&mut self, way: fn(&mut Group, usize, &mut [u32], &mut [u8], usize) -> usize) -> Duration {
+            let Grouped { row, groups, scratch, output, kept } = self;
+            let mut total = Duration::ZERO;
+            groups.iter_mut().for_each(|group| group.states.copy_from_slice(&group.fresh));
+            for i in 0..LAYERS {
+                let begin = Instant::now();
+                for group in groups.iter_mut() {
+                    let bytes = way(group, i, scratch, output, row.blocks);
+                    if let Some(kept) = kept {
+                        kept.push(output[..bytes].to_vec());
+                    }
+                }
+                total += begin.elapsed();
+            }
+            total
+        }
+
+        fn by_one_call(&mut self) -> Duration {
+            self.write(|group, i, scratch, output, _| {
+                let Layer { counts, lengths, marks } = &group.layers[i];
+                let (states, bodies) = (&mut group.states, &group.bodies[i]);
+                let mut answer = [0; 2];
+                words::write_layer(states, scratch, &[0; TOGETHER], counts, lengths, marks, bodies, false, false, output, &mut answer);
+                answer[1] as usize
+            })
+        }
+
+        fn by_single_calls(&mut self) -> Duration {
+            self.write(|group, i, scratch, output, blocks| {
+                let Layer { counts, lengths, marks } = &group.layers[i];
+                let (bodies, words) = (&group.bodies[i], scratch.len() / TOGETHER);
+                let (mut pass, mut byte, mut bytes, mut answer) = (0, 0, 0, [0]);
+                for (place, (passes, body)) in group.sizes[i].iter().enumerate() {
+                    words::write(
+                        &mut group.states[place * words..][..words],
+                        &mut scratch[place * words..][..words],
+                        &counts[place * blocks..][..blocks],
+                        &lengths[pass..][..*passes],
+                        &marks[pass..][..*passes],
+                        &bodies[byte..][..*body],
+                        false,
+                        false,
+                        0,
+                        &mut output[bytes..],
+                        &mut answer,
+                    );
+                    (pass, byte, bytes) = (pass + passes, byte + body, bytes + answer[0] as usize);
+                }
+                bytes
+            })
+        }
+
+        /// Both ways give the same packets and leave the same states.
+        fn compare(&mut self) {
+            let [one, other] = [Grouped::by_one_call as Side<Grouped>, Grouped::by_single_calls].map(|way| {
+                self.kept = Some(Vec::new());
+                way(self);
+                let states: Vec<Vec<u32>> = self.groups.iter().map(|group| group.states.clone()).collect();
+                assert!(states.iter().flatten().ne(self.groups.iter().flat_map(|group| &group.fresh)), "packets were written");
+                (self.kept.take(), states, self.scratch.clone())
+            });
+            assert!(one == other, "one call and single calls");
         }
     }
 
@@ -345,6 +466,31 @@ mod timed {
         );
     }
 
+    /// Times a layer's rows that the pattern asks for.
+    fn layer_rows(time: Duration, pattern: &str) {
+        println!();
+        println!("| call | blocks of each | layers | 16 calls, ns a packet | one call | 16 calls / one call |");
+        println!("|---|---|---|---|---|---|");
+        let shapes = [
+            (1, 1, "1 × 1", DENSE),
+            (4, 1, "4 × 4", DENSE),
+            (16, 1, "16 × 16", DENSE),
+            (16, 1, "16 × 16", SPARSE),
+            (16, 1, "16 × 16", EMPTY),
+            (64, 3, "64 × 64 × 3", EMPTY),
+        ];
+        for (side, count, name, kind) in shapes {
+            if !format!("write 16 precincts {name} {}", kind.name).contains(pattern) {
+                continue;
+            }
+            let mut grouped = Grouped::new(side, count, kind);
+            grouped.compare();
+            let packets = grouped.row.timed_packets();
+            let times = best(&mut grouped, packets, time, &[Grouped::by_single_calls, Grouped::by_one_call]);
+            println!("| write 16 precincts | {name} | {} | {:.0} | {:.0} | {:.3} |", kind.name, times[0], times[1], times[0] / times[1]);
+        }
+    }
+
     pub fn main(time: Duration, pattern: &str) {
         println!(
             "| call | blocks | layers | crate, ns a packet | ours | crate, ns a block | ours | crate, 1,000 packets/s | ours \
@@ -358,6 +504,7 @@ mod timed {
         for (side, name) in [(8, "8 × 8"), (64, "64 × 64")] {
             NEVER_CAME.iter().chain(&CAME_BEFORE).for_each(|kind| rows(time, pattern, side, 1, name, *kind));
         }
+        layer_rows(time, pattern);
     }
 
     /// Times the rows of a shape and kind that the pattern asks for.
@@ -366,18 +513,18 @@ mod timed {
         if !wanted("write") && !wanted("read") {
             return;
         }
-        let mut row = Row::new(side, count, kind);
+        let mut row = Row::new(side, count, kind, 1);
         row.compare();
-        let blocks = row.blocks;
+        let (blocks, packets) = (row.blocks, row.timed_packets());
         if wanted("write") {
-            let sides: Vec<Side> = vec![|r| r.crate_writes(false), |r| r.engine_writes(false), |r| r.openjpeg_writes(false)];
-            print("write", name, kind.name, blocks, &row.best(time, &sides));
+            let sides: Vec<Side<Row>> = vec![|r| r.crate_writes(false), |r| r.engine_writes(false), |r| r.openjpeg_writes(false)];
+            print("write", name, kind.name, blocks, &best(&mut row, packets, time, &sides));
         }
         if wanted("read") {
-            let sides: Vec<Side> = vec![|r| r.crate_reads(true, false), |r| r.engine_reads(false), |r| r.openjpeg_reads(false), |r| {
+            let sides: Vec<Side<Row>> = vec![|r| r.crate_reads(true, false), |r| r.engine_reads(false), |r| r.openjpeg_reads(false), |r| {
                 r.crate_reads(false, false)
             }];
-            print("read", name, kind.name, blocks, &row.best(time, &sides));
+            print("read", name, kind.name, blocks, &best(&mut row, packets, time, &sides));
         }
     }
 }

@@ -37,6 +37,10 @@ fn main() {
     part("late states", &|t| t.late_states(share(8)));
     part("packets", &|t| t.sessions(share(18), 4));
     part("packets in order", &|t| t.chains(share(65)));
+    part("layers", &|t| t.layers(share(60), 3));
+    part("layers of states", &|t| t.layers_of_states(share(25)));
+    part("every length", &|t| t.every_length(share(1) / 500 + 5));
+    part("largest layers", &|t| t.largest_layers());
     part("late packets", &|t| t.late_sessions(share(8), 4));
     part("larger packets", &|t| t.sessions(share(2), 12));
     part("packets of one block", &|t| {

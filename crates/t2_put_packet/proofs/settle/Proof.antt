@@ -1,9 +1,9 @@
--- `t2_write::settle` meets its contract.
+-- `t2_put_packet::settle` meets its contract.
 use native.Mathlib.Omega.{arith}
 use borrow.Author.Needs.{needs}
-use Rattle.t2_write.proofs.Laws.Written.{layer-settled}
-use Rattle.t2_write.proofs.settle.Statement.{statement}
-use Rattle.t2_write.proofs.settle.Tie as tie
+use Rattle.t2_put_packet.proofs.Laws.Put.{layer-settled}
+use Rattle.t2_put_packet.proofs.settle.Statement.{statement}
+use Rattle.t2_put_packet.proofs.settle.Tie as tie
 
 returns : tie.Need-returns
 returns c =

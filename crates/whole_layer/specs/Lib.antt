@@ -1,0 +1,2 @@
+pub mod SingleCalls
+pub mod Several
