@@ -1,8 +1,7 @@
-// The precinct in front of a layer's lists: how much of each it has, what turns it away, its packet, and its state settled.
+// The precinct in front of a layer's lists: how much of each it has, what turns it away, and its packet.
 ghost use mathlib.Core.Path.{_≡_};
-ghost use mathlib.Core.List.{_++_};
 ghost use Prim.Native.Nat.{_+_, _≤_, min};
-ghost use lib.ListN.{length, set, take, drop};
+ghost use lib.ListN.{length};
 ghost use Rattle.t800.specs.State.{writer, layer, bands, blocks};
 ghost use Rattle.t800.specs.WriteHeader.{contribution};
 ghost use Rattle.tcd_state.specs.Front.{wordsInFront};
@@ -48,13 +47,22 @@ fn refused(refusal: u32) -> Front
     }
 }
 
+// Those of the bands in use: the words of the others are zeros.
+fn num_blocks(states: &[u32]) -> usize
+    requires { ⌜ 1 ≤ wordsInFront writer (now states) ⌝ }
+    ensures { λ r. ⌜ r ≡ length (blocks (bands (now (states .entry)))) ⌝ }
+{
+    let first = tcd_levels::area(states[4], states[5]);
+    let second = tcd_levels::area(states[7], states[8]);
+    let third = tcd_levels::area(states[10], states[11]);
+    first + second + third
+}
+
 fn lists_of(states: &[u32], counts: &[u32], lengths: usize, marks: usize) -> Lists
     requires { ⌜ 1 ≤ wordsInFront writer (now states) ⌝ }
     ensures { λ r. ⌜ r ≡ listsOf (length (blocks (bands (now (states .entry))))) (now (counts .entry)) lengths marks ⌝ }
 {
-    let bands = tcd_first_words::bands_of(states);
-    let n = tcd_first_words::word(states, 1) as usize;
-    let blocks = least(tcd_layout::num_blocks(bands, n) as u64, counts.len());
+    let blocks = least(num_blocks(states) as u64, counts.len());
     let passes = t2_narrow::total(&counts[0..blocks]);
     Lists {
         counts: blocks,
@@ -178,12 +186,4 @@ pub fn write_in_front(
         bytes: front.bytes,
         end: r.bytes as usize,
     }
-}
-
-pub fn settle_in_front(scratch: &[u32], states: &mut [u32], words: usize, passes: usize)
-    requires { ⌜ (13 ≤ words) × (words ≤ length (now states)) × (length (now scratch) ≡ length (now states))
-        × (passes ≡ 0 → take words (now scratch) ≡ set (take words (now states)) 3 (layer (take words (now states)) + 1)) ⌝ }
-    ensures { λ _. ⌜ now (states .exit) ≡ take words (now (scratch .entry)) ++ drop words (now (states .entry)) ⌝ }
-{
-    t2_put_packet::settle(&scratch[0..words], &mut states[0..words], passes);
 }

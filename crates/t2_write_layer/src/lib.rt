@@ -7,6 +7,16 @@ use t800::LayerAnswer;
 use t800::Markers;
 use t800::Refusal;
 
+fn no_bytes(refusal: u32) -> LayerAnswer
+    ensures { λ r. ⌜ r ≡ record { refusal = refusal; place = 0; bytes = 0 } ⌝ }
+{
+    LayerAnswer {
+        refusal,
+        place: 0,
+        bytes: 0,
+    }
+}
+
 fn none_of_it(scratch: &mut [u32], output: &mut [u8], answer: LayerAnswer) -> LayerAnswer
     ensures { λ r. ⌜ (r ≡ answer) × (now (scratch .exit) ≡ wiped (now (scratch .entry))) × (now (output .exit) ≡ wiped (now (output .entry))) ⌝ }
 {
@@ -37,20 +47,15 @@ pub fn write_layer(
         }) ⌝ }
 {
     if 16 < numbers.len() {
-        return t2_write_precincts::no_bytes(Refusal::PRECINCTS, 0);
+        return no_bytes(Refusal::PRECINCTS);
     }
     if numbers.len() == 0 {
-        return t2_write_precincts::no_bytes(0, 0);
+        return no_bytes(0);
     }
     if scratch.len() != states.len() {
-        return none_of_it(
-            scratch,
-            output,
-            t2_write_precincts::no_bytes(Refusal::STATE, 0),
-        );
+        return none_of_it(scratch, output, no_bytes(Refusal::STATE));
     }
-    let r = t2_write_precincts::write_from(
-        0,
+    let r = t2_write_precincts::write_precincts(
         numbers,
         states,
         scratch,

@@ -1,3 +1,5 @@
+pub mod Lists
 pub mod Front
-pub mod Steps
+pub mod Along
+pub mod Last
 pub mod Lent

@@ -1,18 +1,14 @@
-// A layer's precincts from one on: each written, and settled once those behind it are accepted.
+// A layer's precincts, one after another: each packet put, and all states settled once the last one is accepted.
 ghost use mathlib.Core.Path.{_≡_};
-ghost use mathlib.Core.Bool.{cond};
-ghost use Prim.Native.Nat.{_<_};
-ghost use lib.ListN.{length, drop};
-ghost use lib.Dec.{eqb};
+ghost use Prim.Native.Nat.{_≤_};
+ghost use lib.ListN.{length};
 ghost use Rattle.t800.specs.WriteHeader.{contribution};
-ghost use Rattle.t800.specs.Layer.{singles};
-ghost use Rattle.t2_layer_parts.specs.Front.{rest};
-ghost use Rattle.t2_write_precincts.specs.Layer.{LayerFrom};
+ghost use Rattle.t2_write_precincts.specs.Layer.{LayerWritten};
+use t2_settle_states::Size;
 use t800::LayerAnswer;
 use t800::Markers;
-use t800::WriteAnswer;
 
-pub fn no_bytes(refusal: u32, place: usize) -> LayerAnswer
+fn refused(refusal: u32, place: usize) -> LayerAnswer
     ensures { λ r. ⌜ r ≡ record { refusal = refusal; place = place; bytes = 0 } ⌝ }
 {
     LayerAnswer {
@@ -22,24 +18,8 @@ pub fn no_bytes(refusal: u32, place: usize) -> LayerAnswer
     }
 }
 
-// The last precinct's answer.
-fn last(a: WriteAnswer, place: usize) -> LayerAnswer
-    ensures { λ r. ⌜ r ≡ cond (eqb (a .refusal) 0) (record { refusal = 0; place = 0; bytes = a .bytes })
-        (record { refusal = a .refusal; place = place; bytes = 0 }) ⌝ }
-{
-    if a.refusal != 0 {
-        return no_bytes(a.refusal, place);
-    }
-    LayerAnswer {
-        refusal: 0,
-        place: 0,
-        bytes: a.bytes,
-    }
-}
-
-// The precincts from this place on. Each is settled when all behind it have been accepted; until then the scratch holds its state.
-pub fn write_from(
-    place: usize,
+// What is left in scratch and output with a refusal is for the caller to wipe.
+pub fn write_precincts(
     numbers: &[u32],
     states: &mut [u32],
     scratch: &mut [u32],
@@ -50,64 +30,71 @@ pub fn write_from(
     markers: Markers,
     output: &mut [u8],
 ) -> LayerAnswer
-    requires { ⌜ (place < length (now numbers)) × (length (now scratch) ≡ length (now states)) ⌝ }
-    ensures { λ r. ⌜ LayerFrom place (singles markers (drop place (now (numbers .entry))) (rest (now (states .entry)) (now (scratch .entry))
-        (contribution (now (counts .entry)) (now (lengths .entry)) (now (marks .entry))) (now (bodies .entry)) (now (output .entry))))
-        (now (states .entry)) (now (output .entry)) r (now (states .exit)) (now (scratch .exit)) (now (output .exit)) ⌝ }
+    requires { ⌜ (1 ≤ length (now numbers)) × (length (now numbers) ≤ 16) × (length (now scratch) ≡ length (now states)) ⌝ }
+    ensures { λ r. ⌜ LayerWritten (now (states .entry)) (record {
+      scratch = now (scratch .entry);
+      contribution = contribution (now (counts .entry)) (now (lengths .entry)) (now (marks .entry));
+      bodies = now (bodies .entry);
+      markers = markers;
+      numbers = now (numbers .entry);
+      output = now (output .entry);
+    }) r (now (states .exit)) (now (scratch .exit)) (now (output .exit)) ⌝ }
 {
-    let number = numbers[place];
-    if place + 1 == numbers.len() {
-        let a = t2_write::write(
-            states,
-            scratch,
-            counts,
-            lengths,
-            marks,
-            bodies,
+    let last = numbers.len() - 1;
+    let mut sizes: [Size; 16] = [Size {
+        words: 0,
+        passes: 0,
+    }; 16];
+    let mut word: usize = 0;
+    let mut block: usize = 0;
+    let mut pass: usize = 0;
+    let mut byte: usize = 0;
+    let mut end: usize = 0;
+    let mut i: usize = 0;
+    while i < last {
+        let front = t2_layer_parts::write_in_front(
+            &states[word..],
+            &mut scratch[word..],
+            &counts[block..],
+            &lengths[pass..],
+            &marks[pass..],
+            &bodies[byte..],
             markers,
-            number,
-            output,
+            numbers[i],
+            &mut output[end..],
         );
-        return last(a, place);
+        if front.refusal != 0 {
+            return refused(front.refusal, i);
+        }
+        sizes[i] = Size {
+            words: front.words,
+            passes: front.passes,
+        };
+        word += front.words;
+        block += front.blocks;
+        pass += front.passes;
+        byte += front.bytes;
+        end += front.end;
+        i += 1;
     }
-    let front = t2_layer_parts::write_in_front(
-        states,
-        scratch,
-        counts,
-        lengths,
-        marks,
-        bodies,
+    let a = t2_write::write(
+        &mut states[word..],
+        &mut scratch[word..],
+        &counts[block..],
+        &lengths[pass..],
+        &marks[pass..],
+        &bodies[byte..],
         markers,
-        number,
-        output,
-    );
-    if front.refusal != 0 {
-        return no_bytes(front.refusal, place);
-    }
-    let words = front.words;
-    let blocks = front.blocks;
-    let passes = front.passes;
-    let bytes = front.bytes;
-    let end = front.end;
-    let behind = write_from(
-        place + 1,
-        numbers,
-        &mut states[words..],
-        &mut scratch[words..],
-        &counts[blocks..],
-        &lengths[passes..],
-        &marks[passes..],
-        &bodies[bytes..],
-        markers,
+        numbers[last],
         &mut output[end..],
     );
-    if behind.refusal != 0 {
-        return behind;
+    if a.refusal != 0 {
+        return refused(a.refusal, last);
     }
-    t2_layer_parts::settle_in_front(scratch, states, words, passes);
+    t2_settle_states::settle_states(scratch, states, sizes, last);
     LayerAnswer {
         refusal: 0,
         place: 0,
-        bytes: end as u64 + behind.bytes,
+        bytes: end as u64 + a.bytes,
     }
 }

@@ -1,26 +1,28 @@
 -- The precinct in front: what its valid state says, its parts as the code cuts them, and what turns it away.
 use mathlib.Core.Path.{_≡_, refl, sym, ap, _∙_, subst}
 use mathlib.Core.Logic.{_≢_}
-use mathlib.Core.Bool.{true, cond}
-use mathlib.Core.List.{List, []}
-use Prim.Native.Nat.{ℕ, _-_, _≤_, _<_, min}
+use mathlib.Core.Bool.{true, false, cond, _||_}
+use mathlib.Core.List.{List, [], map}
+use Prim.Native.Nat.{ℕ, zero, suc, _+_, _*_, _-_, _≤_, _<_, min}
 use native.Mathlib.Omega.{arith}
-use lib.ListN.{length, take, length-take}
+use lib.ListN.{length, getD, take, length-take}
 use lib.Seq.{getD-take, take-all}
 use lib.Dec.{eqb, ltb}
-use borrow.Author.Tests.{lt-ltb, le-ltb}
+use borrow.Author.Tests.{lt-ltb, le-ltb, eqb-true}
 use Rattle.t800.specs.Base.{sum}
 use Rattle.t800.specs.declared.Band.{Band}
-use Rattle.t800.specs.State.{writer, bandCount, bands, blocks, stateLength}
-use Rattle.t800.specs.Ranges.{validState}
+use Rattle.t800.specs.State.{writer, bandCount, bandAt, bands, blocks, blocksIn, stateLength}
+use Rattle.t800.specs.Ranges.{unusedBandsZero, validState}
 use Rattle.t800.specs.WriteHeader.{Contribution, contribution}
 use Rattle.t800.specs.Layer.{asks}
 use Rattle.t800_laws.proofs.Laws.Tests.{if-true, if-false, if-ne, on-le}
 use Rattle.t800_laws.proofs.Laws.Checks.{on-bool}
 use Rattle.t800_laws.proofs.Laws.Layout.{end-after}
 use Rattle.tcd_laws.specs.Geometry.{AllUpTo64}
+use Rattle.tcd_laws.specs.Parts.{threeBands}
+use Rattle.tcd_laws.proofs.Laws.Bands.{length-blocks, blocks-up-to-12288}
 use Rattle.tcd_laws.proofs.Laws.FirstWords.{bands-in-front}
-use Rattle.tcd_laws.proofs.Laws.ValidStates.{valid-state}
+use Rattle.tcd_laws.proofs.Laws.ValidStates.{valid-state, every-true}
 use Rattle.tcd_state.specs.Front.{wordsInFront}
 use Rattle.t2_refusal_laws.specs.Refusals.{measureRefusalFor}
 use Rattle.t2_refusal_laws.proofs.Laws.NotRefused.{NotRefused, not-refused-for}
@@ -60,6 +62,43 @@ valid-in-front ws h =
       sides = subst AllUpTo64 same (k .sides);
     })
     (λ f. absurd (omega (arith, h, if-false (validState writer state (length state)) n 0 f)))
+
+-- ---- its blocks
+
+module _ (ws : List ℕ) (n : ℕ) (h : 13 ≤ n) (unused : unusedBandsZero (take n ws) ≡ true) where
+  none-across : (i : ℕ) → i < 3 → bandCount ws ≤ i → getD ws (4 + 3 * i) 0 ≡ 0
+  unfolding unusedBandsZero
+  none-across i l u =
+      let state : List ℕ = take n ws in
+      let past : ltb (3 * i) (3 * bandCount state) ≡ false = le-ltb (3 * i) _ (omega (arith, getD-take n ws 1 0 (omega arith))) in
+      sym (getD-take n ws (4 + 3 * i) 0 (omega arith))
+      ∙ eqb-true (getD state (4 + 3 * i) 0) 0
+      (rw past at (every-true 9 (λ j. ltb j (3 * bandCount state) || eqb (getD state (4 + j) 0) 0) unused (3 * i) (omega arith)))
+
+  blocks-of-words : (k : ℕ) → bandCount ws ≡ k → k ≤ 3 → sum (map blocksIn (take k (threeBands ws)))
+      ≡ getD ws 4 0 * getD ws 5 0 + getD ws 7 0 * getD ws 8 0 + getD ws 10 0 * getD ws 11 0
+  unfolding sum blocksIn bandAt
+  blocks-of-words zero e l =
+      rw (none-across 0 (omega arith) (omega arith), none-across 1 (omega arith) (omega arith), none-across 2 (omega arith) (omega arith))
+      (omega arith)
+  blocks-of-words (suc zero) e l = rw (none-across 1 (omega arith) (omega arith), none-across 2 (omega arith) (omega arith)) (omega arith)
+  blocks-of-words (suc (suc zero)) e l = rw (none-across 2 (omega arith) (omega arith)) (omega arith)
+  blocks-of-words (suc (suc (suc zero))) e l = omega arith
+  blocks-of-words (suc (suc (suc (suc k)))) e l = absurd (omega arith)
+
+module _ (ws : List ℕ) (h : 1 ≤ wordsInFront writer ws) where
+  pub blocks-in-front : length (blocks (bands ws))
+      ≡ getD ws 4 0 * getD ws 5 0 + getD ws 7 0 * getD ws 8 0 + getD ws 10 0 * getD ws 11 0
+  unfolding bands
+  blocks-in-front =
+      let v = valid-in-front ws h in
+      let n : ℕ = stateLength (bands ws) in
+      length-blocks (bands ws)
+      ∙ blocks-of-words ws n (thirteen-asked ws) (valid-state writer (take n ws) _ (v .valid) .unused) (bandCount ws) refl (v .three-bands)
+
+  pub few-blocks : length (blocks (bands ws)) ≤ 12288
+  unfolding bands
+  few-blocks = let v = valid-in-front ws h in blocks-up-to-12288 (bandCount ws) (threeBands ws) (v .three-bands) (v .sides)
 
 -- ---- the parts, as the code cuts them
 

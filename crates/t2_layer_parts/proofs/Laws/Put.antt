@@ -4,14 +4,14 @@ use mathlib.Core.Logic.{_≢_}
 use mathlib.Core.List.{List, _++_}
 use Prim.Native.Nat.{ℕ, _+_, _-_, _≤_, min}
 use native.Mathlib.Omega.{arith}
-use lib.ListN.{length, set, take, drop, length-take}
+use lib.ListN.{length, take, drop, length-take}
 use lib.Dec.{ltb}
 use borrow.Author.Tests.{ltb-false}
 use Rattle.t800.specs.declared.Band.{Band}
 use Rattle.t800.specs.declared.Markers.{Markers}
 use Rattle.t800.specs.declared.WriteAnswer.{WriteAnswer}
 use Rattle.t800.specs.Base.{sum, wiped}
-use Rattle.t800.specs.State.{writer, layer, bands, blocks, stateLength}
+use Rattle.t800.specs.State.{writer, bands, blocks, stateLength}
 use Rattle.t800.specs.WriteHeader.{Contribution, contribution}
 use Rattle.t800.specs.Packet.{WriteResult}
 use Rattle.t800.specs.Layer.{Rest, Asks, asks, inFront, single, wrote}
@@ -253,21 +253,3 @@ module _ (ws scratch : List ℕ) (p : Contribution) (bodies : List ℕ) (m : Mar
     scratch-if = q .scratch-if;
     output-if = q .output-if;
   }
-
--- ---- settled
-
-pub settled-in-front : (scratch states part : List ℕ) (n : ℕ) → part ≡ take (n - 0) scratch
-    → part ++ drop (n - 0) states ≡ take n scratch ++ drop n states
-settled-in-front scratch states part n e =
-    let m : n - 0 ≡ n = omega arith in
-    (λ i. (e ∙ ap (λ (k : ℕ). take k scratch) m) i ++ drop (m i) states)
-
-pub may-settle : (scratch states : List ℕ) (n passes : ℕ) → 13 ≤ n → n ≤ length states → length scratch ≡ length states
-    → (passes ≡ 0 → take n scratch ≡ set (take n states) 3 (layer (take n states) + 1))
-    → (13 ≤ length (take (n - 0) states)) × (length (take (n - 0) scratch) ≡ length (take (n - 0) states))
-    × (passes ≡ 0 → take (n - 0) scratch ≡ set (take (n - 0) states) 3 (layer (take (n - 0) states) + 1))
-may-settle scratch states n passes h k l f =
-    let m : n - 0 ≡ n = omega arith in
-    subst (λ (z : ℕ). (13 ≤ length (take z states)) × (length (take z scratch) ≡ length (take z states))
-    × (passes ≡ 0 → take z scratch ≡ set (take z states) 3 (layer (take z states) + 1))) (sym m)
-    (omega (arith, length-take n states), omega (arith, length-take n states, length-take n scratch), f)

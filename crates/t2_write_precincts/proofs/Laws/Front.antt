@@ -3,7 +3,7 @@ use mathlib.Core.Path.{_≡_, sym, ap, _∙_}
 use mathlib.Core.List.{List, _++_}
 use Prim.Native.Nat.{ℕ, _+_, _≤_}
 use native.Mathlib.Omega.{arith}
-use lib.ListN.{length, set, drop, length-take, length-drop, length-append}
+use lib.ListN.{length, set, take, drop, length-take, length-drop, length-append}
 use borrow.Author.Tests.{le-ltb}
 use Rattle.t800.specs.declared.Band.{Band}
 use Rattle.t800.specs.declared.Markers.{Markers}
@@ -16,10 +16,29 @@ use Rattle.t800.specs.Layer.{Rest, Asks, asks, inFront, Single, single, wrote, 
 use Rattle.t800_laws.proofs.Laws.Layout.{end-after}
 use Rattle.t800_laws.proofs.Laws.Contributes.{absent-header, contributes-by-sum}
 use Rattle.tcd_laws.proofs.Laws.FirstWords.{bands-in-front}
-use Rattle.whole_layer.proofs.Cuts.{Fits, fits}
+use Rattle.whole_layer.proofs.Cuts.{Fits, fits, state-kept}
 use Rattle.whole_layer.proofs.SingleCalls.{bytes-are, output-is}
+use Rattle.t2_settle_states.specs.declared.Size.{Size}
 use Rattle.t2_layer_parts.specs.declared.Front.{Front}
 use Rattle.t2_layer_parts.specs.Front.{WrittenInFront}
+
+-- an accepted call leaves the same in state and scratch
+pub left-same : (s : Single) → wrote s .answer .refusal ≡ 0 → wrote s .state ≡ wrote s .scratch
+left-same s e = let k = fits s e .left in ap (λ (r : WriteResult). r .state) k ∙ sym (ap (λ (r : WriteResult). r .scratch) k)
+
+-- without passes only the next layer moves
+pub layer-alone : (s : Single) → wrote s .answer .refusal ≡ 0 → length (s .call .contribution .lengths) ≡ 0
+    → wrote s .scratch ≡ set (s .state) 3 (layer (s .state) + 1)
+unfolding codeAbsent
+layer-alone s e z =
+    let k = fits s e in
+    ap (λ (r : WriteResult). r .scratch) (k .left)
+    ∙ ap (λ (c : Coded). c .words)
+    (absent-header (s .call .contribution) (s .state)
+    (contributes-by-sum (s .call .contribution) ∙ le-ltb 0 (sum (s .call .contribution .counts)) (omega (arith, z, k .lengths))))
+
+abbrev pub sizeOf : Single → Size
+sizeOf s = record { words = length (s .state); passes = length (s .call .contribution .lengths) }
 
 module _ (l : Rest) (m : Markers) (number : ℕ) (f : Front) (vs os : List ℕ) (w : WrittenInFront l m number f vs os)
     (z : f .refusal ≡ 0) where
@@ -53,9 +72,6 @@ module _ (l : Rest) (m : Markers) (number : ℕ) (f : Front) (vs os : List ℕ) 
 
   pub bytes-asked : f .bytes ≡ asks l .bytes
   bytes-asked = ap (λ (a : Asks). a .bytes) (w .sizes z)
-
-  pub thirteen-words : 13 ≤ f .words
-  thirteen-words = omega (arith, words-asked, thirteen)
 
   pub states-there : f .words ≤ length (l .states)
   unfolding inFront asks
@@ -110,28 +126,17 @@ module _ (l : Rest) (m : Markers) (number : ℕ) (f : Front) (vs os : List ℕ) 
 
   -- ---- its state after the packet
 
-  pub state-left : wrote first .state ≡ wrote first .scratch
-  state-left = ap (λ (r : WriteResult). r .state) (fit .left) ∙ sym (ap (λ (r : WriteResult). r .scratch) (fit .left))
+  pub state-cut : take (f .words) (l .states) ≡ first .state
+  unfolding inFront
+  state-cut = ap (λ (n : ℕ). take n (l .states)) words-asked
 
-  pub scratch-length : length vs ≡ length (l .scratch) → length (l .scratch) ≡ length (l .states)
-      → length (wrote first .scratch) ≡ f .words
-  scratch-length e s =
-      omega (
-        arith,
-        e,
-        s,
-        words-asked,
-        states-there,
-        ap length (w .scratch-if z) ∙ length-append (wrote first .scratch) (drop (asks l .words) (l .scratch)),
-        length-drop (asks l .words) (l .scratch),
-      )
+  pub size-is : record { words = f .words; passes = f .passes } ≡ sizeOf first
+  unfolding inFront asks
+  size-is =
+      let words : f .words ≡ length (first .state) =
+      omega (arith, words-asked, states-there, length-take (asks l .words) (l .states)) in
+      let passes : f .passes ≡ length (first .call .contribution .lengths) = omega (arith, passes-asked, fit .lengths) in
+      λ i. record { words = words i; passes = passes i }
 
-  -- without passes only the next layer moves
-  pub layer-alone : f .passes ≡ 0 → wrote first .scratch ≡ set (first .state) 3 (layer (first .state) + 1)
-  unfolding codeAbsent inFront asks
-  layer-alone e =
-      ap (λ (r : WriteResult). r .scratch) (fit .left)
-      ∙ ap (λ (c : Coded). c .words)
-      (absent-header (first .call .contribution) (first .state)
-      (contributes-by-sum (first .call .contribution)
-      ∙ le-ltb 0 (sum (first .call .contribution .counts)) (omega (arith, e, passes-asked))))
+  pub scratch-length : length (wrote first .scratch) ≡ f .words
+  scratch-length = ap length (sym (left-same first accepted)) ∙ state-kept first fit ∙ sym (ap (λ (z : Size). z .words) size-is)

@@ -1,158 +1,154 @@
--- The lists behind the precinct in front, lent from where its part ends and back in their place.
+-- The same of the lists as they are lent, from where the packets before end, and back in their place.
 use mathlib.Core.Path.{_≡_, sym, ap, ap₂, _∙_, subst}
 use mathlib.Core.Logic.{_≢_}
-use mathlib.Core.List.{List, _++_, append-nil}
-use Prim.Native.Nat.{ℕ, _+_, _-_, _≤_, _<_}
+use mathlib.Core.List.{List, _++_}
+use Prim.Native.Nat.{ℕ, _+_, _≤_, _<_}
 use native.Mathlib.Omega.{arith}
-use lib.ListN.{length, getD, set, take, drop, length-take, length-drop, length-append, drop-of-length-le}
-use lib.Seq.{take-append-seam, drop-append-seam, take-all}
-use Rattle.t800.specs.declared.Markers.{Markers}
+use lib.ListN.{length, getD, set, take, drop, length-take, length-drop, length-append}
 use Rattle.t800.specs.declared.LayerAnswer.{LayerAnswer}
-use Rattle.t800.specs.State.{layer}
+use Rattle.t800.specs.declared.WriteAnswer.{WriteAnswer}
 use Rattle.t800.specs.WriteHeader.{contribution}
-use Rattle.t800.specs.Layer.{Rest, inFront, behind, Single, single, packetOf, singles}
+use Rattle.t800.specs.Packet.{write}
+use Rattle.t800.specs.Layer.{Rest, LayerCall, LayerResult, noneOfIt, writeLayer}
+use Rattle.whole_layer.specs.SingleCalls.{LooksAtEach, refusedAt}
+use Rattle.t2_settle_states.specs.declared.Size.{Size}
+use Rattle.t2_settle_states.specs.Settle.{wordsOf, Settles}
 use Rattle.t2_layer_parts.specs.declared.Front.{Front}
 use Rattle.t2_layer_parts.specs.Front.{rest, WrittenInFront}
-use Rattle.t2_write_precincts.specs.Layer.{LayerFrom}
-use Rattle.t2_write_precincts.proofs.Laws.Front.{words-asked, states-there, thirteen-words, room-there, layer-alone}
-use Rattle.t2_write_precincts.proofs.Laws.Steps.{lent-behind, after-in-front, packet-in-front, behind-refused, bytes-fit, behind-done}
+use Rattle.t2_write_precincts.specs.Layer.{LayerWritten}
+use Rattle.t2_write_precincts.proofs.Laws.Lists.{from, from-is, back, back-is}
+use Rattle.t2_write_precincts.proofs.Laws.Along.{left, Along, refused-on-the-way, goes-on}
+use Rattle.t2_write_precincts.proofs.Laws.Last.{last-refused, last-leaves, settles, all-fit, all-written}
 
--- ---- a list from a place on
+module _ (states : List ℕ) (c : LayerCall) where
+  refused-is : (why place : ℕ) (r : LayerAnswer) (xs us ys : List ℕ) → why ≢ 0 → r ≡ refusedAt why place
+      → writeLayer states c ≡ noneOfIt states c (refusedAt why place) → xs ≡ states → LayerWritten states c r xs us ys
+  refused-is why place r xs us ys n e w x = record {
+    answer = e ∙ ap (λ (z : LayerResult). z .answer) (sym w);
+    done = λ z. absurd (n (ap (λ (z : LayerAnswer). z .refusal) (sym e) ∙ z));
+    states-kept = λ z. x;
+  }
 
-abbrev from : ℕ → List ℕ → List ℕ
-from n xs = take (length xs - n) (drop n xs)
+  module _ (i word block pass byte end : ℕ) (scratch output : List ℕ) (sizes : List Size)
+      (a : Along states c i word block pass byte end scratch output sizes) where
+    abbrev lent : Rest
+    lent =
+        let p = c .contribution in
+        rest (from word states) (from word scratch)
+        (contribution (from block (p .counts)) (from pass (p .lengths)) (from pass (p .marks))) (from byte (c .bodies)) (from end output)
 
-from-is : (n : ℕ) (xs : List ℕ) → from n xs ≡ drop n xs
-from-is n xs = take-all (length xs - n) (drop n xs) (omega (arith, length-drop n xs))
+    lent-is : lent ≡ left states c word block pass byte end scratch output
+    lent-is =
+        let p = c .contribution in
+        λ j. rest (from-is word states j) (from-is word scratch j)
+        (contribution (from-is block (p .counts) j) (from-is pass (p .lengths) j) (from-is pass (p .marks) j))
+        (from-is byte (c .bodies) j) (from-is end output j)
 
--- and the list with others in their place
-abbrev back : ℕ → List ℕ → List ℕ → List ℕ
-back n xs ys = take n xs ++ (ys ++ drop (length xs - n) (drop n xs))
+    pub lent-as-long : length (lent .scratch) ≡ length (lent .states)
+    lent-as-long =
+        omega (
+          arith,
+          a .as-long,
+          ap length (from-is word scratch) ∙ length-drop word scratch,
+          ap length (from-is word states) ∙ length-drop word states,
+        )
 
-back-is : (n : ℕ) (xs ys : List ℕ) → back n xs ys ≡ take n xs ++ ys
-back-is n xs ys =
-    let h : length (drop n xs) ≤ length xs - n = omega (arith, length-drop n xs) in
-    ap (λ (zs : List ℕ). take n xs ++ (ys ++ zs)) (drop-of-length-le (drop n xs) h)
-    ∙ ap (λ (zs : List ℕ). take n xs ++ zs) (append-nil ys)
+    back-length : (n : ℕ) (xs ys : List ℕ) → n ≤ length xs → length ys ≡ length (from n xs) → length (back n xs ys) ≡ length xs
+    back-length n xs ys h e =
+        omega (
+          arith,
+          h,
+          e,
+          ap length (back-is n xs ys) ∙ length-append (take n xs) ys,
+          length-take n xs,
+          ap length (from-is n xs) ∙ length-drop n xs,
+        )
 
-back-length : (n : ℕ) (xs ys : List ℕ) → n ≤ length xs → length ys ≡ length (from n xs) → length (back n xs ys) ≡ length xs
-back-length n xs ys h e =
-    omega (
-      arith,
-      h,
-      e,
-      ap length (back-is n xs ys) ∙ length-append (take n xs) ys,
-      length-take n xs,
-      ap length (from-is n xs) ∙ length-drop n xs,
-    )
+    pub states-length : (vs : List ℕ) → length vs ≡ length (lent .states) → length (back word states vs) ≡ length states
+    states-length vs e = back-length word states vs (a .words-in) e
 
-in-front-of : (n : ℕ) (xs ys : List ℕ) → n ≤ length xs → take n (back n xs ys) ≡ take n xs
-in-front-of n xs ys h =
-    let e : n ≡ length (take n xs) = omega (arith, h, length-take n xs) in
-    ap₂ (λ (k : ℕ) (zs : List ℕ). take k zs) e (back-is n xs ys) ∙ take-append-seam (take n xs) ys
+    pub scratch-length : (vs : List ℕ) → length vs ≡ length (lent .scratch) → length (back word scratch vs) ≡ length scratch
+    scratch-length vs e = back-length word scratch vs (omega (arith, a .words-in, a .as-long)) e
 
-behind-of : (n : ℕ) (xs ys : List ℕ) → n ≤ length xs → drop n (back n xs ys) ≡ ys
-behind-of n xs ys h =
-    let e : n ≡ length (take n xs) = omega (arith, h, length-take n xs) in
-    ap₂ (λ (k : ℕ) (zs : List ℕ). drop k zs) e (back-is n xs ys) ∙ drop-append-seam (take n xs) ys
+    pub output-length : (os : List ℕ) → length os ≡ length (lent .output) → length (back end output os) ≡ length output
+    output-length os e = back-length end output os (omega (arith, a .output-in, a .output-as-long)) e
 
--- ---- the others
+    -- ---- a precinct with others behind it
 
-module _ (numbers : List ℕ) (place : ℕ) (h : place < length numbers) (m : Markers) (l : Rest) (n : place + 1 ≢ length numbers)
-    (f : Front) (vs os : List ℕ) (w : WrittenInFront l m (getD numbers place 0) f vs os) (z : f .refusal ≡ 0)
-    (lv : length vs ≡ length (l .scratch)) (lo : length os ≡ length (l .output))
-    (same-length : length (l .scratch) ≡ length (l .states)) where
-  abbrev first : Single
-  first = single m (getD numbers place 0) (inFront l)
+    module _ (h : i + 1 < length (c .numbers)) (few : length (c .numbers) ≤ 16) (f : Front) (vs os : List ℕ)
+        (w : WrittenInFront lent (c .markers) (getD (c .numbers) i 0) f vs os) where
+      written : WrittenInFront (left states c word block pass byte end scratch output) (c .markers) (getD (c .numbers) i 0) f vs os
+      written = subst (λ (l : Rest). WrittenInFront l (c .markers) (getD (c .numbers) i 0) f vs os) lent-is w
 
-  abbrev lent : Rest
-  lent = rest (from (f .words) (l .states)) (from (f .words) vs)
-      (contribution (from (f .blocks) (l .contribution .counts)) (from (f .passes) (l .contribution .lengths))
-      (from (f .passes) (l .contribution .marks))) (from (f .bytes) (l .bodies)) (from (f .end) os)
+      pub front-refused : LooksAtEach states c → f .refusal ≢ 0 → (r : LayerAnswer) → r ≡ refusedAt (f .refusal) i → (us ys : List ℕ)
+          → LayerWritten states c r states us ys
+      front-refused k n r e us ys =
+          refused-is (f .refusal) i r states us ys n e
+          (refused-on-the-way states c i word block pass byte end scratch output sizes a h few f vs os written k n) (λ j. states)
 
-  lent-is : lent ≡ behind l (length (packetOf first))
-  lent-is =
-      (λ i. rest (from-is (f .words) (l .states) i) (from-is (f .words) vs i)
-      (contribution (from-is (f .blocks) (l .contribution .counts) i) (from-is (f .passes) (l .contribution .lengths) i)
-      (from-is (f .passes) (l .contribution .marks) i)) (from-is (f .bytes) (l .bodies) i) (from-is (f .end) os i))
-      ∙ lent-behind numbers place h m l n f vs os w z lv lo same-length
+      pub front-written : f .refusal ≡ 0 → length vs ≡ length (lent .scratch) → length os ≡ length (lent .output)
+          → Along states c (i + 1) (word + f .words) (block + f .blocks) (pass + f .passes) (byte + f .bytes) (end + f .end)
+          (back word scratch vs) (back end output os) (set sizes i (record { words = f .words; passes = f .passes }))
+      front-written z lv lo =
+          let sized : List Size = set sizes i (record { words = f .words; passes = f .passes }) in
+          subst (λ (xs : List ℕ). Along states c (i + 1) (word + f .words) (block + f .blocks) (pass + f .passes) (byte + f .bytes)
+          (end + f .end) xs (back end output os) sized) (sym (back-is word scratch vs))
+          (subst (λ (ys : List ℕ). Along states c (i + 1) (word + f .words) (block + f .blocks) (pass + f .passes) (byte + f .bytes)
+          (end + f .end) (take word scratch ++ vs) ys sized) (sym (back-is end output os))
+          (goes-on states c i word block pass byte end scratch output sizes a h few f vs os written z
+          (lv ∙ ap length (from-is word scratch)) (lo ∙ ap length (from-is end output))))
 
-  states-inside : f .words ≤ length (l .states)
-  states-inside = states-there l m (getD numbers place 0) f vs os w z
+    -- ---- the last one
 
-  scratch-inside : f .words ≤ length vs
-  scratch-inside = omega (arith, states-inside, lv, same-length)
+    module _ (looks : LooksAtEach states c) (h : i + 1 ≡ length (c .numbers)) (r : WriteAnswer) (vs us os : List ℕ)
+        (w : record { answer = r; state = vs; scratch = us; output = os }
+        ≡ write (lent .states) (lent .scratch) (lent .contribution) (lent .bodies) (c .markers) (getD (c .numbers) i 0) (lent .output))
+      where
+        last-written : record { answer = r; state = vs; scratch = us; output = os }
+            ≡ (let l = left states c word block pass byte end scratch output in
+            write (l .states) (l .scratch) (l .contribution) (l .bodies) (c .markers) (getD (c .numbers) i 0) (l .output))
+        last-written =
+            w
+            ∙ ap (λ (l : Rest). write (l .states) (l .scratch) (l .contribution) (l .bodies) (c .markers) (getD (c .numbers) i 0) (l .output))
+            lent-is
 
-  pub lent-lengths : length (lent .scratch) ≡ length (lent .states)
-  lent-lengths =
-      omega (
-        arith,
-        lv,
-        same-length,
-        ap length (from-is (f .words) vs) ∙ length-drop (f .words) vs,
-        ap length (from-is (f .words) (l .states)) ∙ length-drop (f .words) (l .states),
-      )
+        pub one-refused : r .refusal ≢ 0 → (q : LayerAnswer) → q ≡ refusedAt (r .refusal) i → (ws ys : List ℕ)
+            → LayerWritten states c q (back word states vs) ws ys
+        one-refused n q e ws ys =
+            refused-is (r .refusal) i q (back word states vs) ws ys n e
+            (last-refused states c looks i word block pass byte end scratch output sizes a h r vs us os last-written n)
+            (back-is word states vs
+            ∙ last-leaves states c looks i word block pass byte end scratch output sizes a h r vs us os last-written n)
 
-  pub output-length : (ot : List ℕ) → length ot ≡ length (lent .output) → length (back (f .end) os ot) ≡ length os
-  output-length ot e =
-      let inside : f .end ≤ length os = omega (arith, room-there l m (getD numbers place 0) f vs os w z lo, lo) in
-      back-length (f .end) os ot inside e
+        module _ (z : r .refusal ≡ 0) where
+          pub last-settles : Settles (take i sizes) (back word scratch us) (back word states vs)
+          last-settles =
+              subst (λ (xs : List ℕ). Settles (take i sizes) xs (back word states vs)) (sym (back-is word scratch us))
+              (subst (λ (xs : List ℕ). Settles (take i sizes) (take word scratch ++ us) xs) (sym (back-is word states vs))
+              (settles states c looks i word block pass byte end scratch output sizes a h r vs us os last-written z))
 
-  module _ (r : LayerAnswer) (st sc ot : List ℕ)
-      (q : LayerFrom (place + 1) (singles m (drop (place + 1) numbers) lent) (lent .states) (lent .output) r st sc ot) where
-    by-others : LayerFrom (place + 1) (singles m (drop (place + 1) numbers) (behind l (length (packetOf first))))
-        (drop (f .words) (l .states)) (drop (f .end) os) r st sc ot
-    by-others =
-        subst (λ (xs : List ℕ). LayerFrom (place + 1) (singles m (drop (place + 1) numbers) (behind l (length (packetOf first)))) xs
-        (drop (f .end) os) r st sc ot) (from-is (f .words) (l .states))
-        (subst (λ (ys : List ℕ). LayerFrom (place + 1) (singles m (drop (place + 1) numbers) (behind l (length (packetOf first))))
-        (lent .states) ys r st sc ot) (from-is (f .end) os)
-        (subst (λ (k : Rest). LayerFrom (place + 1) (singles m (drop (place + 1) numbers) k) (lent .states) (lent .output) r st sc ot)
-        lent-is q))
+          pub last-fits : length os ≡ length (lent .output) → end + r .bytes ≤ length (c .output)
+          last-fits e =
+              all-fit states c looks i word block pass byte end scratch output sizes a h r vs us os last-written z
+              (e ∙ ap length (from-is end output))
 
-    pub others-refused : r .refusal ≢ 0 → (us ys : List ℕ)
-        → LayerFrom place (singles m (drop place numbers) l) (l .states) (l .output) r (back (f .words) (l .states) st) us ys
-    others-refused k us ys =
-        behind-refused numbers place h m l n f vs os w z lv lo same-length r st sc ot by-others k (back (f .words) (l .states) st) us ys
-        (back-is (f .words) (l .states) st)
-
-    module _ (lst : length st ≡ length (lent .states)) (lsc : length sc ≡ length (lent .scratch)) where
-      pub states-length : length (back (f .words) (l .states) st) ≡ length (l .states)
-      states-length = back-length (f .words) (l .states) st states-inside lst
-
-      pub scratch-length : length (back (f .words) vs sc) ≡ length vs
-      scratch-length = back-length (f .words) vs sc scratch-inside lsc
-
-      -- the state in front can be settled
-      pub settles : (13 ≤ f .words) × (f .words ≤ length (back (f .words) (l .states) st))
-          × (length (back (f .words) vs sc) ≡ length (back (f .words) (l .states) st))
-          × (f .passes ≡ 0 → take (f .words) (back (f .words) vs sc)
-          ≡ set (take (f .words) (back (f .words) (l .states) st)) 3 (layer (take (f .words) (back (f .words) (l .states) st)) + 1))
-      unfolding inFront
-      settles = (
-        thirteen-words l m (getD numbers place 0) f vs os w z,
-        omega (arith, states-inside, states-length),
-        scratch-length ∙ lv ∙ same-length ∙ sym states-length,
-        λ e. in-front-of (f .words) vs sc scratch-inside ∙ after-in-front numbers place h m l n f vs os w z lv lo same-length
-            ∙ layer-alone l m (getD numbers place 0) f vs os w z e
-            ∙ ap (λ (xs : List ℕ). set xs 3 (layer xs + 1))
-            (ap (λ (k : ℕ). take k (l .states)) (sym (words-asked l m (getD numbers place 0) f vs os w z))
-            ∙ sym (in-front-of (f .words) (l .states) st states-inside)),
-      )
-
-      module _ (e : r .refusal ≡ 0) where
-        pub others-fit : f .end + r .bytes ≤ length (l .output)
-        others-fit = bytes-fit numbers place h m l n f vs os w z lv lo same-length r st sc ot by-others e
-
-        pub others-done : (xs : List ℕ)
-            → xs ≡ take (f .words) (back (f .words) vs sc) ++ drop (f .words) (back (f .words) (l .states) st)
-            → LayerFrom place (singles m (drop place numbers) l) (l .states) (l .output)
-            (record { refusal = 0; place = 0; bytes = f .end + r .bytes }) xs (back (f .words) vs sc) (back (f .end) os ot)
-        others-done xs x =
-            let after = after-in-front numbers place h m l n f vs os w z lv lo same-length in
-            behind-done numbers place h m l n f vs os w z lv lo same-length r st sc ot by-others e xs _ _
-            (x ∙ ap₂ (λ (a b : List ℕ). a ++ b) (in-front-of (f .words) vs sc scratch-inside ∙ after)
-            (behind-of (f .words) (l .states) st states-inside))
-            (back-is (f .words) vs sc ∙ ap (λ (a : List ℕ). a ++ sc) after)
-            (back-is (f .end) os ot
-            ∙ ap (λ (a : List ℕ). a ++ ot) (packet-in-front numbers place h m l n f vs os w z lv lo same-length))
+          pub layer-written : (xs : List ℕ)
+              → xs ≡ take (wordsOf (take i sizes)) (back word scratch us) ++ drop (wordsOf (take i sizes)) (back word states vs)
+              → LayerWritten states c (record { refusal = 0; place = 0; bytes = end + r .bytes }) xs (back word scratch us) (back end output os)
+          layer-written xs x =
+              let e = all-written states c looks i word block pass byte end scratch output sizes a h r vs us os last-written z xs
+              (x
+              ∙ ap₂ (λ (p q : List ℕ). take (wordsOf (take i sizes)) p ++ drop (wordsOf (take i sizes)) q) (back-is word scratch us)
+              (back-is word states vs)) in
+              record {
+                answer = ap (λ (q : LayerResult). q .answer) e;
+                done = λ y.
+                    (λ j. record {
+                      answer = record { refusal = 0; place = 0; bytes = end + r .bytes };
+                      states = xs;
+                      scratch = back-is word scratch us j;
+                      output = back-is end output os j;
+                    })
+                    ∙ e;
+                states-kept = λ n. absurd (n (λ j. 0));
+              }
