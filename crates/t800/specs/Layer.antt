@@ -1,7 +1,7 @@
 -- One layer of up to 16 precincts, written whole or not at all (SCOPE S21). Their states lie behind one another in one list, and so do
 -- counts, lengths, marks and bodies; the packets follow one another in the output, in the list's order.
 use Prim.Native.Nat.{ℕ, _+_}
-use mathlib.Core.Bool.{cond, not}
+use mathlib.Core.Bool.{cond}
 use mathlib.Core.List.{List, [], _∷_, flatMap}
 use lib.ListN.{length, take, drop}
 use lib.Dec.{ltb, eqb}
