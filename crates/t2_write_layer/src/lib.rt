@@ -18,7 +18,8 @@ fn no_bytes(refusal: u32) -> LayerAnswer
 }
 
 fn none_of_it(scratch: &mut [u32], output: &mut [u8], answer: LayerAnswer) -> LayerAnswer
-    ensures { λ r. ⌜ (r ≡ answer) × (now (scratch .exit) ≡ wiped (now (scratch .entry))) × (now (output .exit) ≡ wiped (now (output .entry))) ⌝ }
+    ensures { λ r. ⌜ (r ≡ answer) × (now (scratch .exit) ≡ wiped (now (scratch .entry)))
+        × (now (output .exit) ≡ wiped (now (output .entry))) ⌝ }
 {
     lists::wipe(scratch);
     lists::wipe_bytes(output);

@@ -30,28 +30,51 @@ returns c =
 returns-2 : tie.Need-returns-2
 returns-2 c =
     let a = c .before .before .before .before .before .before .before .before .before .before .before .args in
-    empty-list (a .states .now) (call (a .scratch .now) (a .counts .now) (a .lengths .now) (a .marks .now) (a .bodies .now) (a .markers) (a
+    empty-list (a .states .now) (call (a .scratch .now) (a .counts .now) (a .lengths .now) (a .marks .now) (a .bodies .now) (a .markers)
+    (a
     .numbers .now) (a .output .now)) _ (c .before .if2 .taken) (c .no-bytes2 .ensures)
 
 returns-3 : tie.Need-returns-3
 returns-3 c =
-    let a = c .before .before .before .before .before .before .before .before .before .before .before .before .before .before .before .before .before .before .before .args in
+    let a = c .before .before .before .before .before .before .before .before .before .before .before .before .before .before .before
+    .before .before .before .before .args in
     let k = c .before .before .before .before .none-of-it in
-    wrong-scratch (a .states .now) (call (a .scratch .now) (a .counts .now) (a .lengths .now) (a .marks .now) (a .bodies .now) (a .markers) (a
-    .numbers .now) (a .output .now)) (omega (arith, c .before .before .before .before .before .before .before .before .before .if2 .left), c .before .before .before .before .before .before .before .before .before .before .if1 .left) _ _ _ (c .before .before .before .before .before .before .before .before .if3 .taken)
+    wrong-scratch (a .states .now) (call (a .scratch .now) (a .counts .now) (a .lengths .now) (a .marks .now) (a .bodies .now) (a
+    .markers) (a
+    .numbers .now) (a .output .now)) (
+      omega (arith, c .before .before .before .before .before .before .before .before .before .if2 .left),
+      c .before .before .before .before .before .before .before .before .before .before .if1 .left,
+    ) _ _ _ (c .before .before .before .before
+    .before .before .before .before .if3 .taken)
     (k .ensures .0 ∙ c .before .before .before .before .before .no-bytes3 .ensures) (k .ensures .1) (k .ensures .2)
 
 write-precincts-requires : tie.Need-write-precincts-requires
-write-precincts-requires c κs =
-    (omega (arith, c .before .before .before .before .if2 .left), c .before .before .before .before .before .if1 .left, c .before .before .before .if3 .left)
+write-precincts-requires c κs = (
+  omega (arith, c .before .before .before .before .if2 .left),
+  c .before .before .before .before .before .if1 .left,
+  c .before .before
+      .before .if3 .left,
+)
 
 returns-4 : tie.Need-returns-4
 returns-4 c =
-    let a = c .before .before .before .before .before .before .before .before .before .before .before .before .before .before .before .before .before .before .before .before .before .before .before .before .before .before .before .before .before .before .args in
+    let a = c .before .before .before .before .before .before .before .before .before .before .before .before .before .before .before
+    .before .before .before .before .before .before .before .before .before .before .before .before .before .before .before .args in
     let k = c .before .before .before .before .none-of-it2 in
-    let w = c .before .before .before .before .before .before .before .before .before .before .before .before .before .before .before .write-precincts in
-    one-refused (a .states .now) (call (a .scratch .now) (a .counts .now) (a .lengths .now) (a .marks .now) (a .bodies .now) (a .markers) (a
-    .numbers .now) (a .output .now)) (omega (arith, c .before .before .before .before .before .before .before .before .before .before .before .before .before .before .before .before .before .before .before .before .if2 .left), c .before .before .before .before .before .before .before .before .before .before .before .before .before .before .before .before .before .before .before .before .before .if1 .left) (w .result) _ _ _ (w .ensures)
+    let w = c .before .before .before .before .before .before .before .before .before .before .before .before .before .before .before
+    .write-precincts in
+    one-refused (a .states .now) (call (a .scratch .now) (a .counts .now) (a .lengths .now) (a .marks .now) (a .bodies .now) (a .markers)
+    (a
+    .numbers .now) (a .output .now)) (
+      omega (
+        arith,
+        c .before .before .before .before .before .before .before .before .before .before
+            .before .before .before .before .before .before .before .before .before .before .if2 .left,
+      ),
+      c .before .before .before .before .before
+          .before .before .before .before .before .before .before .before .before .before .before .before .before .before .before .before .if1
+          .left,
+    ) (w .result) _ _ _ (w .ensures)
     (c .before .before .before .before .before .before .before .if4 .taken) _ _ _ (w .kept .1 .1 .0) (w .kept .1 .1 .1 .1 .1 .1 .1 .1 .0)
     (k .ensures .0) (k .ensures .1) (k .ensures .2)
 

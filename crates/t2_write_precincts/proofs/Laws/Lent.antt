@@ -20,7 +20,7 @@ use Rattle.t2_write_precincts.proofs.Laws.Lists.{from, from-is, back, b
 use Rattle.t2_write_precincts.proofs.Laws.Along.{left, Along, refused-on-the-way, goes-on}
 use Rattle.t2_write_precincts.proofs.Laws.Last.{last-refused, last-leaves, settles, all-fit, all-written}
 
-module _ (states : List ℕ) (c : LayerCall) where
+module _ {states : List ℕ} {c : LayerCall} where
   refused-is : (why place : ℕ) (r : LayerAnswer) (xs us ys : List ℕ) → why ≢ 0 → r ≡ refusedAt why place
       → writeLayer states c ≡ noneOfIt states c (refusedAt why place) → xs ≡ states → LayerWritten states c r xs us ys
   refused-is why place r xs us ys n e w x = record {
@@ -29,7 +29,7 @@ module _ (states : List ℕ) (c : LayerCall) where
     states-kept = λ z. x;
   }
 
-  module _ (i word block pass byte end : ℕ) (scratch output : List ℕ) (sizes : List Size)
+  module _ {i word block pass byte end : ℕ} {scratch output : List ℕ} {sizes : List Size}
       (a : Along states c i word block pass byte end scratch output sizes) where
     abbrev lent : Rest
     lent =
@@ -109,7 +109,8 @@ module _ (states : List ℕ) (c : LayerCall) where
             write (l .states) (l .scratch) (l .contribution) (l .bodies) (c .markers) (getD (c .numbers) i 0) (l .output))
         last-written =
             w
-            ∙ ap (λ (l : Rest). write (l .states) (l .scratch) (l .contribution) (l .bodies) (c .markers) (getD (c .numbers) i 0) (l .output))
+            ∙ ap (λ (l : Rest). write (l .states) (l .scratch) (l .contribution) (l .bodies) (c .markers) (getD (c .numbers) i 0) (l
+            .output))
             lent-is
 
         pub one-refused : r .refusal ≢ 0 → (q : LayerAnswer) → q ≡ refusedAt (r .refusal) i → (ws ys : List ℕ)
@@ -134,7 +135,8 @@ module _ (states : List ℕ) (c : LayerCall) where
 
           pub layer-written : (xs : List ℕ)
               → xs ≡ take (wordsOf (take i sizes)) (back word scratch us) ++ drop (wordsOf (take i sizes)) (back word states vs)
-              → LayerWritten states c (record { refusal = 0; place = 0; bytes = end + r .bytes }) xs (back word scratch us) (back end output os)
+              → LayerWritten states c (record { refusal = 0; place = 0; bytes = end + r .bytes }) xs (back word scratch us) (back end
+              output os)
           layer-written xs x =
               let e = all-written states c looks i word block pass byte end scratch output sizes a h r vs us os last-written z xs
               (x
