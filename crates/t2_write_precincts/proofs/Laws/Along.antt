@@ -5,8 +5,8 @@ use mathlib.Core.List.{List, [], _∷_, _++_, map, flatMap, map-append}
 use Prim.Native.Nat.{ℕ, suc, _+_, _≤_, _<_}
 use native.Mathlib.Numerals.{add-one}
 use native.Mathlib.Omega.{arith}
-use lib.ListN.{length, getD, set, take, drop, length-take, length-drop, length-set, length-append}
-use lib.Seq.{drop-cons, drop-drop, take-add, take-at, drop-at, take-append-add, drop-append-add, take-suc-set}
+use lib.ListN.{length, getD, set, take, drop, length-drop, length-set, length-append}
+use lib.Seq.{length-take-le, drop-cons, drop-drop, take-add, take-at, drop-at, take-append-add, drop-append-add, take-suc-set}
 use Rattle.t800.specs.declared.Markers.{Markers}
 use Rattle.t800.specs.WriteHeader.{contribution}
 use Rattle.t800.specs.Layer.{Rest, LayerCall, inFront, behind, Single, single, wrote, packetOf, singles, packets, singlesOf}
@@ -16,7 +16,7 @@ use Rattle.whole_layer.proofs.Refusals.{refused-here}
 use Rattle.t2_settle_states.specs.declared.Size.{Size}
 use Rattle.t2_layer_parts.specs.declared.Front.{Front}
 use Rattle.t2_layer_parts.specs.Front.{rest, WrittenInFront}
-use Rattle.t2_write_precincts.proofs.Laws.Lists.{one-more, without-it, place-is, as-parts, flat-append, flat-one}
+use Rattle.t2_write_precincts.proofs.Laws.Lists.{one-more, without-it, place-is, as-parts, joined}
 use Rattle.t2_write_precincts.proofs.Laws.Front.{accepted, words-asked, blocks-asked, passes-asked, bytes-asked, states-there}
 use Rattle.t2_write_precincts.proofs.Laws.Front.{counts-there, lengths-there, marks-there, bodies-there, end-is, output-then}
 use Rattle.t2_write_precincts.proofs.Laws.Front.{room-there, state-cut, scratch-length, sizeOf, size-is}
@@ -77,6 +77,19 @@ module _ (states : List ℕ) (c : LayerCall) where
     output-in = omega arith;
   }
 
+  -- ---- the parts that are written
+
+  module _ {i word block pass byte end : ℕ} {scratch output : List ℕ} {sizes : List Size}
+      (a : Along i word block pass byte end scratch output sizes) where
+    pub states-front : length (take word states) ≡ word
+    states-front = length-take-le word states (a .words-in)
+
+    pub scratch-front : length (take word scratch) ≡ word
+    scratch-front = length-take-le word scratch (omega (arith, a .as-long, a .words-in))
+
+    pub output-front : length (take end output) ≡ end
+    output-front = length-take-le end output (omega (arith, a .output-as-long, a .output-in))
+
   -- ---- a precinct with others behind it
 
   module _ (i word block pass byte end : ℕ) (scratch output : List ℕ) (sizes : List Size)
@@ -124,12 +137,6 @@ module _ (states : List ℕ) (c : LayerCall) where
       abbrev output-now : List ℕ
       output-now = take end output ++ os
 
-      front-length : length (take word scratch) ≡ word
-      front-length = omega (arith, length-take word scratch, a .as-long, a .words-in)
-
-      end-length : length (take end output) ≡ end
-      end-length = omega (arith, length-take end output, a .output-as-long, a .output-in)
-
       scratch-lent : vs ≡ wrote first .scratch ++ drop (f .words) (l .scratch)
       scratch-lent = w .scratch-if z
           ∙ ap (λ (k : ℕ). wrote first .scratch ++ drop k (l .scratch)) (sym (words-asked l m number f vs os w z))
@@ -160,11 +167,11 @@ module _ (states : List ℕ) (c : LayerCall) where
 
       further-scratch : drop (word + f .words) scratch-then ≡ drop (f .words) vs
       further-scratch =
-          ap (λ (n : ℕ). drop (n + f .words) scratch-then) (sym front-length) ∙ drop-append-add (take word scratch) vs (f .words)
+          ap (λ (n : ℕ). drop (n + f .words) scratch-then) (sym (scratch-front a)) ∙ drop-append-add (take word scratch) vs (f .words)
 
       further-output : drop (end + f .end) output-now ≡ drop (f .end) os
       further-output =
-          ap (λ (n : ℕ). drop (n + f .end) output-now) (sym end-length) ∙ drop-append-add (take end output) os (f .end)
+          ap (λ (n : ℕ). drop (n + f .end) output-now) (sym (output-front a)) ∙ drop-append-add (take end output) os (f .end)
 
       left-then : left (word + f .words) (block + f .blocks) (pass + f .passes) (byte + f .bytes) (end + f .end) scratch-then output-now
           ≡ behind l (length (packetOf first))
@@ -188,12 +195,6 @@ module _ (states : List ℕ) (c : LayerCall) where
       one : take (i + 1) ss ≡ take i ss ++ (first ∷ [])
       one = one-more ss i first others first-here
 
-      joins : (g : Single → List ℕ) (xs ys : List ℕ) → xs ≡ flatMap g (take i ss) → ys ≡ g first → xs ++ ys ≡ flatMap g (take (i + 1) ss)
-      joins g xs ys x y =
-          ap₂ (λ (us vs : List ℕ). us ++ vs) x (y ∙ sym (flat-one g first))
-          ∙ sym (flat-append g (take i ss) (first ∷ []))
-          ∙ ap (flatMap g) (sym one)
-
       pub goes-on : Along (i + 1) (word + f .words) (block + f .blocks) (pass + f .passes) (byte + f .bytes) (end + f .end) scratch-then
           output-now (set sizes i (record { words = f .words; passes = f .passes }))
       goes-on = record {
@@ -202,14 +203,16 @@ module _ (states : List ℕ) (c : LayerCall) where
         none-refused = subst AllAccepted (sym one)
             (accepted-one-more (take i ss) first (a .none-refused) (accepted l m number f vs os w z));
         states-are = take-add word (f .words) states
-            ∙ joins (λ s. s .state) (take word states) (take (f .words) (drop word states)) (a .states-are)
+            ∙ joined (λ s. s .state) (take (i + 1) ss) (take i ss) first one (take word states) (take (f .words) (drop word states))
+            (a .states-are)
             (state-cut l m number f vs os w z);
-        scratch-is = ap (λ (n : ℕ). take (n + f .words) scratch-then) (sym front-length)
+        scratch-is = ap (λ (n : ℕ). take (n + f .words) scratch-then) (sym (scratch-front a))
             ∙ take-append-add (take word scratch) vs (f .words)
-            ∙ joins (λ s. wrote s .scratch) (take word scratch) (take (f .words) vs) (a .scratch-is) in-front;
-        output-is = ap (λ (n : ℕ). take (n + f .end) output-now) (sym end-length)
+            ∙ joined (λ s. wrote s .scratch) (take (i + 1) ss) (take i ss) first one (take word scratch) (take (f .words) vs)
+            (a .scratch-is) in-front;
+        output-is = ap (λ (n : ℕ). take (n + f .end) output-now) (sym (output-front a))
             ∙ take-append-add (take end output) os (f .end)
-            ∙ joins packetOf (take end output) (take (f .end) os) (a .output-is) packet-in-front;
+            ∙ joined packetOf (take (i + 1) ss) (take i ss) first one (take end output) (take (f .end) os) (a .output-is) packet-in-front;
         output-behind = further-output ∙ packet-behind
             ∙ ap (λ (n : ℕ). drop n (drop end output)) (sym (end-is l m number f vs os w z))
             ∙ ap (drop (f .end)) (a .output-behind)
@@ -223,7 +226,7 @@ module _ (states : List ℕ) (c : LayerCall) where
         as-long = omega (
           arith,
           length-append (take word scratch) vs,
-          front-length,
+          scratch-front a,
           lv,
           length-drop word scratch,
           a .as-long,
@@ -232,7 +235,7 @@ module _ (states : List ℕ) (c : LayerCall) where
         output-as-long = omega (
           arith,
           length-append (take end output) os,
-          end-length,
+          output-front a,
           lo,
           length-drop end output,
           a .output-as-long,

@@ -5,7 +5,7 @@ use mathlib.Core.List.{List, [], _∷_, _++_, map, flatMap, append-assoc}
 use Prim.Native.Nat.{ℕ, suc, _+_, _≤_, _<_}
 use native.Mathlib.Numerals.{add-one}
 use native.Mathlib.Omega.{arith}
-use lib.ListN.{length, getD, set, take, drop, length-take, length-drop, length-append, take-append-drop, drop-of-length-le}
+use lib.ListN.{length, getD, set, take, drop, length-drop, length-append, take-append-drop, drop-of-length-le}
 use lib.Seq.{drop-cons, drop-drop, take-at, drop-at}
 use Rattle.t800.specs.declared.WriteAnswer.{WriteAnswer}
 use Rattle.t800.specs.Base.{overwrite}
@@ -19,9 +19,9 @@ use Rattle.whole_layer.proofs.Cuts.{fits, thirteen, state-kept}
 use Rattle.whole_layer.proofs.SingleCalls.{bytes-are, output-is}
 use Rattle.t2_settle_states.specs.declared.Size.{Size}
 use Rattle.t2_settle_states.specs.Settle.{wordsOf, Settles}
-use Rattle.t2_write_precincts.proofs.Laws.Lists.{place-is, as-parts, flat-append, flat-one}
+use Rattle.t2_write_precincts.proofs.Laws.Lists.{place-is, as-parts, joined}
 use Rattle.t2_write_precincts.proofs.Laws.Front.{left-same, layer-alone, sizeOf}
-use Rattle.t2_write_precincts.proofs.Laws.Along.{accepted-one-more, left, Along}
+use Rattle.t2_write_precincts.proofs.Laws.Along.{accepted-one-more, left, Along, states-front, scratch-front, output-front}
 
 -- ---- accepted calls, one after another
 
@@ -86,15 +86,6 @@ module _ (states : List ℕ) (c : LayerCall) (looks : LooksAtEach states c) (i w
   parts : ss ≡ take i ss ++ (s ∷ [])
   parts = as-parts ss i s [] last-here
 
-  state-front : length (take word states) ≡ word
-  state-front = omega (arith, length-take word states, a .words-in)
-
-  scratch-front : length (take word scratch) ≡ word
-  scratch-front = omega (arith, length-take word scratch, a .as-long, a .words-in)
-
-  output-front : length (take end output) ≡ end
-  output-front = omega (arith, length-take end output, a .output-as-long, a .output-in)
-
   module _ (r : WriteAnswer) (vs us os : List ℕ) (w : record { answer = r; state = vs; scratch = us; output = os }
       ≡ write (l .states) (l .scratch) (l .contribution) (l .bodies) (c .markers) (getD (c .numbers) i 0) (l .output)) where
     number-is : r .refusal ≡ wrote s .answer .refusal
@@ -133,13 +124,7 @@ module _ (states : List ℕ) (c : LayerCall) (looks : LooksAtEach states c) (i w
 
       words-are : wordsOf (take i sizes) ≡ word
       words-are =
-          ap wordsOf (a .sizes-are) ∙ words-of-all (take i ss) ∙ ap length (sym (a .states-are)) ∙ state-front
-
-      joins : (g : Single → List ℕ) (xs ys : List ℕ) → xs ≡ flatMap g (take i ss) → ys ≡ g s → xs ++ ys ≡ flatMap g ss
-      joins g xs ys x y =
-          ap₂ (λ (p q : List ℕ). p ++ q) x (y ∙ sym (flat-one g s))
-          ∙ sym (flat-append g (take i ss) (s ∷ []))
-          ∙ ap (flatMap g) (sym parts)
+          ap wordsOf (a .sizes-are) ∙ words-of-all (take i ss) ∙ ap length (sym (a .states-are)) ∙ states-front states c a
 
       out : os ≡ packetOf s ++ drop (length (packetOf s)) (l .output)
       out = ap (λ (x : WriteResult). x .output) w ∙ output-is s ok
@@ -148,11 +133,11 @@ module _ (states : List ℕ) (c : LayerCall) (looks : LooksAtEach states c) (i w
       bytes-of-last = ap (λ (x : WriteResult). x .answer .bytes) w ∙ bytes-are s ok
 
       all-packets : take end output ++ packetOf s ≡ packets ss
-      all-packets = joins packetOf (take end output) (packetOf s) (a .output-is) refl
+      all-packets = joined packetOf ss (take i ss) s parts (take end output) (packetOf s) (a .output-is) refl
 
       bytes : end + r .bytes ≡ length (packets ss)
       bytes =
-          omega (arith, ap length (sym all-packets) ∙ length-append (take end output) (packetOf s), output-front, bytes-of-last)
+          omega (arith, ap length (sym all-packets) ∙ length-append (take end output) (packetOf s), output-front states c a, bytes-of-last)
 
       pub all-fit : length os ≡ length (l .output) → end + r .bytes ≤ length (c .output)
       all-fit e =
@@ -188,12 +173,14 @@ module _ (states : List ℕ) (c : LayerCall) (looks : LooksAtEach states c) (i w
       all-written xs x =
           let settled : xs ≡ flatMap (λ t. wrote t .state) ss =
           x ∙ ap (λ (n : ℕ). take n (take word scratch ++ us) ++ drop n (take word states ++ vs)) words-are
-          ∙ ap₂ (λ (p q : List ℕ). p ++ q) (take-at (take word scratch) us word scratch-front)
-          (drop-at (take word states) vs word state-front)
-          ∙ joins (λ t. wrote t .state) (take word scratch) vs (a .scratch-is ∙ sym (all-same (take i ss) (a .none-refused)))
+          ∙ ap₂ (λ (p q : List ℕ). p ++ q) (take-at (take word scratch) us word (scratch-front states c a))
+          (drop-at (take word states) vs word (states-front states c a))
+          ∙ joined (λ t. wrote t .state) ss (take i ss) s parts (take word scratch) vs
+          (a .scratch-is ∙ sym (all-same (take i ss) (a .none-refused)))
           (ap (λ (q : WriteResult). q .state) w) in
           let put : take word scratch ++ us ≡ flatMap (λ t. wrote t .scratch) ss =
-          joins (λ t. wrote t .scratch) (take word scratch) us (a .scratch-is) (ap (λ (q : WriteResult). q .scratch) w) in
+          joined (λ t. wrote t .scratch) ss (take i ss) s parts (take word scratch) us (a .scratch-is)
+          (ap (λ (q : WriteResult). q .scratch) w) in
           (λ j. record {
             answer = record { refusal = 0; place = 0; bytes = bytes j };
             states = settled j;

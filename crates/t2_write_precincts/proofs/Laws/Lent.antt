@@ -4,7 +4,7 @@ use mathlib.Core.Logic.{_≢_}
 use mathlib.Core.List.{List, _++_}
 use Prim.Native.Nat.{ℕ, _+_, _≤_, _<_}
 use native.Mathlib.Omega.{arith}
-use lib.ListN.{length, getD, set, take, drop, length-take, length-drop, length-append}
+use lib.ListN.{length, getD, set, take, drop, length-drop}
 use Rattle.t800.specs.declared.LayerAnswer.{LayerAnswer}
 use Rattle.t800.specs.declared.WriteAnswer.{WriteAnswer}
 use Rattle.t800.specs.WriteHeader.{contribution}
@@ -16,7 +16,7 @@ use Rattle.t2_settle_states.specs.Settle.{wordsOf, Settles}
 use Rattle.t2_layer_parts.specs.declared.Front.{Front}
 use Rattle.t2_layer_parts.specs.Front.{rest, WrittenInFront}
 use Rattle.t2_write_precincts.specs.Layer.{LayerWritten}
-use Rattle.t2_write_precincts.proofs.Laws.Lists.{from, from-is, back, back-is}
+use Rattle.t2_write_precincts.proofs.Laws.Lists.{from, from-is, back, back-is, back-length}
 use Rattle.t2_write_precincts.proofs.Laws.Along.{left, Along, refused-on-the-way, goes-on}
 use Rattle.t2_write_precincts.proofs.Laws.Last.{last-refused, last-leaves, settles, all-fit, all-written}
 
@@ -51,17 +51,6 @@ module _ {states : List ℕ} {c : LayerCall} where
           a .as-long,
           ap length (from-is word scratch) ∙ length-drop word scratch,
           ap length (from-is word states) ∙ length-drop word states,
-        )
-
-    back-length : (n : ℕ) (xs ys : List ℕ) → n ≤ length xs → length ys ≡ length (from n xs) → length (back n xs ys) ≡ length xs
-    back-length n xs ys h e =
-        omega (
-          arith,
-          h,
-          e,
-          ap length (back-is n xs ys) ∙ length-append (take n xs) ys,
-          length-take n xs,
-          ap length (from-is n xs) ∙ length-drop n xs,
         )
 
     pub states-length : (vs : List ℕ) → length vs ≡ length (lent .states) → length (back word states vs) ≡ length states
