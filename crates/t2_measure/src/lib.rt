@@ -26,9 +26,17 @@ pub fn measure(
             body: 0,
         };
     }
-    lists::copy(state, scratch);
     let mut none: [u8; 1] = [0];
-    let end = t2_write_packet::put_front(scratch, &mut none, counts, lengths, marks, markers, 0);
+    let end = t2_write_packet::put_front(
+        state,
+        scratch,
+        &mut none,
+        counts,
+        lengths,
+        marks,
+        markers,
+        0,
+    );
     let body = t2_narrow::total(lengths);
     MeasureAnswer {
         refusal: 0,

@@ -26,8 +26,16 @@ pub fn put(
     ensures { λ r. ⌜ PacketPut (now (state .entry)) (contribution (now (counts .entry)) (now (lengths .entry)) (now (marks .entry)))
         (now (body .entry)) markers number (now (output .entry)) r (now (scratch .exit)) (now (output .exit)) ⌝ }
 {
-    lists::copy(state, scratch);
-    let end = t2_write_packet::put_front(scratch, output, counts, lengths, marks, markers, number);
+    let end = t2_write_packet::put_front(
+        state,
+        scratch,
+        output,
+        counts,
+        lengths,
+        marks,
+        markers,
+        number,
+    );
     if !t2_write_packet::has_room(output.len(), end, body.len()) {
         return WriteAnswer {
             refusal: Refusal::SPACE,

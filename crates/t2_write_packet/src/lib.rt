@@ -41,8 +41,10 @@ fn put_eph(out: &mut [u8], used: bool, at: usize) -> usize
     at + Marker::EPH.bytes
 }
 
-// SOP, header and EPH. The scratch holds the state.
+// SOP, header and EPH; the scratch becomes the state after them. The state is copied here, and not by the callers, so that a packet of a
+// layer takes the same loop as a single one.
 pub fn put_front(
+    state: &[u32],
     scratch: &mut [u32],
     output: &mut [u8],
     counts: &[u32],
@@ -51,11 +53,12 @@ pub fn put_front(
     markers: Markers,
     number: u32,
 ) -> usize
-    requires { ⌜ measureRefusalFor (now scratch) (length (now scratch)) (contribution (now counts) (now lengths) (now marks)) ≡ 0 ⌝ }
+    requires { ⌜ measureRefusalFor (now state) (length (now scratch)) (contribution (now counts) (now lengths) (now marks)) ≡ 0 ⌝ }
     ensures { λ r. ⌜ headerCoded (now (scratch .exit)) (now (output .exit)) r
-        ≡ putFront (contribution (now (counts .entry)) (now (lengths .entry)) (now (marks .entry))) (now (scratch .entry)) markers
+        ≡ putFront (contribution (now (counts .entry)) (now (lengths .entry)) (now (marks .entry))) (now (state .entry)) markers
         number (now (output .entry)) ⌝ }
 {
+    lists::copy(state, scratch);
     let start = put_sop(output, markers.sop, number);
     let end = t2_write_header::encode_header(scratch, output, start, counts, lengths, marks);
     put_eph(output, markers.eph, end)

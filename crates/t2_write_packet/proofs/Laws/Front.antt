@@ -73,11 +73,13 @@ module _ (p : Contribution) (ws : List ℕ) (m : Markers) (number : ℕ) (bytes 
   abbrev eph : List ℕ
   eph = cond (m .eph) ephBytes []
 
-  pub front-put : (a e : BytesPut) (h : HeaderCoded) → a ≡ putBytes (bytesPut bytes 0) sop → h ≡ putHeader p ws (a .end) (a .bytes)
-      → e ≡ putBytes (bytesPut (h .bytes) (h .end)) eph
+  -- vs is the scratch, once it holds the state
+  pub front-put : (vs : List ℕ) (a e : BytesPut) (h : HeaderCoded) → vs ≡ ws → a ≡ putBytes (bytesPut bytes 0) sop
+      → h ≡ putHeader p vs (a .end) (a .bytes) → e ≡ putBytes (bytesPut (h .bytes) (h .end)) eph
       → headerCoded (h .words) (e .bytes) (e .end) ≡ putFront p ws m number bytes
   unfolding putFront putHeader front withMarkers
-  front-put a e h x y z =
+  front-put vs a e h v x w z =
+      let y : h ≡ putHeader p ws (a .end) (a .bytes) = w ∙ ap (λ (us : List ℕ). putHeader p us (a .end) (a .bytes)) v in
       let head : List ℕ = pack (codeHeader p ws .bits) in
       let s : bytesPut (h .bytes) (h .end)
       ≡ putBytes (bytesPut bytes 0) (sop ++ head) = ap (λ (k : HeaderCoded). bytesPut (k .bytes) (k .end)) y
@@ -90,6 +92,12 @@ module _ (p : Contribution) (ws : List ℕ) (m : Markers) (number : ℕ) (bytes 
 
 -- a packet that nothing refuses
 module _ (ws : List ℕ) (n : ℕ) (p : Contribution) (r : NotRefused ws n p) where
-  pub header-ends : (start : ℕ) (bytes : List ℕ) (h : HeaderCoded) → start ≤ 6 → h ≡ putHeader p ws start bytes → h .end ≤ headerBytes + 6
+  pub header-ends : (vs : List ℕ) (start : ℕ) (bytes : List ℕ) (h : HeaderCoded) → vs ≡ ws → start ≤ 6
+      → h ≡ putHeader p vs start bytes → h .end ≤ headerBytes + 6
   unfolding putHeader
-  header-ends start bytes h l e = omega (arith, ap (λ (k : HeaderCoded). k .end) e, header-small ws n p r)
+  header-ends vs start bytes h v l e =
+      omega (
+        arith,
+        ap (λ (k : HeaderCoded). k .end) (e ∙ ap (λ (us : List ℕ). putHeader p us start bytes) v),
+        header-small ws n p r,
+      )
