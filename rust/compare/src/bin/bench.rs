@@ -3,7 +3,8 @@
 //! Both sides' bytes and answers are compared before anything is timed, but for packets without passes and the next ones after them, which
 //! the crate writes otherwise. A row is timed in turn, the crate's side and ours, for so many seconds, and the best time of each side
 //! counts. PATTERN: only the rows whose names hold it.
-//! A second table has layers of 16 precincts, written in turn by 16 calls and by one, on the same lists; starts are not timed there.
+//! A second table has layers of 16 precincts, written in turn by 16 calls and by one, on the same lists; starts are not timed there, and
+//! medians over the rounds count.
 //! Without passes the engine still looks at every word of the state for its range and copies it to scratch; the crate does neither.
 #[cfg(openjp2)]
 mod timed {
@@ -337,6 +338,26 @@ mod timed {
         best.into_iter().map(|d| d.as_nanos() as f64 / packets).collect()
     }
 
+    /// Nanoseconds a packet of each side, and the first side's time to the second's: medians over the rounds, in which they take turns at
+    /// being first. A round's ratio has none of what makes the machine faster or slower from one round to the next.
+    fn paired<T>(row: &mut T, packets: f64, time: Duration, sides: [Side<T>; 2]) -> [f64; 3] {
+        let mut rounds: Vec<[f64; 3]> = Vec::new();
+        let begin = Instant::now();
+        while begin.elapsed() < time {
+            let mut times = [0.0; 2];
+            for turn in 0..2 {
+                let side = (rounds.len() + turn) % 2;
+                times[side] = sides[side](row).as_nanos() as f64 / packets;
+            }
+            rounds.push([times[0], times[1], times[0] / times[1]]);
+        }
+        [0, 1, 2].map(|i| {
+            let mut values: Vec<f64> = rounds.iter().map(|round| round[i]).collect();
+            values.sort_by(f64::total_cmp);
+            values[values.len() / 2]
+        })
+    }
+
     // ---- layers of several precincts
 
     /// Precincts that are written together: their states and what each layer brings, behind one another.
@@ -486,8 +507,8 @@ mod timed {
             let mut grouped = Grouped::new(side, count, kind);
             grouped.compare();
             let packets = grouped.row.timed_packets();
-            let times = best(&mut grouped, packets, time, &[Grouped::by_single_calls, Grouped::by_one_call]);
-            println!("| write 16 precincts | {name} | {} | {:.0} | {:.0} | {:.3} |", kind.name, times[0], times[1], times[0] / times[1]);
+            let [single, one, ratio] = paired(&mut grouped, packets, time, [Grouped::by_single_calls, Grouped::by_one_call]);
+            println!("| write 16 precincts | {name} | {} | {single:.0} | {one:.0} | {ratio:.3} |", kind.name);
         }
     }
 
