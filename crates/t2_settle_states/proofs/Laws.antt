@@ -8,32 +8,26 @@ use native.Mathlib.Omega.{arith}
 use lib.ListN.{length, getD, set, take, drop, length-take, length-drop, take-append-drop, drop-of-length-le}
 use lib.Seq.{take-add, drop-drop, take-at, drop-at, drop-cons, getD-take, getD-drop, getD-set-same, length-take-le, length-front}
 use lib.Seq.{set-append-left}
+use Rattle.t800.specs.Base.{sum}
 use Rattle.t800.specs.State.{layer}
-use Rattle.t2_settle_states.specs.declared.Size.{Size}
-use Rattle.t2_settle_states.specs.Settle.{wordsOf, Settles, settleLayer}
+use Rattle.t2_settle_states.specs.Settle.{Settles, settleLayer}
 
 -- ---- one precinct more
 
-abbrev pub noSize : Size
-noSize = record { words = 0; passes = 0 }
+-- element i of the first n
+pub next-one : (xs : List ℕ) (n i : ℕ) → n ≤ length xs → i < n → drop i (take n xs) ≡ getD xs i 0 ∷ drop (i + 1) (take n xs)
+next-one xs n i h k =
+    let l : i < length (take n xs) = simp length-take (omega arith) in
+    rw (add-one, drop-cons (take n xs) i 0 l, getD-take n xs i 0 k)
 
--- precinct i of the first n
-pub next-size : (zs : List Size) (n i : ℕ) → n ≤ length zs → i < n → drop i (take n zs) ≡ getD zs i noSize ∷ drop (i + 1) (take n zs)
-next-size zs n i h k =
-    let l : i < length (take n zs) = simp length-take (omega arith) in
-    rw (add-one, drop-cons (take n zs) i noSize l, getD-take n zs i noSize k)
+pub no-more : (xs : List ℕ) (n i : ℕ) → n ≤ i → sum (drop i (take n xs)) ≡ 0
+unfolding sum
+no-more xs n i h = ap sum (drop-of-length-le (take n xs) {i = i} (simp length-take (omega arith)))
 
-pub no-more-sizes : (zs : List Size) (n i : ℕ) → n ≤ i → drop i (take n zs) ≡ []
-no-more-sizes zs n i h = drop-of-length-le (take n zs) {i = i} (simp length-take (omega arith))
-
-pub no-more-words : (zs : List Size) (n i : ℕ) → n ≤ i → wordsOf (drop i (take n zs)) ≡ 0
-unfolding wordsOf
-no-more-words zs n i h = ap wordsOf (no-more-sizes zs n i h)
-
-pub words-turn : (zs : List Size) (n i : ℕ) → n ≤ length zs → i < n
-    → wordsOf (drop i (take n zs)) ≡ getD zs i noSize .words + wordsOf (drop (i + 1) (take n zs))
-unfolding wordsOf
-words-turn zs n i h k = ap wordsOf (next-size zs n i h k)
+pub sum-turn : (xs : List ℕ) (n i : ℕ) → n ≤ length xs → i < n
+    → sum (drop i (take n xs)) ≡ getD xs i 0 + sum (drop (i + 1) (take n xs))
+unfolding sum
+sum-turn xs n i h k = ap sum (next-one xs n i h k)
 
 -- ---- settled up to a place
 
@@ -104,9 +98,8 @@ module _ (scratch states : List ℕ) (l : length scratch ≡ length states) wher
       ∙ layer-settled at words t k s
 
 -- what holds of the states from `at` on holds of those behind the first of them
-pub settles-behind : (zs : List Size) (scratch states : List ℕ) (at words : ℕ)
-    → Settles zs (drop words (drop at scratch)) (drop words (drop at states))
-    → Settles zs (drop (at + words) scratch) (drop (at + words) states)
-settles-behind zs scratch states at words s =
-    subst (λ (xs : List ℕ). Settles zs xs (drop (at + words) states)) (drop-drop words at scratch)
-    (subst (λ (ys : List ℕ). Settles zs (drop words (drop at scratch)) ys) (drop-drop words at states) s)
+pub settles-behind : (ws ps scratch states : List ℕ) (at n : ℕ) → Settles ws ps (drop n (drop at scratch)) (drop n (drop at states))
+    → Settles ws ps (drop (at + n) scratch) (drop (at + n) states)
+settles-behind ws ps scratch states at n s =
+    subst (λ (xs : List ℕ). Settles ws ps xs (drop (at + n) states)) (drop-drop n at scratch)
+    (subst (λ (ys : List ℕ). Settles ws ps (drop n (drop at scratch)) ys) (drop-drop n at states) s)

@@ -1,24 +1,19 @@
--- The states of a layer's precincts: their words, and when they can be settled from the scratch.
+-- The states of a layer's precincts, and when they can be settled from the scratch.
 use mathlib.Core.Path.{_≡_}
-use mathlib.Core.List.{List, [], _∷_, _++_}
+use mathlib.Core.List.{[], _∷_, _++_}
 use Prim.Native.Nat.{ℕ, _+_, _-_, _≤_}
 use lib.ListN.{length, getD, set, take, drop}
 use Rattle.t800.specs.Base.{Words}
 use Rattle.t800.specs.State.{layer}
-use Rattle.t2_settle_states.specs.declared.Size.{Size}
 
--- words of several states
-unfoldable pub wordsOf : List Size → ℕ
-wordsOf [] = 0
-wordsOf (z ∷ zs) = z .words + wordsOf zs
-
--- where each precinct's state can be settled from its part of the scratch: without passes the next layer is the only word that differs
-abbrev pub Settles : List Size → (scratch states : Words) → Type 0
-Settles [] scratch states = Unit {0}
-Settles (z ∷ zs) scratch states =
-    (13 ≤ z .words) × (z .words ≤ length states)
-    × (z .passes ≡ 0 → take (z .words) scratch ≡ set (take (z .words) states) 3 (layer (take (z .words) states) + 1))
-    × Settles zs (drop (z .words) scratch) (drop (z .words) states)
+-- Of each precinct, how many words its state and how many passes its packet has: where its state can be settled from its part of the
+-- scratch. Without passes the next layer is the only word that differs.
+abbrev pub Settles : (words passes scratch states : Words) → Type 0
+Settles [] passes scratch states = Unit {0}
+Settles (n ∷ words) passes scratch states =
+    (13 ≤ n) × (n ≤ length states)
+    × (getD passes 0 0 ≡ 0 → take n scratch ≡ set (take n states) 3 (layer (take n states) + 1))
+    × Settles words (drop 1 passes) (drop n scratch) (drop n states)
 
 -- the words from `wait` to `at` from the scratch, and word 3 from `at` on
 abbrev pub settleLayer : (scratch states : Words) (wait at : ℕ) → Words

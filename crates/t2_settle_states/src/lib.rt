@@ -3,13 +3,8 @@ ghost use mathlib.Core.Path.{_≡_};
 ghost use mathlib.Core.List.{_++_};
 ghost use Prim.Native.Nat.{_+_, _≤_};
 ghost use lib.ListN.{length, take, drop};
-ghost use Rattle.t2_settle_states.specs.Settle.{wordsOf, Settles, settleLayer};
-
-// How many words a precinct's state has, and how many passes its packet brings.
-pub struct Size {
-    pub words: usize,
-    pub passes: usize,
-}
+ghost use Rattle.t800.specs.Base.{sum};
+ghost use Rattle.t2_settle_states.specs.Settle.{Settles, settleLayer};
 
 // The words from `wait` to `at`, and the next layer of the state from there on.
 fn settle_layer(scratch: &[u32], states: &mut [u32], wait: usize, at: usize)
@@ -20,23 +15,30 @@ fn settle_layer(scratch: &[u32], states: &mut [u32], wait: usize, at: usize)
     states[at + 3] = scratch[at + 3];
 }
 
-// The states of the first n precincts. Those with passes are copied together up to the next one without: of that the next layer is the
-// only word that differs.
-pub fn settle_states(scratch: &[u32], states: &mut [u32], sizes: [Size; 16], n: usize)
-    requires { ⌜ (n ≤ 16) × (length (now scratch) ≡ length (now states)) × Settles (take n sizes) (now scratch) (now states) ⌝ }
-    ensures { λ _. ⌜ now (states .exit)
-        ≡ take (wordsOf (take n sizes)) (now (scratch .entry)) ++ drop (wordsOf (take n sizes)) (now (states .entry)) ⌝ }
+// The states of the first n precincts, of which the lists have how many words each one has and how many passes its packet. Those with
+// passes are copied together up to the next one without: of that the next layer is the only word that differs.
+pub fn settle_states(
+    scratch: &[u32],
+    states: &mut [u32],
+    words: &[usize],
+    passes: &[usize],
+    n: usize,
+)
+    requires { ⌜ (n ≤ length (now words)) × (n ≤ length (now passes)) × (length (now scratch) ≡ length (now states))
+        × Settles (take n (now words)) (take n (now passes)) (now scratch) (now states) ⌝ }
+    ensures { λ _. ⌜ now (states .exit) ≡ take (sum (take n (now (words .entry)))) (now (scratch .entry))
+        ++ drop (sum (take n (now (words .entry)))) (now (states .entry)) ⌝ }
 {
     let mut at: usize = 0; // where precinct i's words begin
     let mut wait: usize = 0; // words from here to `at` are not settled yet
     let mut i: usize = 0;
     while i < n {
-        let size = sizes[i];
-        if size.passes == 0 {
+        let size = words[i];
+        if passes[i] == 0 {
             settle_layer(scratch, states, wait, at);
-            wait = at + size.words;
+            wait = at + size;
         }
-        at += size.words;
+        at += size;
         i += 1;
     }
     lists::copy(&scratch[wait..at], &mut states[wait..at]);

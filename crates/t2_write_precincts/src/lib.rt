@@ -4,7 +4,6 @@ ghost use Prim.Native.Nat.{_≤_};
 ghost use lib.ListN.{length};
 ghost use Rattle.t800.specs.WriteHeader.{contribution};
 ghost use Rattle.t2_write_precincts.specs.Layer.{LayerWritten};
-use t2_settle_states::Size;
 use t800::LayerAnswer;
 use t800::Markers;
 
@@ -41,10 +40,8 @@ pub fn write_precincts(
     }) r (now (states .exit)) (now (scratch .exit)) (now (output .exit)) ⌝ }
 {
     let last = numbers.len() - 1;
-    let mut sizes: [Size; 16] = [Size {
-        words: 0,
-        passes: 0,
-    }; 16];
+    let mut words: [usize; 16] = [0; 16];
+    let mut passes: [usize; 16] = [0; 16];
     let mut word: usize = 0;
     let mut block: usize = 0;
     let mut pass: usize = 0;
@@ -66,10 +63,8 @@ pub fn write_precincts(
         if front.refusal != 0 {
             return refused(front.refusal, i);
         }
-        sizes[i] = Size {
-            words: front.words,
-            passes: front.passes,
-        };
+        words[i] = front.words;
+        passes[i] = front.passes;
         word += front.words;
         block += front.blocks;
         pass += front.passes;
@@ -91,7 +86,7 @@ pub fn write_precincts(
     if a.refusal != 0 {
         return refused(a.refusal, last);
     }
-    t2_settle_states::settle_states(scratch, states, sizes, last);
+    t2_settle_states::settle_states(scratch, states, &words, &passes, last);
     LayerAnswer {
         refusal: 0,
         place: 0,

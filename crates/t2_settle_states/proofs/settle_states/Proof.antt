@@ -6,119 +6,126 @@ use mathlib.Core.Logic.{⊎-elim}
 use mathlib.Core.Path.{_∙_, _≡_, ap, refl, subst, sym}
 use native.Mathlib.Omega.{arith}
 use Prim.Native.Nat.{_+_, _-_, _≤_, ℕ}
-use Rattle.t2_settle_states.specs.declared.Size.{Size}
-use Rattle.t2_settle_states.specs.Settle.{wordsOf, Settles}
-use Rattle.t2_settle_states.proofs.Laws.{noSize, next-size, no-more-words, words-turn, settledTo, length-settled, waiting-copied}
+use Rattle.t800.specs.Base.{sum}
+use Rattle.t2_settle_states.specs.Settle.{Settles}
+use Rattle.t2_settle_states.proofs.Laws.{next-one, no-more, sum-turn, settledTo, length-settled, waiting-copied}
 use Rattle.t2_settle_states.proofs.Laws.{settle-layer-settles, settles-behind}
 use Rattle.t2_settle_states.proofs.settle_states.Statement.{statement}
 use Rattle.t2_settle_states.proofs.settle_states.Tie as tie
 
 abbrev Inv-loop : tie.InvT-loop
-Inv-loop scratch states₀ n sizes at₀ wait₀ i₀ states at wait i = (i ≤ n) × (wait ≤ at) × (at ≤ length scratch)
-    × (at + wordsOf (drop i (take n sizes)) ≡ wordsOf (take n sizes))
+Inv-loop scratch states₀ words passes n at₀ wait₀ i₀ states at wait i = (i ≤ n) × (wait ≤ at) × (at ≤ length scratch)
+    × (at + sum (drop i (take n words)) ≡ sum (take n words))
     × (states ≡ settledTo wait scratch states₀)
-    × Settles (drop i (take n sizes)) (drop at scratch) (drop at states₀)
+    × Settles (drop i (take n words)) (drop i (take n passes)) (drop at scratch) (drop at states₀)
 
 abbrev μ-loop : tie.MeasureT-loop
-μ-loop scratch states₀ n sizes at₀ wait₀ i₀ states at wait i = n - i
+μ-loop scratch states₀ words passes n at₀ wait₀ i₀ states at wait i = n - i
 
 loop-holds : tie.Need-loop-holds Inv-loop μ-loop
-loop-holds c = (omega arith, omega arith, omega arith, omega arith, refl, c .before .before .pre .2)
+loop-holds c = (omega arith, omega arith, omega arith, omega arith, refl, c .before .before .before .before .pre .3)
 
-as-long : (c : tie.At-loop Inv-loop μ-loop) → length (c .loop .states) ≡ length (c .before .before .before .args .states .now)
+as-long : (c : tie.At-loop Inv-loop μ-loop) → length (c .loop .states) ≡ length (c .before .before .before .before .before .args .states
+    .now)
 as-long c =
-    let s = c .before .before .before in
-    ap length (c .loop .inv .4) ∙ length-settled (s .args .scratch .now) (s .args .states .now) (s .pre .1) (c .loop .wait)
+    let s = c .before .before .before .before .before in
+    ap length (c .loop .inv .4) ∙ length-settled (s .args .scratch .now) (s .args .states .now) (s .pre .2) (c .loop .wait)
 
 -- ---- precinct i
 
-abbrev sizeOf : tie.In-loop Inv-loop μ-loop → Size
-sizeOf c = getD (c .before .before .before .before .args .t3) (c .before .loop .i) noSize
+abbrev wordsOf : tie.In-loop Inv-loop μ-loop → ℕ
+wordsOf c = getD (c .before .before .before .before .before .before .args .words .now) (c .before .loop .i) 0
 
 can-be-settled : (c : tie.In-loop Inv-loop μ-loop) →
-    let a = c .before .before .before .before .args in
+    let a = c .before .before .before .before .before .before .args in
     let l = c .before .loop in
-    Settles (sizeOf c ∷ drop (l .i + 1) (take (a .n) (a .t3))) (drop (l .at) (a .scratch .now)) (drop (l .at) (a .states .now))
+    Settles (wordsOf c ∷ drop (l .i + 1) (take (a .n) (a .words .now)))
+    (getD (a .passes .now) (l .i) 0 ∷ drop (l .i + 1) (take (a .n) (a .passes .now))) (drop (l .at) (a .scratch .now))
+    (drop (l .at) (a .states .now))
 can-be-settled c =
-    let s = c .before .before .before .before in
+    let s = c .before .before .before .before .before .before in
+    let a = s .args in
     let l = c .before .loop in
-    let g : length (s .args .t3) ≡ 16 = search needs in
-    subst (λ (zs : List Size). Settles zs (drop (l .at) (s .args .scratch .now)) (drop (l .at) (s .args .states .now)))
-    (next-size (s .args .t3) (s .args .n) (l .i) (omega (arith, g, s .pre .0)) (omega (arith, c .loop-test .taken)))
-    (l .inv .5)
+    subst (λ (ps : List ℕ). Settles (wordsOf c ∷ drop (l .i + 1) (take (a .n) (a .words .now))) ps (drop (l .at) (a .scratch .now))
+    (drop (l .at) (a .states .now)))
+    (next-one (a .passes .now) (a .n) (l .i) (s .pre .1) (omega (arith, c .loop-test .taken)))
+    (subst (λ (ws : List ℕ). Settles ws (drop (l .i) (take (a .n) (a .passes .now))) (drop (l .at) (a .scratch .now))
+    (drop (l .at) (a .states .now)))
+    (next-one (a .words .now) (a .n) (l .i) (s .pre .0) (omega (arith, c .loop-test .taken)))
+    (l .inv .5))
 
-words-there : (c : tie.In-loop Inv-loop μ-loop) → c .before .loop .at + sizeOf c .words
-    ≤ length (c .before .before .before .before .args .states .now)
+words-there : (c : tie.In-loop Inv-loop μ-loop) → c .before .loop .at + wordsOf c ≤ length (c .before .before .before .before .before
+    .before .args .states .now)
 words-there c =
-    let s = c .before .before .before .before in
+    let s = c .before .before .before .before .before .before in
     let l = c .before .loop in
     omega (
       arith,
       can-be-settled c .1,
       length-drop (l .at) (s .args .states .now),
       l .inv .2,
-      s .pre .1,
+      s .pre .2,
     )
 
 settle-layer-requires : tie.Need-settle-layer-requires Inv-loop μ-loop
 settle-layer-requires c κs =
-    let s = c .before .before .before .before .before .before .before .before in
+    let s = c .before .before .before .before .before .before .before .before .before .before in
     let l = c .before .before .before .before .before .loop in
     let t = c .before .before .before .before in
     let e = as-long (t .before) in (
       omega (arith, l .inv .1),
       omega (arith, e, can-be-settled t .0, words-there t),
-      s .pre .1 ∙ sym e,
+      s .pre .2 ∙ sym e,
     )
 
 add-wait : tie.Need-add-wait Inv-loop μ-loop
 add-wait c =
-    let s = c .before .before .before .before .before .before .before .before .before .before .before .before in
-    omega (arith, words-there (c .before .before .before .before .before .before .before .before), s .good .1 .0)
+    let s = c .before .before .before .before .before .before .before .before .before .before .before .before .before in
+    omega (arith, words-there (c .before .before .before .before .before .before .before), s .good .1 .0)
 
 add-at : tie.Need-add-at Inv-loop μ-loop
 add-at c =
-    let s = c .before .before .before .before .before .before .before .before in
-    omega (arith, words-there (c .before .before .before .before), s .good .1 .0)
+    let s = c .before .before .before .before .before .before .before .before .before in
+    omega (arith, words-there (c .before .before .before), s .good .1 .0)
 
-wait-after : (c : tie.Joined1 Inv-loop μ-loop) → c .if1 .wait
-    ≤ c .before .before .before .before .loop .at + sizeOf (c .before .before .before) .words
+wait-after : (c : tie.Joined1 Inv-loop μ-loop) → c .if1 .wait ≤ c .before .before .before .before .loop .at + wordsOf (c .before .before
+    .before)
 wait-after c =
     let l = c .before .before .before .before .loop in
-    ⊎-elim (λ w. omega (arith, w .7)) (λ w. omega (arith, w .2, l .inv .1)) (c .if1 .came)
+    ⊎-elim (λ w. omega (arith, w .6)) (λ w. omega (arith, w .2, l .inv .1)) (c .if1 .came)
 
 states-after : (c : tie.Joined1 Inv-loop μ-loop) → c .if1 .states
-    ≡ settledTo (c .if1 .wait) (c .before .before .before .before .before .before .before .args .scratch .now)
-    (c .before .before .before .before .before .before .before .args .states .now)
+    ≡ settledTo (c .if1 .wait) (c .before .before .before .before .before .before .before .before .before .args .scratch .now) (c .before
+    .before .before .before .before .before .before .before .before .args .states .now)
 states-after c =
-    let s = c .before .before .before .before .before .before .before in
+    let s = c .before .before .before .before .before .before .before .before .before in
     let l = c .before .before .before .before .loop in
     let z = can-be-settled (c .before .before .before) in
     ⊎-elim
-    (λ w. w .6 ∙ w .2 .ensures
-    ∙ settle-layer-settles (s .args .scratch .now) (s .args .states .now) (s .pre .1) (l .states) (l .wait) (l .at)
-    (sizeOf (c .before .before .before) .words) (l .inv .4) (l .inv .1) (z .0) (z .1) (z .2 (w .0 .taken))
-    ∙ ap (λ (n : ℕ). settledTo n (s .args .scratch .now) (s .args .states .now)) (sym (w .7)))
+    (λ w. w .5 ∙ w .2 .ensures
+    ∙ settle-layer-settles (s .args .scratch .now) (s .args .states .now) (s .pre .2) (l .states) (l .wait) (l .at)
+    (wordsOf (c .before .before .before)) (l .inv .4) (l .inv .1) (z .0) (z .1) (z .2 (w .0 .taken))
+    ∙ ap (λ (n : ℕ). settledTo n (s .args .scratch .now) (s .args .states .now)) (sym (w .6)))
     (λ w. w .1 ∙ l .inv .4 ∙ ap (λ (n : ℕ). settledTo n (s .args .scratch .now) (s .args .states .now)) (sym (w .2)))
     (c .if1 .came)
 
 loop-again : tie.Need-loop-again Inv-loop μ-loop
 loop-again c =
-    let s = c .before .before .before .before .before .before .before .before in
-    let l = c .before .before .before .before .before .loop in
-    let t = c .before .before .before .before in
-    let g : length (s .args .t3) ≡ 16 = search needs in (
+    let s = c .before .before .before .before .before .before .before .before .before in
+    let a = s .args in
+    let l = c .before .before .before .before .loop in
+    let t = c .before .before .before in (
       omega (arith, t .loop-test .taken),
-      wait-after (c .before),
-      omega (arith, words-there t, s .pre .1),
+      wait-after c,
+      omega (arith, words-there t, s .pre .2),
       omega (
         arith,
-        words-turn (s .args .t3) (s .args .n) (l .i) (omega (arith, g, s .pre .0)) (omega (arith, t .loop-test .taken)),
+        sum-turn (a .words .now) (a .n) (l .i) (s .pre .0) (omega (arith, t .loop-test .taken)),
         l .inv .3,
       ),
-      states-after (c .before),
-      settles-behind (drop (l .i + 1) (take (s .args .n) (s .args .t3))) (s .args .scratch .now) (s .args .states .now) (l .at)
-          (sizeOf t .words) (can-be-settled t .3),
+      states-after c,
+      settles-behind (drop (l .i + 1) (take (a .n) (a .words .now))) (drop (l .i + 1) (take (a .n) (a .passes .now))) (a .scratch .now)
+          (a .states .now) (l .at) (wordsOf t) (can-be-settled t .3),
     )
 
 -- ---- the words that wait at last
@@ -126,16 +133,16 @@ loop-again c =
 part-copy-end-2 : tie.Need-part-copy-end-2 Inv-loop μ-loop
 part-copy-end-2 c =
     let l = c .before .before .loop in
-    omega (arith, as-long (c .before .before), l .inv .2, c .before .before .before .before .before .pre .1)
+    omega (arith, as-long (c .before .before), l .inv .2, c .before .before .before .before .before .before .before .pre .2)
 
 copy-requires : tie.Need-copy-requires Inv-loop μ-loop
 copy-requires c κs =
-    let s = c .before .before .before .before .before .before in
+    let s = c .before .before .before .before .before .before .before .before in
     let l = c .before .before .before .loop in
     omega (
       arith,
       as-long (c .before .before .before),
-      s .pre .1,
+      s .pre .2,
       length-take (l .at - l .wait) (drop (l .wait) (s .args .scratch .now)),
       length-take (l .at - l .wait) (drop (l .wait) (l .states)),
       length-drop (l .wait) (s .args .scratch .now),
@@ -143,32 +150,36 @@ copy-requires c κs =
     )
 
 last-copied : (c : tie.After-copy Inv-loop μ-loop) →
-    let a = c .before .before .before .before .before .before .before .args in
+    let a = c .before .before .before .before .before .before .before .before .before .args in
     let l = c .before .before .before .before .loop in
     take (l .wait) (l .states) ++ (c .copy .last .1 .0 ++ drop (l .at - l .wait) (drop (l .wait) (l .states)))
     ≡ settledTo (l .at) (a .scratch .now) (a .states .now)
 last-copied c =
-    let s = c .before .before .before .before .before .before .before in
+    let s = c .before .before .before .before .before .before .before .before .before in
     let l = c .before .before .before .before .loop in
-    waiting-copied (s .args .scratch .now) (s .args .states .now) (s .pre .1) (l .states) (c .copy .last .1 .0) (l .wait) (l .at)
-    (l .inv .4) (l .inv .1) (omega (arith, l .inv .2, s .pre .1)) (c .copy .ensures)
+    waiting-copied (s .args .scratch .now) (s .args .states .now) (s .pre .2) (l .states) (c .copy .last .1 .0) (l .wait) (l .at)
+    (l .inv .4) (l .inv .1) (omega (arith, l .inv .2, s .pre .2)) (c .copy .ensures)
 
 same-length : tie.Need-same-length Inv-loop μ-loop
 same-length c =
-    let s = c .before .before .before .before .before .before .before .before .before in
+    let s = c .before .before .before .before .before .before .before .before .before .before .before in
     let l = c .before .before .before .before .before .before .loop in
     ap length (last-copied (c .before .before))
-    ∙ length-settled (s .args .scratch .now) (s .args .states .now) (s .pre .1) (l .at)
+    ∙ length-settled (s .args .scratch .now) (s .args .states .now) (s .pre .2) (l .at)
 
 returns : tie.Need-returns Inv-loop μ-loop
 returns c =
-    let s = c .before .before .before .before .before .before .before .before .before in
+    let s = c .before .before .before .before .before .before .before .before .before .before .before in
     let l = c .before .before .before .before .before .before .loop in
-    let e : l .at ≡ wordsOf (take (s .args .n) (s .args .t3)) =
+    let e : l .at ≡ sum (take (s .args .n) (s .args .words .now)) =
     omega (
       arith,
       l .inv .3,
-      no-more-words (s .args .t3) (s .args .n) (l .i) (omega (arith, c .before .before .before .before .before .loop-test .left)),
+      no-more (s .args .words .now) (s .args .n) (l .i) (omega (
+        arith,
+        c .before .before .before .before .before
+            .loop-test .left,
+      )),
     ) in
     last-copied (c .before .before) ∙ ap (λ (n : ℕ). settledTo n (s .args .scratch .now) (s .args .states .now)) e
 
@@ -179,6 +190,8 @@ settle-states-spec =
     Inv-loop
     μ-loop
     loop-holds
+    (λ c. search needs)
+    (λ c. search needs)
     (λ c. search needs)
     (λ c. search needs)
     settle-layer-requires

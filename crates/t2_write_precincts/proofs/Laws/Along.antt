@@ -13,13 +13,12 @@ use Rattle.t800.specs.Layer.{Rest, LayerCall, inFront, behind, Single, single, 
 use Rattle.t800.specs.Layer.{noneOfIt, writeLayer}
 use Rattle.whole_layer.specs.SingleCalls.{AllAccepted, LooksAtEach, refusedAt}
 use Rattle.whole_layer.proofs.Refusals.{refused-here}
-use Rattle.t2_settle_states.specs.declared.Size.{Size}
 use Rattle.t2_layer_parts.specs.declared.Front.{Front}
 use Rattle.t2_layer_parts.specs.Front.{rest, WrittenInFront}
 use Rattle.t2_write_precincts.proofs.Laws.Lists.{one-more, without-it, place-is, as-parts, joined}
 use Rattle.t2_write_precincts.proofs.Laws.Front.{accepted, words-asked, blocks-asked, passes-asked, bytes-asked, states-there}
 use Rattle.t2_write_precincts.proofs.Laws.Front.{counts-there, lengths-there, marks-there, bodies-there, end-is, output-then}
-use Rattle.t2_write_precincts.proofs.Laws.Front.{room-there, state-cut, scratch-length, sizeOf, size-is}
+use Rattle.t2_write_precincts.proofs.Laws.Front.{room-there, state-cut, scratch-length, wordsOf, words-are, passesOf, passes-are}
 
 pub accepted-one-more : (ss : List Single) (s : Single) → AllAccepted ss → wrote s .answer .refusal ≡ 0 → AllAccepted (ss ++ (s ∷ []))
 accepted-one-more [] s h e = (e, tt)
@@ -37,15 +36,17 @@ module _ (states : List ℕ) (c : LayerCall) where
       (contribution (drop block (p .counts)) (drop pass (p .lengths)) (drop pass (p .marks))) (drop byte (c .bodies)) (drop end output)
 
   -- i precincts are written, and none of them is refused
-  pub record Along (i word block pass byte end : ℕ) (scratch output : List ℕ) (sizes : List Size) : Type 0 where
+  pub record Along (i word block pass byte end : ℕ) (scratch output words passes : List ℕ) : Type 0 where
     pub here : drop i ss ≡ singles (c .markers) (drop i (c .numbers)) (left word block pass byte end scratch output)
     pub none-refused : AllAccepted (take i ss)
     pub states-are : take word states ≡ flatMap (λ s. s .state) (take i ss)
     pub scratch-is : take word scratch ≡ flatMap (λ s. wrote s .scratch) (take i ss)
     pub output-is : take end output ≡ packets (take i ss)
     pub output-behind : drop end output ≡ drop end (c .output)
-    pub sizes-are : take i sizes ≡ map sizeOf (take i ss)
-    pub sixteen : length sizes ≡ 16
+    pub words-of-each : take i words ≡ map wordsOf (take i ss)
+    pub passes-of-each : take i passes ≡ map passesOf (take i ss)
+    pub sixteen-words : length words ≡ 16
+    pub sixteen-passes : length passes ≡ 16
     pub as-long : length scratch ≡ length states
     pub output-as-long : length output ≡ length (c .output)
     pub words-in : word ≤ length states
@@ -55,18 +56,20 @@ module _ (states : List ℕ) (c : LayerCall) where
     pub bodies-in : byte ≤ length (c .bodies)
     pub output-in : end ≤ length (c .output)
 
-  pub begins : length (c .scratch) ≡ length states → (sizes : List Size) → length sizes ≡ 16
-      → Along 0 0 0 0 0 0 (c .scratch) (c .output) sizes
+  pub begins : length (c .scratch) ≡ length states → (words passes : List ℕ) → length words ≡ 16 → length passes ≡ 16
+      → Along 0 0 0 0 0 0 (c .scratch) (c .output) words passes
   unfolding flatMap
-  begins e sizes l = record {
+  begins e words passes w p = record {
     here = refl;
     none-refused = tt;
     states-are = refl;
     scratch-is = refl;
     output-is = refl;
     output-behind = refl;
-    sizes-are = refl;
-    sixteen = l;
+    words-of-each = refl;
+    passes-of-each = refl;
+    sixteen-words = w;
+    sixteen-passes = p;
     as-long = e;
     output-as-long = refl;
     words-in = omega arith;
@@ -79,8 +82,8 @@ module _ (states : List ℕ) (c : LayerCall) where
 
   -- ---- the parts that are written
 
-  module _ {i word block pass byte end : ℕ} {scratch output : List ℕ} {sizes : List Size}
-      (a : Along i word block pass byte end scratch output sizes) where
+  module _ {i word block pass byte end : ℕ} {scratch output words passes : List ℕ}
+      (a : Along i word block pass byte end scratch output words passes) where
     pub states-front : length (take word states) ≡ word
     states-front = length-take-le word states (a .words-in)
 
@@ -92,8 +95,8 @@ module _ (states : List ℕ) (c : LayerCall) where
 
   -- ---- a precinct with others behind it
 
-  module _ (i word block pass byte end : ℕ) (scratch output : List ℕ) (sizes : List Size)
-      (a : Along i word block pass byte end scratch output sizes) (h : i + 1 < length (c .numbers))
+  module _ (i word block pass byte end : ℕ) (scratch output words passes : List ℕ)
+      (a : Along i word block pass byte end scratch output words passes) (h : i + 1 < length (c .numbers))
       (few : length (c .numbers) ≤ 16) (f : Front) (vs os : List ℕ)
       (w : WrittenInFront (left word block pass byte end scratch output) (c .markers) (getD (c .numbers) i 0) f vs os) where
     abbrev number : ℕ
@@ -195,8 +198,18 @@ module _ (states : List ℕ) (c : LayerCall) where
       one : take (i + 1) ss ≡ take i ss ++ (first ∷ [])
       one = one-more ss i first others first-here
 
+      -- a list that has a number of each precinct, with one more
+      one-more-of : (of : Single → ℕ) (ns : List ℕ) → length ns ≡ 16 → take i ns ≡ map of (take i ss) → (n : ℕ) → n ≡ of first
+          → take (i + 1) (set ns i n) ≡ map of (take (i + 1) ss)
+      one-more-of of ns sixteen before n is =
+          ap (λ (k : ℕ). take k (set ns i n)) (add-one i)
+          ∙ take-suc-set ns i n (omega (arith, sixteen, h, few))
+          ∙ ap₂ (λ (xs : List ℕ) (x : ℕ). xs ++ (x ∷ [])) before is
+          ∙ sym (map-append of (take i ss) (first ∷ []))
+          ∙ ap (map of) (sym one)
+
       pub goes-on : Along (i + 1) (word + f .words) (block + f .blocks) (pass + f .passes) (byte + f .bytes) (end + f .end) scratch-then
-          output-now (set sizes i (record { words = f .words; passes = f .passes }))
+          output-now (set words i (f .words)) (set passes i (f .passes))
       goes-on = record {
         here = without-it ss i first others first-here
             ∙ ap (singles m (drop (i + 1) (c .numbers))) (sym left-then);
@@ -217,12 +230,11 @@ module _ (states : List ℕ) (c : LayerCall) where
             ∙ ap (λ (n : ℕ). drop n (drop end output)) (sym (end-is l m number f vs os w z))
             ∙ ap (drop (f .end)) (a .output-behind)
             ∙ drop-drop (f .end) end (c .output);
-        sizes-are = ap (λ (n : ℕ). take n (set sizes i (record { words = f .words; passes = f .passes }))) (add-one i)
-            ∙ take-suc-set sizes i (record { words = f .words; passes = f .passes }) (omega (arith, a .sixteen, h, few))
-            ∙ ap₂ (λ (zs : List Size) (z : Size). zs ++ (z ∷ [])) (a .sizes-are) (size-is l m number f vs os w z)
-            ∙ sym (map-append sizeOf (take i ss) (first ∷ []))
-            ∙ ap (map sizeOf) (sym one);
-        sixteen = length-set sizes i _ ∙ a .sixteen;
+        words-of-each = one-more-of wordsOf words (a .sixteen-words) (a .words-of-each) (f .words) (words-are l m number f vs os w z);
+        passes-of-each = one-more-of passesOf passes (a .sixteen-passes) (a .passes-of-each) (f .passes)
+            (passes-are l m number f vs os w z);
+        sixteen-words = length-set words i _ ∙ a .sixteen-words;
+        sixteen-passes = length-set passes i _ ∙ a .sixteen-passes;
         as-long = omega (
           arith,
           length-append (take word scratch) vs,

@@ -17,7 +17,6 @@ use Rattle.t800_laws.proofs.Laws.Contributes.{absent-header, contributes-by-sum
 use Rattle.tcd_laws.proofs.Laws.FirstWords.{bands-in-front}
 use Rattle.whole_layer.proofs.Cuts.{Fits, fits, state-kept}
 use Rattle.whole_layer.proofs.SingleCalls.{bytes-are, output-is}
-use Rattle.t2_settle_states.specs.declared.Size.{Size}
 use Rattle.t2_layer_parts.specs.declared.Front.{Front}
 use Rattle.t2_layer_parts.specs.Front.{WrittenInFront}
 use Rattle.t2_layer_parts.proofs.Laws.Front.{thirteen-asked}
@@ -37,8 +36,11 @@ layer-alone s e z =
     (absent-header (s .call .contribution) (s .state)
     (contributes-by-sum (s .call .contribution) ∙ le-ltb 0 (sum (s .call .contribution .counts)) (omega (arith, z, k .lengths))))
 
-abbrev pub sizeOf : Single → Size
-sizeOf s = record { words = length (s .state); passes = length (s .call .contribution .lengths) }
+abbrev pub wordsOf : Single → ℕ
+wordsOf s = length (s .state)
+
+abbrev pub passesOf : Single → ℕ
+passesOf s = length (s .call .contribution .lengths)
 
 module _ (l : Rest) (m : Markers) (number : ℕ) (f : Front) (vs os : List ℕ) (w : WrittenInFront l m number f vs os)
     (z : f .refusal ≡ 0) where
@@ -130,13 +132,13 @@ module _ (l : Rest) (m : Markers) (number : ℕ) (f : Front) (vs os : List ℕ) 
   unfolding inFront
   state-cut = ap (λ (n : ℕ). take n (l .states)) words-asked
 
-  pub size-is : record { words = f .words; passes = f .passes } ≡ sizeOf first
+  pub words-are : f .words ≡ wordsOf first
   unfolding inFront asks
-  size-is =
-      let words : f .words ≡ length (first .state) =
-      omega (arith, words-asked, states-there, length-take (asks l .words) (l .states)) in
-      let passes : f .passes ≡ length (first .call .contribution .lengths) = omega (arith, passes-asked, fit .lengths) in
-      λ i. record { words = words i; passes = passes i }
+  words-are = omega (arith, words-asked, states-there, length-take (asks l .words) (l .states))
+
+  pub passes-are : f .passes ≡ passesOf first
+  unfolding inFront asks
+  passes-are = omega (arith, passes-asked, fit .lengths)
 
   pub scratch-length : length (wrote first .scratch) ≡ f .words
-  scratch-length = ap length (sym (left-same first accepted)) ∙ state-kept first fit ∙ sym (ap (λ (z : Size). z .words) size-is)
+  scratch-length = ap length (sym (left-same first accepted)) ∙ state-kept first fit ∙ sym words-are

@@ -8,7 +8,7 @@ use native.Mathlib.Omega.{arith}
 use lib.ListN.{length, getD, set, take, drop, length-drop, length-append, take-append-drop, drop-of-length-le}
 use lib.Seq.{drop-cons, drop-drop, take-at, drop-at}
 use Rattle.t800.specs.declared.WriteAnswer.{WriteAnswer}
-use Rattle.t800.specs.Base.{overwrite}
+use Rattle.t800.specs.Base.{sum, overwrite}
 use Rattle.t800.specs.State.{layer}
 use Rattle.t800.specs.Packet.{WriteResult, write}
 use Rattle.t800.specs.Layer.{Rest, LayerCall, Single, single, wrote, packetOf, singles, packets, singlesOf, noneOfIt, writeLayer}
@@ -17,10 +17,9 @@ use Rattle.whole_layer.specs.SingleCalls.{AllAccepted, LooksAtEach, refusedAt}
 use Rattle.whole_layer.proofs.Refusals.{refused-here, accepted-here}
 use Rattle.whole_layer.proofs.Cuts.{fits, thirteen, state-kept}
 use Rattle.whole_layer.proofs.SingleCalls.{bytes-are, output-is}
-use Rattle.t2_settle_states.specs.declared.Size.{Size}
-use Rattle.t2_settle_states.specs.Settle.{wordsOf, Settles}
+use Rattle.t2_settle_states.specs.Settle.{Settles}
 use Rattle.t2_write_precincts.proofs.Laws.Lists.{place-is, as-parts, joined}
-use Rattle.t2_write_precincts.proofs.Laws.Front.{left-same, layer-alone, sizeOf}
+use Rattle.t2_write_precincts.proofs.Laws.Front.{left-same, layer-alone, wordsOf, passesOf}
 use Rattle.t2_write_precincts.proofs.Laws.Along.{accepted-one-more, left, Along, states-front, scratch-front, output-front}
 
 -- ---- accepted calls, one after another
@@ -33,14 +32,14 @@ all-same (t ∷ ts) h = ap₂ (λ (xs ys : List ℕ). xs ++ ys) (left-same t (h 
 scratch-as-state : (t : Single) → wrote t .answer .refusal ≡ 0 → length (wrote t .scratch) ≡ length (t .state)
 scratch-as-state t e = ap length (sym (left-same t e)) ∙ state-kept t (fits t e)
 
-words-of-all : (ts : List Single) → wordsOf (map sizeOf ts) ≡ length (flatMap (λ s. s .state) ts)
-unfolding flatMap wordsOf
+words-of-all : (ts : List Single) → sum (map wordsOf ts) ≡ length (flatMap (λ s. s .state) ts)
+unfolding flatMap sum
 words-of-all [] = refl
 words-of-all (t ∷ ts) =
     ap (λ (n : ℕ). length (t .state) + n) (words-of-all ts) ∙ sym (length-append (t .state) (flatMap (λ s. s .state) ts))
 
 settle-all : (ts : List Single) → AllAccepted ts → (xs ys : List ℕ)
-    → Settles (map sizeOf ts) (flatMap (λ s. wrote s .scratch) ts ++ xs) (flatMap (λ s. s .state) ts ++ ys)
+    → Settles (map wordsOf ts) (map passesOf ts) (flatMap (λ s. wrote s .scratch) ts ++ xs) (flatMap (λ s. s .state) ts ++ ys)
 unfolding flatMap
 settle-all [] h xs ys = tt
 settle-all (t ∷ ts) h xs ys =
@@ -55,16 +54,17 @@ settle-all (t ∷ ts) h xs ys =
       omega (arith, ap length v ∙ length-append (t .state) vs),
       λ z. ap (take n) u ∙ take-at after us n (scratch-as-state t (h .0)) ∙ layer-alone t (h .0) z
           ∙ ap (λ (ws : List ℕ). set ws 3 (layer ws + 1)) (sym front),
-      subst (λ (ws : List ℕ). Settles (map sizeOf ts) ws (drop n ((t .state ++ flatMap (λ s. s .state) ts) ++ ys)))
+      subst (λ (ws : List ℕ). Settles (map wordsOf ts) (map passesOf ts) ws (drop n ((t .state ++ flatMap (λ s. s .state) ts) ++ ys)))
           (sym (ap (drop n) u ∙ drop-at after us n (scratch-as-state t (h .0))))
-          (subst (λ (ws : List ℕ). Settles (map sizeOf ts) us ws) (sym (ap (drop n) v ∙ drop-at (t .state) vs n refl))
+          (subst (λ (ws : List ℕ). Settles (map wordsOf ts) (map passesOf ts) us ws) (sym (ap (drop n) v ∙ drop-at (t .state) vs n refl))
           (settle-all ts (h .1) xs ys)),
     )
 
 -- ---- the last one
 
-module _ (states : List ℕ) (c : LayerCall) (looks : LooksAtEach states c) (i word block pass byte end : ℕ) (scratch output : List ℕ)
-    (sizes : List Size) (a : Along states c i word block pass byte end scratch output sizes) (h : i + 1 ≡ length (c .numbers)) where
+module _ (states : List ℕ) (c : LayerCall) (looks : LooksAtEach states c) (i word block pass byte end : ℕ)
+    (scratch output words passes : List ℕ) (a : Along states c i word block pass byte end scratch output words passes)
+    (h : i + 1 ≡ length (c .numbers)) where
   abbrev ss : List Single
   ss = singlesOf states c
 
@@ -115,16 +115,19 @@ module _ (states : List ℕ) (c : LayerCall) (looks : LooksAtEach states c) (i w
       all : AllAccepted ss
       all = subst AllAccepted (sym parts) (accepted-one-more (take i ss) s (a .none-refused) ok)
 
-      pub settles : Settles (take i sizes) (take word scratch ++ us) (take word states ++ vs)
+      pub settles : Settles (take i words) (take i passes) (take word scratch ++ us) (take word states ++ vs)
       settles =
-          subst (λ (zs : List Size). Settles zs (take word scratch ++ us) (take word states ++ vs)) (sym (a .sizes-are))
-          (subst (λ (xs : List ℕ). Settles (map sizeOf (take i ss)) (xs ++ us) (take word states ++ vs)) (sym (a .scratch-is))
-          (subst (λ (xs : List ℕ). Settles (map sizeOf (take i ss)) (flatMap (λ t. wrote t .scratch) (take i ss) ++ us) (xs ++ vs))
-          (sym (a .states-are)) (settle-all (take i ss) (a .none-refused) us vs)))
+          let ts : List Single = take i ss in
+          subst (λ (ns : List ℕ). Settles ns (take i passes) (take word scratch ++ us) (take word states ++ vs)) (sym (a .words-of-each))
+          (subst (λ (ns : List ℕ). Settles (map wordsOf ts) ns (take word scratch ++ us) (take word states ++ vs))
+          (sym (a .passes-of-each))
+          (subst (λ (xs : List ℕ). Settles (map wordsOf ts) (map passesOf ts) (xs ++ us) (take word states ++ vs)) (sym (a .scratch-is))
+          (subst (λ (xs : List ℕ). Settles (map wordsOf ts) (map passesOf ts) (flatMap (λ t. wrote t .scratch) ts ++ us) (xs ++ vs))
+          (sym (a .states-are)) (settle-all ts (a .none-refused) us vs))))
 
-      words-are : wordsOf (take i sizes) ≡ word
+      words-are : sum (take i words) ≡ word
       words-are =
-          ap wordsOf (a .sizes-are) ∙ words-of-all (take i ss) ∙ ap length (sym (a .states-are)) ∙ states-front states c a
+          ap sum (a .words-of-each) ∙ words-of-all (take i ss) ∙ ap length (sym (a .states-are)) ∙ states-front states c a
 
       out : os ≡ packetOf s ++ drop (length (packetOf s)) (l .output)
       out = ap (λ (x : WriteResult). x .output) w ∙ output-is s ok
@@ -163,7 +166,7 @@ module _ (states : List ℕ) (c : LayerCall) (looks : LooksAtEach states c) (i w
           ∙ ap (λ (n : ℕ). drop n (c .output)) (ap (λ (n : ℕ). end + n) (sym bytes-of-last) ∙ bytes))
 
       pub all-written : (xs : List ℕ)
-          → xs ≡ take (wordsOf (take i sizes)) (take word scratch ++ us) ++ drop (wordsOf (take i sizes)) (take word states ++ vs)
+          → xs ≡ take (sum (take i words)) (take word scratch ++ us) ++ drop (sum (take i words)) (take word states ++ vs)
           → record {
             answer = record { refusal = 0; place = 0; bytes = end + r .bytes };
             states = xs;

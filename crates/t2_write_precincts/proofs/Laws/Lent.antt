@@ -7,12 +7,12 @@ use native.Mathlib.Omega.{arith}
 use lib.ListN.{length, getD, set, take, drop, length-drop}
 use Rattle.t800.specs.declared.LayerAnswer.{LayerAnswer}
 use Rattle.t800.specs.declared.WriteAnswer.{WriteAnswer}
+use Rattle.t800.specs.Base.{sum}
 use Rattle.t800.specs.WriteHeader.{contribution}
 use Rattle.t800.specs.Packet.{write}
 use Rattle.t800.specs.Layer.{Rest, LayerCall, LayerResult, noneOfIt, writeLayer}
 use Rattle.whole_layer.specs.SingleCalls.{LooksAtEach, refusedAt}
-use Rattle.t2_settle_states.specs.declared.Size.{Size}
-use Rattle.t2_settle_states.specs.Settle.{wordsOf, Settles}
+use Rattle.t2_settle_states.specs.Settle.{Settles}
 use Rattle.t2_layer_parts.specs.declared.Front.{Front}
 use Rattle.t2_layer_parts.specs.Front.{rest, WrittenInFront}
 use Rattle.t2_write_precincts.specs.Layer.{LayerWritten}
@@ -29,8 +29,8 @@ module _ {states : List ℕ} {c : LayerCall} where
     states-kept = λ z. x;
   }
 
-  module _ {i word block pass byte end : ℕ} {scratch output : List ℕ} {sizes : List Size}
-      (a : Along states c i word block pass byte end scratch output sizes) where
+  module _ {i word block pass byte end : ℕ} {scratch output words passes : List ℕ}
+      (a : Along states c i word block pass byte end scratch output words passes) where
     abbrev lent : Rest
     lent =
         let p = c .contribution in
@@ -73,18 +73,19 @@ module _ {states : List ℕ} {c : LayerCall} where
           → LayerWritten states c r states us ys
       front-refused k n r e us ys =
           refused-is (f .refusal) i r states us ys n e
-          (refused-on-the-way states c i word block pass byte end scratch output sizes a h few f vs os written k n) (λ j. states)
+          (refused-on-the-way states c i word block pass byte end scratch output words passes a h few f vs os written k n) (λ j. states)
 
       pub front-written : f .refusal ≡ 0 → length vs ≡ length (lent .scratch) → length os ≡ length (lent .output)
           → Along states c (i + 1) (word + f .words) (block + f .blocks) (pass + f .passes) (byte + f .bytes) (end + f .end)
-          (back word scratch vs) (back end output os) (set sizes i (record { words = f .words; passes = f .passes }))
+          (back word scratch vs) (back end output os) (set words i (f .words)) (set passes i (f .passes))
       front-written z lv lo =
-          let sized : List Size = set sizes i (record { words = f .words; passes = f .passes }) in
+          let ws : List ℕ = set words i (f .words) in
+          let ps : List ℕ = set passes i (f .passes) in
           subst (λ (xs : List ℕ). Along states c (i + 1) (word + f .words) (block + f .blocks) (pass + f .passes) (byte + f .bytes)
-          (end + f .end) xs (back end output os) sized) (sym (back-is word scratch vs))
+          (end + f .end) xs (back end output os) ws ps) (sym (back-is word scratch vs))
           (subst (λ (ys : List ℕ). Along states c (i + 1) (word + f .words) (block + f .blocks) (pass + f .passes) (byte + f .bytes)
-          (end + f .end) (take word scratch ++ vs) ys sized) (sym (back-is end output os))
-          (goes-on states c i word block pass byte end scratch output sizes a h few f vs os written z
+          (end + f .end) (take word scratch ++ vs) ys ws ps) (sym (back-is end output os))
+          (goes-on states c i word block pass byte end scratch output words passes a h few f vs os written z
           (lv ∙ ap length (from-is word scratch)) (lo ∙ ap length (from-is end output))))
 
     -- ---- the last one
@@ -106,30 +107,30 @@ module _ {states : List ℕ} {c : LayerCall} where
             → LayerWritten states c q (back word states vs) ws ys
         one-refused n q e ws ys =
             refused-is (r .refusal) i q (back word states vs) ws ys n e
-            (last-refused states c looks i word block pass byte end scratch output sizes a h r vs us os last-written n)
+            (last-refused states c looks i word block pass byte end scratch output words passes a h r vs us os last-written n)
             (back-is word states vs
-            ∙ last-leaves states c looks i word block pass byte end scratch output sizes a h r vs us os last-written n)
+            ∙ last-leaves states c looks i word block pass byte end scratch output words passes a h r vs us os last-written n)
 
         module _ (z : r .refusal ≡ 0) where
-          pub last-settles : Settles (take i sizes) (back word scratch us) (back word states vs)
+          pub last-settles : Settles (take i words) (take i passes) (back word scratch us) (back word states vs)
           last-settles =
-              subst (λ (xs : List ℕ). Settles (take i sizes) xs (back word states vs)) (sym (back-is word scratch us))
-              (subst (λ (xs : List ℕ). Settles (take i sizes) (take word scratch ++ us) xs) (sym (back-is word states vs))
-              (settles states c looks i word block pass byte end scratch output sizes a h r vs us os last-written z))
+              subst (λ (xs : List ℕ). Settles (take i words) (take i passes) xs (back word states vs)) (sym (back-is word scratch us))
+              (subst (λ (xs : List ℕ). Settles (take i words) (take i passes) (take word scratch ++ us) xs) (sym (back-is word states vs))
+              (settles states c looks i word block pass byte end scratch output words passes a h r vs us os last-written z))
 
           pub last-fits : length os ≡ length (lent .output) → end + r .bytes ≤ length (c .output)
           last-fits e =
-              all-fit states c looks i word block pass byte end scratch output sizes a h r vs us os last-written z
+              all-fit states c looks i word block pass byte end scratch output words passes a h r vs us os last-written z
               (e ∙ ap length (from-is end output))
 
           pub layer-written : (xs : List ℕ)
-              → xs ≡ take (wordsOf (take i sizes)) (back word scratch us) ++ drop (wordsOf (take i sizes)) (back word states vs)
+              → xs ≡ take (sum (take i words)) (back word scratch us) ++ drop (sum (take i words)) (back word states vs)
               → LayerWritten states c (record { refusal = 0; place = 0; bytes = end + r .bytes }) xs (back word scratch us) (back end
               output os)
           layer-written xs x =
-              let e = all-written states c looks i word block pass byte end scratch output sizes a h r vs us os last-written z xs
+              let e = all-written states c looks i word block pass byte end scratch output words passes a h r vs us os last-written z xs
               (x
-              ∙ ap₂ (λ (p q : List ℕ). take (wordsOf (take i sizes)) p ++ drop (wordsOf (take i sizes)) q) (back-is word scratch us)
+              ∙ ap₂ (λ (p q : List ℕ). take (sum (take i words)) p ++ drop (sum (take i words)) q) (back-is word scratch us)
               (back-is word states vs)) in
               record {
                 answer = ap (λ (q : LayerResult). q .answer) e;

@@ -1,7 +1,7 @@
 -- `t2_write_precincts::write_precincts` meets its contract.
 use mathlib.Core.Path.{_≡_, refl, sym, _∙_, subst}
 use mathlib.Core.List.{List}
-use Prim.Native.Nat.{ℕ, _+_, _-_, _≤_}
+use Prim.Native.Nat.{ℕ, _+_, _-_, _≤_, _<_}
 use native.Mathlib.Omega.{arith}
 use lib.ListN.{length, set}
 use borrow.Author.Needs.{needs}
@@ -27,14 +27,15 @@ call numbers scratch counts lengths marks bodies m output = record {
 }
 
 abbrev Inv-loop : tie.InvT-loop
-Inv-loop numbers states scratch₀ counts lengths marks bodies markers output₀ last sizes₀ word₀ block₀ pass₀ byte₀ end₀ i₀ scratch output
-    sizes word block pass byte end i =
+Inv-loop numbers states scratch₀ counts lengths marks bodies markers output₀ last words₀ passes₀ word₀ block₀ pass₀ byte₀ end₀ i₀ scratch
+    output words passes word block pass byte end i =
     (last + 1 ≡ length numbers) × (i ≤ last)
-    × Along states (call numbers scratch₀ counts lengths marks bodies markers output₀) i word block pass byte end scratch output sizes
+    × Along states (call numbers scratch₀ counts lengths marks bodies markers output₀) i word block pass byte end scratch output words
+    passes
 
 abbrev μ-loop : tie.MeasureT-loop
-μ-loop numbers states scratch₀ counts lengths marks bodies markers output₀ last sizes₀ word₀ block₀ pass₀ byte₀ end₀ i₀ scratch output
-    sizes word block pass byte end i = last - i
+μ-loop numbers states scratch₀ counts lengths marks bodies markers output₀ last words₀ passes₀ word₀ block₀ pass₀ byte₀ end₀ i₀ scratch
+    output words passes word block pass byte end i = last - i
 
 -- ---- the call
 
@@ -50,7 +51,7 @@ looks s = ((s .pre .0, s .pre .1), s .pre .2)
 loop-holds : tie.Need-loop-holds Inv-loop μ-loop
 loop-holds c =
     let s = c .before .before .before .before .before .before .before .before in
-    (omega (arith, s .pre .0), omega arith, begins (s .args .states .now) (called s) (s .pre .2) _ refl)
+    (omega (arith, s .pre .0), omega arith, begins (s .args .states .now) (called s) (s .pre .2) _ _ refl refl)
 
 -- ---- a precinct with others behind it
 
@@ -99,7 +100,7 @@ one-written : (c : tie.Else1 Inv-loop μ-loop) →
     Along (s .args .states .now) (called s) (o .i + 1) (o .word + f .words) (o .block + f .blocks) (o .pass + f .passes) (o .byte + f
     .bytes)
     (o .end + f .end) (back (o .word) (o .scratch) (k .last .1 .0)) (back (o .end) (o .output) (k .last .1 .1 .1 .1 .1 .1 .1 .1 .0))
-    (set (o .sizes) (o .i) (record { words = f .words; passes = f .passes }))
+    (set (o .words) (o .i) (f .words)) (set (o .passes) (o .i) (f .passes))
 one-written c =
     let s = c .before .before .before .before .before .before .before .before .before .before .before .before .before .before .before
     .before .before .before .before .before .before .before .before .before .before .before in
@@ -114,32 +115,37 @@ one-written c =
     )) (s .pre .1) (f .result) _ _ (f .ensures) (c .if1 .left) (f
     .kept .1 .0) (f .kept .1 .1 .1 .1 .1 .1 .1 .1 .0)
 
-mul-sizes : tie.Need-mul-sizes Inv-loop μ-loop
-mul-sizes c =
+-- it is one of 16
+among-sixteen : (c : tie.Else1 Inv-loop μ-loop) → c .before .before .before .before .before .before .before .before .before .before .before
+    .before .before .before
+    .before .before .before .loop .i < 16
+among-sixteen c =
     omega (
       arith,
       c .before .before .before .before .before .before .before .before .before .before .before .before .before .before
           .before .before .loop-test .taken,
-      c .before .before .before .before .before .before .before .before .before .before .before .before
-          .before .before .before .before .before .loop .inv .0,
-      c .before .before .before .before .before .before .before .before .before
-          .before .before .before .before .before .before .before .before .before .before .before .before .before .before .before .before
-          .before .pre .1,
+      c .before .before .before .before .before .before .before .before .before .before .before .before .before .before
+          .before .before .before .loop .inv .0,
+      c .before .before .before .before .before .before .before .before .before .before .before .before .before .before
+          .before .before .before .before .before .before .before .before .before .before .before .before .pre .1,
     )
 
-array-set-from-sizes : tie.Need-array-set-from-sizes Inv-loop μ-loop
-array-set-from-sizes c =
-    let o = c .before .before .before .before .before .before .before .before .before .before .before .before .before .before .before
-    .before .before .loop in
+array-write-words : tie.Need-array-write-words Inv-loop μ-loop
+array-write-words c =
     omega (
       arith,
+      among-sixteen c,
       c .before .before .before .before .before .before .before .before .before .before .before .before .before .before
-          .before .before .loop-test .taken,
-      o .inv .0,
-      c .before .before .before .before .before .before .before .before .before .before
-          .before .before .before .before .before .before .before .before .before .before .before .before .before .before .before .before .pre
-          .1,
-      o .inv .2 .sixteen,
+          .before .before .before .loop .inv .2 .sixteen-words,
+    )
+
+array-write-passes : tie.Need-array-write-passes Inv-loop μ-loop
+array-write-passes c =
+    omega (
+      arith,
+      among-sixteen c,
+      c .before .before .before .before .before .before .before .before .before .before .before .before .before .before
+          .before .before .before .loop .inv .2 .sixteen-passes,
     )
 
 add-word : tie.Need-add-word Inv-loop μ-loop
@@ -199,7 +205,8 @@ add-i c =
       c .before .before .before .before .before .before .before .before .before .before .before .before .before .before
           .before .before .before .before .before .before .before .loop-test .taken,
       c .before .before .before .before .before .before .before
-          .before .before .before .before .before .before .before .before .before .before .before .before .before .before .before .loop .inv .0,
+          .before .before .before .before .before .before .before .before .before .before .before .before .before .before .before .loop .inv
+          .0,
       c .before .before .before .before .before .before .before .before .before .before .before .before .before .before .before .before
           .before .before .before .before .before .before .before .before .before .before .before .before .before .before .before .pre .1,
     )
@@ -227,13 +234,13 @@ at-last : (c : tie.After-loop Inv-loop μ-loop) →
     let s = c .before .before .before .before .before .before .before .before .before .before in
     let o = c .before .loop in
     Along (s .args .states .now) (called s) (length (s .args .numbers .now) - 1) (o .word) (o .block) (o .pass) (o .byte) (o .end)
-    (o .scratch) (o .output) (o .sizes)
+    (o .scratch) (o .output) (o .words) (o .passes)
 at-last c =
     let s = c .before .before .before .before .before .before .before .before .before .before in
     let o = c .before .loop in
     let e : o .i ≡ length (s .args .numbers .now) - 1 = omega (arith, o .inv .1, c .loop-test .left) in
     subst (λ (j : ℕ). Along (s .args .states .now) (called s) j (o .word) (o .block) (o .pass) (o .byte) (o .end) (o .scratch) (o .output)
-    (o .sizes)) e (o .inv .2)
+    (o .words) (o .passes)) e (o .inv .2)
 
 same-length-4 : tie.Need-same-length-4 Inv-loop μ-loop
 same-length-4 c =
@@ -273,68 +280,75 @@ returns-2 c =
 settle-states-requires : tie.Need-settle-states-requires Inv-loop μ-loop
 settle-states-requires c κs =
     let s = c .before .before .before .before .before .before .before .before .before .before .before .before .before .before .before
-    .before .before .before .before .before .before .before .before .before .before .before .before .before .before in
+    .before .before .before .before .before .before .before .before .before .before .before .before .before .before .before
+    .before in
     let a = at-last (c .before .before .before .before .before .before .before .before .before .before .before .before .before .before
-    .before .before .before .before .before) in
-    let w = c .before .before .before .before .before .before .before .before .before .before .write in (
-      omega (arith, s .pre .1),
-      scratch-length a (w .last .1 .0) (w .kept .1 .0) ∙ a .as-long ∙ sym (states-length a (w .last .0) (w .kept
-          .0)),
-      last-settles a (looks s) (omega (arith, s .pre .0)) (w .result) _ _ _ (w .ensures) (c .before .before .if2 .left),
+    .before .before .before .before .before .before .before) in
+    let w = c .before .before .before .before .before .before .before .before .before .before .before .before .write in (
+      omega (arith, s .pre .1, a .sixteen-words),
+      omega (arith, s .pre .1, a .sixteen-passes),
+      scratch-length a (w .last .1 .0) (w .kept .1 .0) ∙ a .as-long ∙ sym (states-length a (w .last .0) (w .kept .0)),
+      last-settles a (looks s) (omega (arith, s .pre .0)) (w .result) _ _ _ (w .ensures)
+          (c .before .before .before .before .if2 .left),
     )
 
-add-t103 : tie.Need-add-t103 Inv-loop μ-loop
-add-t103 c =
+add-t107 : tie.Need-add-t107 Inv-loop μ-loop
+add-t107 c =
     let s = c .before .before .before .before .before .before .before .before .before .before .before .before .before .before .before
-    .before .before .before .before .before .before .before .before .before .before .before .before .before .before .before .before
-    .before .before in
+    .before .before .before .before .before .before .before .before .before .before .before .before .before .before .before .before .before
+    .before .before .before in
     let a = at-last (c .before .before .before .before .before .before .before .before .before .before .before .before .before .before
-    .before .before .before .before .before .before .before .before .before) in
-    let w = c .before .before .before .before .before .before .before .before .before .before .before .before .before .before .write in
+    .before .before .before .before .before .before .before .before .before .before .before) in
+    let w = c .before .before .before .before .before .before .before .before .before .before .before .before .before .before .before
+    .before .write in
     omega (
       arith,
-      last-fits a (looks s) (omega (arith, s .pre .0)) (w .result) _ _ _ (w .ensures) (c .before .before .before .before
+      last-fits a (looks s) (omega (arith, s .pre .0)) (w .result) _ _ _ (w .ensures) (c .before .before .before .before .before .before
           .before .before .if2 .left) (w .kept .1 .1 .1 .1 .1 .1 .1 .1 .0),
       s .good .1 .1 .1 .1 .1 .1 .1 .1 .0,
     )
 
 same-length-7 : tie.Need-same-length-7 Inv-loop μ-loop
 same-length-7 c =
-    let w = c .before .before .before .before .before .before .before .before .before .before .before .before .before .before .write in
-    c .before .before .before .settle-states .kept .1 .0 ∙ states-length (c .before .before .before .before .before .before .before
-    .before .before .before .before .before .before .before .before .before .before .before .before .before .before .before .before
+    let w = c .before .before .before .before .before .before .before .before .before .before .before .before .before .before .before
+    .before .write in
+    c .before .before .before .settle-states .kept .1 .0 ∙ states-length (c .before .before .before .before .before .before .before .before
+    .before .before .before .before .before .before .before .before .before .before .before .before .before .before .before .before .before
     .before .loop .inv .2) (w .last .0) (w .kept .0)
 
 same-length-8 : tie.Need-same-length-8 Inv-loop μ-loop
 same-length-8 c =
     let o = c .before .before .before .before .before .before .before .before .before .before .before .before .before .before .before
-    .before .before .before .before .before .before .before .before .before .loop in
-    let w = c .before .before .before .before .before .before .before .before .before .before .before .before .before .before .write in
+    .before .before .before .before .before .before .before .before .before .before .before .loop in
+    let w = c .before .before .before .before .before .before .before .before .before .before .before .before .before .before .before
+    .before .write in
     scratch-length (o .inv .2) (w .last .1 .0) (w .kept .1 .0) ∙ omega (
       arith,
       o .inv .2 .as-long,
-      c .before .before .before .before
+      c .before .before .before .before .before .before .before .before .before .before .before .before .before .before .before .before
           .before .before .before .before .before .before .before .before .before .before .before .before .before .before .before .before
-          .before .before .before .before .before .before .before .before .before .before .before .before .before .pre .2,
+          .before .before .before .pre .2,
     )
 
 same-length-9 : tie.Need-same-length-9 Inv-loop μ-loop
 same-length-9 c =
     let o = c .before .before .before .before .before .before .before .before .before .before .before .before .before .before .before
-    .before .before .before .before .before .before .before .before .before .loop in
-    let w = c .before .before .before .before .before .before .before .before .before .before .before .before .before .before .write in
+    .before .before .before .before .before .before .before .before .before .before .before .loop in
+    let w = c .before .before .before .before .before .before .before .before .before .before .before .before .before .before .before
+    .before .write in
     output-length (o .inv .2) (w .last .1 .1 .1 .1 .1 .1 .1 .1 .0) (w .kept .1 .1 .1 .1 .1 .1 .1 .1 .0) ∙ o .inv .2 .output-as-long
 
 returns-3 : tie.Need-returns-3 Inv-loop μ-loop
 returns-3 c =
     let s = c .before .before .before .before .before .before .before .before .before .before .before .before .before .before .before
-    .before .before .before .before .before .before .before .before .before .before .before .before .before .before .before .before
-    .before .before in
+    .before .before .before .before .before .before .before .before .before .before .before .before .before .before .before .before .before
+    .before .before .before in
     let a = at-last (c .before .before .before .before .before .before .before .before .before .before .before .before .before .before
-    .before .before .before .before .before .before .before .before .before) in
-    let w = c .before .before .before .before .before .before .before .before .before .before .before .before .before .before .write in
-    layer-written a (looks s) (omega (arith, s .pre .0)) (w .result) _ _ _ (w .ensures) (c .before .before .before .before .before .before
-    .if2 .left) _ (c .before .before .before .settle-states .ensures)
+    .before .before .before .before .before .before .before .before .before .before .before) in
+    let w = c .before .before .before .before .before .before .before .before .before .before .before .before .before .before .before
+    .before .write in
+    layer-written a (looks s) (omega (arith, s .pre .0)) (w .result) _ _ _ (w .ensures)
+    (c .before .before .before .before .before .before .before .before .if2 .left) _ (c .before .before .before .settle-states .ensures)
 
 pub write-precincts-spec : {M : Type 1} → statement M
 write-precincts-spec =
@@ -427,8 +441,10 @@ write-precincts-spec =
     same-length-2
     same-length-3
     returns
-    mul-sizes
-    array-set-from-sizes
+    (λ c. omega (arith, among-sixteen c))
+    array-write-words
+    (λ c. omega (arith, among-sixteen c))
+    array-write-passes
     add-word
     add-block
     add-pass
@@ -522,8 +538,10 @@ write-precincts-spec =
     same-length-5
     same-length-6
     returns-2
+    (λ c. search needs)
+    (λ c. search needs)
     settle-states-requires
-    add-t103
+    add-t107
     same-length-7
     same-length-8
     same-length-9
