@@ -44,8 +44,8 @@ extern "C" {
  *     write_layer, 3 to 11        zeros, whatever its length; with 3 for `answer` what it held before
  *     any other refusal           what it held before
  *
- * Linking. The archive has no names but those declared here, and needs memcpy and memset alone. It has no unwind tables (.eh_frame): a call
- * neither throws nor calls back, but a debugger or profiler cannot walk through its frames by them.
+ * Linking. The archive has no names but those declared here, and needs memset alone. It has no unwind tables (.eh_frame): a call neither
+ * throws nor calls back, but a debugger or profiler cannot walk through its frames by them.
  */
 
 /* Why a call was turned away. A refused call leaves every state as it was. */
