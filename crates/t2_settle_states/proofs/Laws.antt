@@ -3,13 +3,12 @@ use mathlib.Core.Path.{_≡_, refl, sym, ap, ap₂, _∙_, subst}
 use mathlib.Core.List.{List, [], _∷_, _++_, append-assoc}
 use Prim.Native.Nat.{ℕ, _+_, _-_, _≤_, _<_, min}
 use native.Mathlib.Nat.{suc-add, zero-add}
-use native.Mathlib.Numerals.{add-one}
 use native.Mathlib.Omega.{arith}
-use lib.ListN.{length, getD, set, take, drop, length-take, length-drop, take-append-drop, drop-of-length-le}
-use lib.Seq.{take-add, drop-drop, take-at, drop-at, drop-cons, getD-take, getD-drop, getD-set-same, length-take-le, length-front}
+use lib.ListN.{length, getD, set, take, drop, length-take, length-drop, take-append-drop}
+use lib.Seq.{take-add, drop-drop, take-at, drop-at, getD-take, getD-drop, getD-set-same, length-take-le, length-front}
 use lib.Seq.{set-append-left}
-use Rattle.t800.specs.Base.{sum}
 use Rattle.t800.specs.State.{layer}
+use Rattle.t800_laws.proofs.Laws.Lists.{next-entry}
 use Rattle.t2_settle_states.specs.Settle.{Settles, settleLayer}
 
 -- ---- one precinct more
@@ -17,17 +16,8 @@ use Rattle.t2_settle_states.specs.Settle.{Settles, settleLayer}
 -- element i of the first n
 pub next-one : (xs : List ℕ) (n i : ℕ) → n ≤ length xs → i < n → drop i (take n xs) ≡ getD xs i 0 ∷ drop (i + 1) (take n xs)
 next-one xs n i h k =
-    let l : i < length (take n xs) = simp length-take (omega arith) in
-    rw (add-one, drop-cons (take n xs) i 0 l, getD-take n xs i 0 k)
-
-pub no-more : (xs : List ℕ) (n i : ℕ) → n ≤ i → sum (drop i (take n xs)) ≡ 0
-unfolding sum
-no-more xs n i h = ap sum (drop-of-length-le (take n xs) {i = i} (simp length-take (omega arith)))
-
-pub sum-turn : (xs : List ℕ) (n i : ℕ) → n ≤ length xs → i < n
-    → sum (drop i (take n xs)) ≡ getD xs i 0 + sum (drop (i + 1) (take n xs))
-unfolding sum
-sum-turn xs n i h k = ap sum (next-one xs n i h k)
+    next-entry (take n xs) i (simp length-take (omega arith))
+    ∙ ap (λ (x : ℕ). x ∷ drop (i + 1) (take n xs)) (getD-take n xs i 0 k)
 
 -- ---- settled up to a place
 

@@ -1,14 +1,16 @@
 -- `t2_settle_states::settle_states` meets its contract.
 use borrow.Author.Needs.{needs}
 use lib.ListN.{drop, getD, length, length-drop, length-take, take}
+use lib.Seq.{getD-take}
 use mathlib.Core.List.{List, _∷_, _++_}
 use mathlib.Core.Logic.{⊎-elim}
 use mathlib.Core.Path.{_∙_, _≡_, ap, refl, subst, sym}
 use native.Mathlib.Omega.{arith}
 use Prim.Native.Nat.{_+_, _-_, _≤_, ℕ}
 use Rattle.t800.specs.Base.{sum}
+use Rattle.t800_laws.proofs.Laws.Sums.{sum-turn, sum-end}
 use Rattle.t2_settle_states.specs.Settle.{Settles}
-use Rattle.t2_settle_states.proofs.Laws.{next-one, no-more, sum-turn, settledTo, length-settled, waiting-copied}
+use Rattle.t2_settle_states.proofs.Laws.{next-one, settledTo, length-settled, waiting-copied}
 use Rattle.t2_settle_states.proofs.Laws.{settle-layer-settles, settles-behind}
 use Rattle.t2_settle_states.proofs.settle_states.Statement.{statement}
 use Rattle.t2_settle_states.proofs.settle_states.Tie as tie
@@ -120,7 +122,9 @@ loop-again c =
       omega (arith, words-there t, s .pre .2),
       omega (
         arith,
-        sum-turn (a .words .now) (a .n) (l .i) (s .pre .0) (omega (arith, t .loop-test .taken)),
+        sum-turn (take (a .n) (a .words .now)) (l .i)
+            (omega (arith, length-take (a .n) (a .words .now), s .pre .0, t .loop-test .taken)),
+        getD-take (a .n) (a .words .now) (l .i) 0 (omega (arith, t .loop-test .taken)),
         l .inv .3,
       ),
       states-after c,
@@ -175,11 +179,8 @@ returns c =
     omega (
       arith,
       l .inv .3,
-      no-more (s .args .words .now) (s .args .n) (l .i) (omega (
-        arith,
-        c .before .before .before .before .before
-            .loop-test .left,
-      )),
+      sum-end (take (s .args .n) (s .args .words .now)) (l .i)
+          (omega (arith, length-take (s .args .n) (s .args .words .now), c .before .before .before .before .before .loop-test .left)),
     ) in
     last-copied (c .before .before) ∙ ap (λ (n : ℕ). settledTo n (s .args .scratch .now) (s .args .states .now)) e
 
