@@ -1,4 +1,6 @@
 // Bytes out of bio.rs: the start of a writer, and one byte stored.
+#![tactic(auto)]
+
 ghost use Rattle.std.specs.Prelude.{◌≡◌, cond, ◌-◌, ◌^◌, ◌≤◌, eqb, set};
 ghost use Rattle.bio_bytes.specs.Writing.{output, empty_at, place_after, byte_out};
 

@@ -1,4 +1,6 @@
 // Bits of a packet header out of bytes, high bit first, without the 0 that is stuffed after a byte FF (bio.rs).
+#![tactic(auto)]
+
 ghost use Rattle.std.specs.Prelude.{◌≡◌, ◌+◌, ◌≤◌, max, min, length};
 ghost use Rattle.t800.specs.Bits.{reach, bio_at, byte_in, get_bit, read_bit, read_bits};
 ghost use Rattle.bio_read.specs.Chunks.{refill, held_bits};

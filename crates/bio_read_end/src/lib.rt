@@ -1,4 +1,6 @@
 // Where a packet header ends, at the start of the byte after its last bit (bio.rs), and how many of its bits lie past the input's end.
+#![tactic(auto)]
+
 ghost use Rattle.std.specs.Prelude.{◌≡◌, ◌+◌, ◌≤◌, min, length};
 ghost use Rattle.t800.specs.Bits.{reach, bio_at, bits_past};
 ghost use Rattle.bits_taken.specs.Taken.{Reached, stuffed_past};

@@ -1,4 +1,6 @@
 // The bit record lent by `&mut` to get-bit, and moved on where it is (bio.rs).
+#![tactic(auto)]
+
 ghost use Rattle.std.specs.Prelude.{◌≡◌, ◌≤◌};
 ghost use Rattle.t800.specs.Bits.{get_bit, read_bit};
 ghost use Rattle.bio_read.specs.Reading.{decoded};

@@ -1,4 +1,6 @@
 // Bits of a packet header into bytes, high bit first, with a stuffed 0 after a byte FF (bio.rs).
+#![tactic(auto)]
+
 ghost use Rattle.std.specs.Prelude.{◌≡◌, ◌≤◌};
 ghost use Rattle.t800.specs.Bits.{bits_of};
 ghost use Rattle.bio_bytes.specs.Writing.{output, make_room, put_bit, put_bits, flush, FreeBitsClear};

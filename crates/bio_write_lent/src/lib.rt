@@ -1,4 +1,6 @@
 // The bit record lent by `&mut` to put-bit, and moved on where it is (bio.rs).
+#![tactic(auto)]
+
 ghost use Rattle.std.specs.Prelude.{◌≡◌, ◌≤◌};
 ghost use Rattle.bio_bytes.specs.Writing.{output, put_bit, FreeBitsClear};
 

@@ -134,7 +134,7 @@ value-no_low L u a n b m = value-off_low L u inclusion a b n m
 
 planes_shared : (L : Layout) (a : ℕ) → L.Node zero_planes a → NodeIn (Shared L) a
 planes_shared L a n =
-    let h = (L.Node-in zero_planes a n).0 in (
+    let h = (L.node_in zero_planes a n).0 in (
       (omega arith, λ b m. let p = L.nodes-apart inclusion zero_planes b a m n (L.other_tree b a m n) in omega arith),
       (omega arith, λ b m. let p = L.nodes-apart inclusion zero_planes b a m n (L.other_tree b a m n) in omega arith),
       (omega arith, λ b m. let p = L.nodes-apart inclusion zero_planes b a m n (L.other_tree b a m n) in omega arith),

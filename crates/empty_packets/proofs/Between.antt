@@ -78,7 +78,7 @@ layer-set ws x = (length-set ws 3 x, λ i e. get_or-set_other ws 3 i x 0 e)
 module _ (L : Layout) (ws vs : List ℕ) (o : LayerOnly ws vs) where
   pub layer-off_nodes : (u : Tree) (a : ℕ) → L.Node u a → node_at vs a ≡ node_at ws a
   layer-off_nodes u a n =
-      let h = (L.Node-in u a n).0 in
+      let h = (L.node_in u a n).0 in
       λ i. node (o.1 a (omega arith) i) (o.1 (a + 1) (omega arith) i) (o.1 (a + 2) (omega arith) i)
 
   pub layer-off_passes : (p : ℕ) → L.BlockAt p → passes_so_far vs p ≡ passes_so_far ws p

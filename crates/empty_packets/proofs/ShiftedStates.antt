@@ -101,7 +101,7 @@ module _ (L : Layout) (t now : ℕ) (from : t ≤ now) (soon : now + 1 < not_yet
   store_kept : (ws vs : List ℕ) (a : ℕ) → length ws ≡ L.size → length vs ≡ L.size → L.Node inclusion a → now < value ws a
       → NodesKept L t ws vs (set ws a now) (set vs a (now + 1))
   store_kept ws vs a wl vl n h may b m s =
-      let i = (L.Node-in inclusion a n).1 in
+      let i = (L.node_in inclusion a n).1 in
       on-eq b a
       (λ e. rw e
       (lowered (node_at (set ws a now) a) (node_at (set vs a (now + 1)) a)

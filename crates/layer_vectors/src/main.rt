@@ -1,5 +1,7 @@
 // Runs the layer calls of the file `layer`, which tools/make_layer_vectors.py wrote, and compares every answer and every list that a call
 // leaves. All answers are by the scope (docs/SCOPE.md) alone.
+#![tactic(auto)]
+
 ghost use Rattle.std.specs.Prelude.{◌≡◌, ◌≤◌, length};
 ghost use Rattle.io.specs.Counts.{IsPrefixLen};
 

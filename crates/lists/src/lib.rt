@@ -1,4 +1,6 @@
 // Copies of lists, and the rows that a read fills.
+#![tactic(auto)]
+
 ghost use Rattle.std.specs.Prelude.{◌≡◌, length};
 ghost use Rattle.t800.specs.Base.{wiped};
 ghost use Rattle.lists.specs.Rows.{put_row, put_report, put_record};

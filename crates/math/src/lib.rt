@@ -1,4 +1,6 @@
 // The logarithm, the smaller and the larger of two numbers (math.rs).
+#![tactic(auto)]
+
 ghost use Rattle.std.specs.Prelude.{◌≡◌, min, max};
 ghost use Rattle.t800.specs.Base.{floor_log2};
 

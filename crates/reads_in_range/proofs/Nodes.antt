@@ -66,7 +66,7 @@ module _ (L : Layout) (s : ℕ) where
     other i e f = get_or-set_other (set ws a v) (a + 1) i l 0 f ∙ get_or-set_other ws a i v 0 e
 
     inside : a + 3 ≤ length ws
-    inside = omega (arith, L.Node-in t a n, h.long)
+    inside = omega (arith, L.node_in t a n, h.long)
 
     value-is : value vs a ≡ v
     value-is = get_or-set_other (set ws a v) (a + 1) a l 0 (omega arith) ∙ get_or-set_same ws a v 0 (omega (arith, inside))
@@ -104,7 +104,7 @@ module _ (L : Layout) (s : ℕ) where
     node_stored = record {
       here = record {
         nodes = each_node;
-        style-is = other 2 (omega (arith, L.Node-in t a n)) (omega (arith, L.Node-in t a n)) ∙ h.style-is;
+        style-is = other 2 (omega (arith, L.node_in t a n)) (omega (arith, L.node_in t a n)) ∙ h.style-is;
         long = length-set (set ws a v) (a + 1) l ∙ length-set ws a v ∙ h.long;
       };
       blocks = λ p b i x y. let d = L.node_off_block t a p n b in other i (omega arith) (omega arith);

@@ -1,4 +1,6 @@
 // The engine's calls: start, measure, write a packet or a layer, read from the stream or from gathered headers, gather and spread headers.
+#![tactic(auto)]
+
 pub use t2_gather::gather;
 pub use t2_measure::measure;
 pub use t2_read_gathered::read_gathered;

@@ -1,4 +1,6 @@
 // One block's segments (t2.rs): whether one is too long, or its length field too wide.
+#![tactic(auto)]
+
 ghost use Rattle.std.specs.Prelude.{◌≡◌, false, ◌≤◌};
 ghost use Rattle.t800.specs.Segments.{segments_of};
 ghost use Rattle.t2_segments.specs.Segments.{PassLists, bits_before, any_too_long, any_too_wide, block_too_wide};

@@ -1,4 +1,6 @@
 // The headers of a row of packets moved into PPT marker segments (SCOPE S22), and the rest of the packets behind one another.
+#![tactic(auto)]
+
 ghost use Rattle.std.specs.Prelude.{◌≡◌, ◌*◌, ◌≤◌, length};
 ghost use Rattle.t800.specs.PackedHeaders.{most_bytes, most_segments};
 ghost use Rattle.t800.specs.Gathered.{gather};

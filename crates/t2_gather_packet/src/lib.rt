@@ -1,4 +1,6 @@
 // One packet of a row gathered: its header put into segments, SOP and body behind those before them, and its reader's state moved on.
+#![tactic(auto)]
+
 ghost use Rattle.std.specs.Prelude.{◌≡◌, true, not, ◌||◌, ◌+◌, ◌*◌, ◌^◌, ◌<◌, ◌≤◌, length, take, drop, ltb};
 ghost use Rattle.std.proofs.lemmas.List.Edits.{sets};
 ghost use Rattle.t800.specs.State.{reader};

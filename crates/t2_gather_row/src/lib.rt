@@ -1,4 +1,6 @@
 // The packets of a row gathered, one a place: headers into PPT marker segments, the rest of the packets behind one another.
+#![tactic(auto)]
+
 ghost use Rattle.std.specs.Prelude.{◌≡◌, true, false, ◌+◌, ◌*◌, ◌≤◌, length, drop};
 ghost use Rattle.t800.specs.State.{reader};
 ghost use Rattle.t800.specs.Ranges.{valid_state};

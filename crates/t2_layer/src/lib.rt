@@ -1,4 +1,6 @@
 // One layer written and read back with the engine's calls.
+#![tactic(auto)]
+
 ghost use Rattle.std.specs.Prelude.{◌≡◌};
 ghost use Rattle.t800.specs.Packet.{refused_answer};
 ghost use Rattle.t800.specs.WriteHeader.{contribution};

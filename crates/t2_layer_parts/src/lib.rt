@@ -1,4 +1,6 @@
 // The precinct in front of a layer's lists: how much of each it has, what turns it away, and its packet.
+#![tactic(auto)]
+
 ghost use Rattle.std.specs.Prelude.{◌≡◌, ◌+◌, ◌≤◌, min, length};
 ghost use Rattle.t800.specs.State.{writer, layer, bands, blocks};
 ghost use Rattle.t800.specs.WriteHeader.{contribution};

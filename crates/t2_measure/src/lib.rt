@@ -1,4 +1,6 @@
 // Measuring a packet (opj_t2_encode_packet of t2.rs): check, copy the state, count.
+#![tactic(auto)]
+
 ghost use Rattle.std.specs.Prelude.{◌≡◌};
 ghost use Rattle.t800.specs.Packet.{measure};
 ghost use Rattle.t800.specs.WriteHeader.{contribution};

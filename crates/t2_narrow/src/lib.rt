@@ -1,4 +1,6 @@
 // What rules refusals 8 and 9 out (t2.rs): lengths that add up to few bytes, and few length bits.
+#![tactic(auto)]
+
 ghost use Rattle.std.specs.Prelude.{◌≡◌, ◌&&◌, ◌+◌, ◌*◌, ◌^◌, ◌≤◌, length, take, ltb, leb};
 ghost use Rattle.t800.specs.Base.{every, sum};
 ghost use Rattle.t800.specs.State.{state_length, length_bits};

@@ -1,4 +1,6 @@
 // Header bytes put into PPT marker segments as they come (T.800, A.7.5).
+#![tactic(auto)]
+
 ghost use Rattle.std.specs.Prelude.{◌≡◌, ◌+◌, ◌-◌, ◌*◌, ◌≤◌, ◌<◌, length, ltb};
 ghost use Rattle.std.proofs.lemmas.List.Edits.{sets};
 ghost use Rattle.t800.specs.PackedHeaders.{most_bytes, most_segments, segments_for};

@@ -1,4 +1,6 @@
 // A packet that measuring lets pass (opj_t2_encode_packet of t2.rs): put into scratch and output, and settled in the state.
+#![tactic(auto)]
+
 ghost use Rattle.std.specs.Prelude.{◌≡◌, ◌+◌, ◌≤◌, length, set};
 ghost use Rattle.t800.specs.State.{layer};
 ghost use Rattle.t800.specs.WriteHeader.{contribution};

@@ -1,4 +1,6 @@
 // The bands of a packet header read one after another (opj_t2_read_packet_header of t2.rs), each row by row.
+#![tactic(auto)]
+
 ghost use Rattle.std.specs.Prelude.{◌≡◌, ◌+◌, ◌-◌, ◌*◌, ◌<◌, ◌≤◌, min, length, take};
 ghost use Rattle.t800.specs.TagTree.{levels};
 ghost use Rattle.t800.specs.State.{blocks, blocks_in, blocks_from, band_nodes, end_of, not_yet_included};

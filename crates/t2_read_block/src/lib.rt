@@ -1,4 +1,6 @@
 // The reading of blocks in a packet header (opj_t2_read_packet_header of t2.rs): a block, new or not, and a row of them.
+#![tactic(auto)]
+
 ghost use Rattle.std.specs.Prelude.{◌≡◌, ◌+◌, ◌^◌, ◌<◌, ◌≤◌, length};
 ghost use Rattle.t2_read_segments.specs.Reading.{reading, SegmentFits, BlockFits};
 ghost use Rattle.t2_read_block_parts.specs.Blocks.{next_new, next_old, next_block, next_blocks};

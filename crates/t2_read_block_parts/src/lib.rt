@@ -1,4 +1,6 @@
 // The parts of a block that is read (opj_t2_read_packet_header of t2.rs): included for the first time, and again.
+#![tactic(auto)]
+
 ghost use Rattle.std.specs.Prelude.{◌≡◌, ◌+◌, ◌^◌, ◌<◌, ◌≤◌, length};
 ghost use Rattle.tgt_read.specs.Reading.{value_after};
 ghost use Rattle.t2_read_segments.specs.Reading.{reading, SegmentFits, BlockFits};

@@ -1,4 +1,6 @@
 // The codes of a packet header as read: pass counts, and the run of ones that adds to the length bits (t2.rs).
+#![tactic(auto)]
+
 ghost use Rattle.std.specs.Prelude.{◌≡◌, ◌+◌, ◌≤◌};
 ghost use Rattle.t800.specs.PassCount.{plus, read_passes};
 ghost use Rattle.bio_read.specs.Reading.{decoded};

@@ -1,4 +1,6 @@
 // A packet read from gathered headers (t2.rs, with ppt set): header and EPH as from a stream without SOP, and SOP in front of the bodies.
+#![tactic(auto)]
+
 ghost use Rattle.std.specs.Prelude.{◌≡◌, false};
 ghost use Rattle.t800.specs.Reports.{as_words};
 ghost use Rattle.t800.specs.Gathered.{told_beside, gathered_result, read_gathered};

@@ -1,4 +1,6 @@
 // A packet header read after its first bit (opj_t2_read_packet_header of t2.rs): its bands, and its end.
+#![tactic(auto)]
+
 ghost use Rattle.std.specs.Prelude.{◌≡◌, true, ◌*◌, ◌<◌, length};
 ghost use Rattle.t800.specs.State.{reader, layer, bands, blocks, not_yet_included};
 ghost use Rattle.t800.specs.Ranges.{valid_state};

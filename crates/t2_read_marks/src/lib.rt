@@ -1,4 +1,6 @@
 // The markers of a packet that is read (t2.rs), and the answer where nothing is refused.
+#![tactic(auto)]
+
 ghost use Rattle.std.specs.Prelude.{◌≡◌, ◌-◌, ◌≤◌, length};
 ghost use Rattle.t800.specs.MarkerSegments.{read_marker};
 ghost use Rattle.bits_taken.specs.Taken.{Reached};

@@ -1,4 +1,6 @@
 // The read on the work list with room for so many records, and how many records are then to be stored.
+#![tactic(auto)]
+
 ghost use Rattle.std.specs.Prelude.{◌≡◌, ◌*◌, eqb};
 ghost use Rattle.t800.specs.Packet.{read_result};
 ghost use Rattle.t800.specs.Reports.{record_width, as_words};

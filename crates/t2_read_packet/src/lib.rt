@@ -1,4 +1,6 @@
 // Reading one packet (t2.rs): turned away, or by its first bit, after SOP, absent or present.
+#![tactic(auto)]
+
 ghost use Rattle.std.specs.Prelude.{◌≡◌};
 ghost use Rattle.t800.specs.Reports.{as_words};
 ghost use Rattle.t800.specs.Packet.{read, read_result};

@@ -1,4 +1,6 @@
 // A packet whose first bit is 1 (t2.rs): its header read into scratch and settled in the state, or refused.
+#![tactic(auto)]
+
 ghost use Rattle.std.specs.Prelude.{◌≡◌, true, ◌*◌, ◌/◌, ◌<◌, ◌≤◌, length};
 ghost use Rattle.t800.specs.State.{reader, layer, bands, blocks, not_yet_included};
 ghost use Rattle.t800.specs.Ranges.{valid_state};

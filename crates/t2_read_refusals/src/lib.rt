@@ -1,4 +1,6 @@
 // What turns a packet away before it is looked at (t2.rs).
+#![tactic(auto)]
+
 ghost use Rattle.std.specs.Prelude.{◌≡◌};
 ghost use Rattle.t800.specs.Packet.{read_refusal, refused_answer};
 

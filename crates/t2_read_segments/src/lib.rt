@@ -1,4 +1,6 @@
 // A block's segments, as read.
+#![tactic(auto)]
+
 ghost use Rattle.std.specs.Prelude.{◌≡◌, ◌+◌, ◌^◌, ◌<◌, ◌≤◌, length};
 ghost use Rattle.tcd_places.specs.Places.{block_at};
 ghost use Rattle.t2_read_segments.specs.Segments.{limit_after, current_segment};

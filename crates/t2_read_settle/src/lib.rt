@@ -1,4 +1,6 @@
 // What a read leaves in the lent lists (t2.rs): an absent packet's next layer, a header's words settled in the state, or all wiped.
+#![tactic(auto)]
+
 ghost use Rattle.std.specs.Prelude.{◌≡◌, true, ◌+◌, ◌<◌, length, set};
 ghost use Rattle.t800.specs.Base.{wiped};
 ghost use Rattle.t800.specs.State.{reader, layer, not_yet_included};

@@ -1,4 +1,6 @@
 // The caller's list of segment records as structs, written one record at a time from numbers.
+#![tactic(auto)]
+
 ghost use Rattle.std.specs.Prelude.{◌≡◌, slice_set};
 ghost use Rattle.t800.specs.Reports.{no_record};
 ghost use Rattle.t2_records.specs.Segments.{segment_after, filled};

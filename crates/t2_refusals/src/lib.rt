@@ -1,4 +1,6 @@
 // What turns a packet away before it is written (t2.rs): refusals 5, 6, 3, 7, 8 and 9.
+#![tactic(auto)]
+
 ghost use Rattle.std.specs.Prelude.{◌≡◌, true, ◌≤◌, length};
 ghost use Rattle.t800.specs.State.{writer};
 ghost use Rattle.t800.specs.Ranges.{valid_state};

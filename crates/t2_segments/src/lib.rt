@@ -1,4 +1,6 @@
 // A block's segments in one layer, one after another, and the widths of their length fields (t2.rs).
+#![tactic(auto)]
+
 ghost use Rattle.std.specs.Prelude.{◌≡◌, false, ◌-◌, ◌≤◌, length, drop};
 ghost use Rattle.t800.specs.Segments.{segments_of, width, bit_length, increment};
 ghost use Rattle.t2_segments.specs.Segments.{segment, first_segment, PassLists, bits_before, any_too_long};

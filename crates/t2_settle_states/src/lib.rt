@@ -1,4 +1,6 @@
 // The states of a layer's precincts, settled once all packets are accepted.
+#![tactic(auto)]
+
 ghost use Rattle.std.specs.Prelude.{◌≡◌, ◌++◌, ◌+◌, ◌≤◌, length, take, drop};
 ghost use Rattle.t800.specs.Base.{sum};
 ghost use Rattle.t2_settle_states.specs.Settle.{Settles, settle_layer};

@@ -1,4 +1,6 @@
 // A packet skipped whose header lies in PPT marker segments: its reader's state moved on in place, and how many bytes its parts have.
+#![tactic(auto)]
+
 ghost use Rattle.std.specs.Prelude.{◌≡◌, true, cond, ◌&&◌, ◌+◌, ◌-◌, ◌%◌, ◌^◌, ◌<◌, ◌≤◌, min, eqb, length, drop};
 ghost use Rattle.t800.specs.State.{reader, layer, not_yet_included};
 ghost use Rattle.t800.specs.Ranges.{valid_state};

@@ -1,4 +1,6 @@
 // A packet header after its first bit, read for what it does to the state, where it ends, and how many body bytes it tells of.
+#![tactic(auto)]
+
 ghost use Rattle.std.specs.Prelude.{◌≡◌, true, ◌<◌, length};
 ghost use Rattle.t800.specs.State.{reader, layer, not_yet_included};
 ghost use Rattle.t800.specs.Ranges.{valid_state};

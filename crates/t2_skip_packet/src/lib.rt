@@ -1,4 +1,6 @@
 // A packet in front of a row (opj_t2_skip_packet of t2.rs): its reader's state moved on in place, and how many bytes its parts have.
+#![tactic(auto)]
+
 ghost use Rattle.std.specs.Prelude.{◌≡◌, true, ◌+◌, ◌<◌, ◌≤◌, length};
 ghost use Rattle.t800.specs.State.{reader, layer, not_yet_included};
 ghost use Rattle.t800.specs.Ranges.{valid_state};

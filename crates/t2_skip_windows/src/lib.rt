@@ -1,4 +1,6 @@
 // Blocks of a packet header skipped through a window on header bytes that lie in PPT marker segments: block by block, band by band.
+#![tactic(auto)]
+
 ghost use Rattle.std.specs.Prelude.{◌≡◌, [], ◌∷◌, ◌+◌, ◌*◌, ◌^◌, ◌<◌, ◌≤◌, length, take};
 ghost use Rattle.t800.specs.PackedHeaders.{unpacked};
 ghost use Rattle.t800.specs.TagTree.{levels};

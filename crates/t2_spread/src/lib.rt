@@ -1,4 +1,6 @@
 // Headers gathered in PPT marker segments moved back to their packets (SCOPE S22).
+#![tactic(auto)]
+
 ghost use Rattle.std.specs.Prelude.{◌≡◌, false, length};
 ghost use Rattle.t800.specs.Base.{wiped};
 ghost use Rattle.t800.specs.PackedHeaders.{unpacked};

@@ -1,4 +1,6 @@
 // One packet moved back: its header out of the segments, behind SOP and in front of the body, and its reader's state moved on.
+#![tactic(auto)]
+
 ghost use Rattle.std.specs.Prelude.{◌≡◌, true, not, ◌+◌, ◌^◌, ◌<◌, ◌≤◌, length, ltb};
 ghost use Rattle.t800.specs.State.{reader};
 ghost use Rattle.t800.specs.Ranges.{valid_state};

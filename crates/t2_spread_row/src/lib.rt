@@ -1,4 +1,6 @@
 // Packets put together again, one a place, from headers gathered in PPT marker segments and what is left of the packets.
+#![tactic(auto)]
+
 ghost use Rattle.std.specs.Prelude.{◌≡◌, true, false, ◌+◌, ◌≤◌, length, drop};
 ghost use Rattle.t800.specs.State.{reader};
 ghost use Rattle.t800.specs.Ranges.{valid_state};

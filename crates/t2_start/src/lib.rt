@@ -1,4 +1,6 @@
 // Start of a writer or a reader for one precinct: four checks, then a lent state is filled as at layer 0.
+#![tactic(auto)]
+
 ghost use Rattle.std.specs.Prelude.{◌≡◌};
 ghost use Rattle.t800.specs.State.{writer, reader};
 ghost use Rattle.t800.specs.Start.{start};

@@ -1,4 +1,6 @@
 // The parts of a start: its refusals, the first words, fresh bands.
+#![tactic(auto)]
+
 ghost use Rattle.std.specs.Prelude.{◌≡◌, not, ◌||◌, [], ◌∷◌, ◌++◌, ◌+◌, ◌*◌, ◌≤◌, length, get_or, take, eqb};
 ghost use Rattle.std.proofs.lemmas.List.Edits.{sets};
 ghost use Rattle.t800.specs.State.{not_yet_included, not_yet_planes, blocks, state_length};

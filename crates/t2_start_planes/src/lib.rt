@@ -1,4 +1,6 @@
 // A writer's zero planes, set in its bands' trees at its start (t2.rs).
+#![tactic(auto)]
+
 ghost use Rattle.std.specs.Prelude.{◌≡◌, false, ◌+◌, ◌≤◌, length, take, ltb};
 ghost use Rattle.t800.specs.Base.{any};
 ghost use Rattle.t800.specs.TagTree.{levels};

@@ -1,4 +1,6 @@
 // PPT marker segments looked at, and the header bytes in them copied out (T.800, A.7.5).
+#![tactic(auto)]
+
 ghost use Rattle.std.specs.Prelude.{◌≡◌, ◌+◌, ◌-◌, ◌≤◌, ◌<◌, min, length, drop};
 ghost use Rattle.std.proofs.Math.Seq.{paste};
 ghost use Rattle.t800.specs.PackedHeaders.{unpacked};

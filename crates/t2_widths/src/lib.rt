@@ -1,4 +1,6 @@
 // Refusals 8 and 9 of measuring and writing (t2.rs): a segment too long, a length field too wide.
+#![tactic(auto)]
+
 ghost use Rattle.std.specs.Prelude.{◌≡◌, false, ◌+◌, ◌*◌, ◌≤◌, length, take, ltb};
 ghost use Rattle.t800.specs.Base.{any};
 ghost use Rattle.t800.specs.State.{blocks, blocks_from, blocks_in, band_length, state_length};

@@ -1,4 +1,6 @@
 // Writing a packet (opj_t2_encode_packet of t2.rs): check, put, settle.
+#![tactic(auto)]
+
 ghost use Rattle.std.specs.Prelude.{◌≡◌};
 ghost use Rattle.t800.specs.Packet.{write};
 ghost use Rattle.t800.specs.WriteHeader.{contribution};

@@ -1,5 +1,7 @@
 // The coding of a packet's blocks band by band (opj_t2_encode_packet of t2.rs): a band's new blocks are set, then all are coded,
 // row by row.
+#![tactic(auto)]
+
 ghost use Rattle.std.specs.Prelude.{◌≡◌, ◌+◌, ◌<◌, ◌≤◌, T, length, take};
 ghost use Rattle.t800.specs.TagTree.{levels};
 ghost use Rattle.t800.specs.State.{blocks_in, blocks, state_length, not_yet_included};

@@ -1,4 +1,6 @@
 // The coding of blocks in a packet header (opj_t2_encode_packet of t2.rs): a block from its parts, and a row of them.
+#![tactic(auto)]
+
 ghost use Rattle.std.specs.Prelude.{◌≡◌, ◌+◌, ◌<◌, T, length, get_or};
 ghost use Rattle.t800.specs.WriteHeader.{code_block};
 ghost use Rattle.t800.specs.Segments.{segments_of};

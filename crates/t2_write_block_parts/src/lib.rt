@@ -1,4 +1,6 @@
 // The parts of a block in a packet header (opj_t2_encode_packet of t2.rs): its inclusion, its zero planes, its passes and their lengths.
+#![tactic(auto)]
+
 ghost use Rattle.std.specs.Prelude.{◌≡◌, cond, ◌+◌, ◌<◌, ◌≤◌, T, ltb, length, get_or};
 ghost use Rattle.t800.specs.WriteHeader.{code_inclusion, code_zero_planes, code_passes};
 ghost use Rattle.t800.specs.Segments.{segments_of};

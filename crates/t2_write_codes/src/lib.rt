@@ -1,4 +1,6 @@
 // The codes of a packet header as written: pass counts by one table, and the run of ones that adds to the length bits (t2.rs).
+#![tactic(auto)]
+
 ghost use Rattle.std.specs.Prelude.{◌≡◌, ◌≤◌, T};
 ghost use Rattle.t800.specs.PassCount.{pass_bits};
 ghost use Rattle.t800.specs.Segments.{comma_bits};

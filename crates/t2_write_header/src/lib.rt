@@ -1,5 +1,7 @@
 // A packet header coded from a place of the output on (opj_t2_encode_packet of t2.rs): the first bit and, where a block has passes, all
 // blocks and the last byte.
+#![tactic(auto)]
+
 ghost use Rattle.std.specs.Prelude.{◌≡◌, ◌≤◌, ◌<◌, length};
 ghost use Rattle.t800.specs.State.{layer, not_yet_included};
 ghost use Rattle.t800.specs.WriteHeader.{contribution, code_present, code_absent};

@@ -1,4 +1,6 @@
 // One layer of up to 16 precincts, written whole or not at all.
+#![tactic(auto)]
+
 ghost use Rattle.std.specs.Prelude.{◌≡◌};
 ghost use Rattle.t800.specs.Base.{wiped};
 ghost use Rattle.t800.specs.WriteHeader.{contribution};

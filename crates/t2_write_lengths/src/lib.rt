@@ -1,4 +1,6 @@
 // The lengths of a block's segments, coded.
+#![tactic(auto)]
+
 ghost use Rattle.std.specs.Prelude.{◌≡◌, false, [], ◌∷◌, ◌^◌, ◌<◌, ◌≤◌, T, length};
 ghost use Rattle.t800.specs.Segments.{segments_of, length_fields};
 ghost use Rattle.bio_bytes.specs.Writing.{output, put_bits, FreeBitsClear};

@@ -1,4 +1,6 @@
 // New blocks of a band set in its inclusion tree, row by row (opj_t2_encode_packet of t2.rs).
+#![tactic(auto)]
+
 ghost use Rattle.std.specs.Prelude.{◌≡◌, ◌+◌, ◌≤◌, length};
 ghost use Rattle.t800.specs.TagTree.{levels};
 ghost use Rattle.t800.specs.State.{blocks_in};

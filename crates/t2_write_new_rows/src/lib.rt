@@ -1,4 +1,6 @@
 // A row's new blocks set in the inclusion tree (opj_t2_encode_packet of t2.rs).
+#![tactic(auto)]
+
 ghost use Rattle.std.specs.Prelude.{◌≡◌, ◌+◌, ◌≤◌, length};
 ghost use Rattle.tcd_places.specs.Places.{BlockIn, RowIn, block_in, row_blocks};
 ghost use Rattle.t2_write_new_rows.specs.Setting.{set_next, set_all};

@@ -1,4 +1,6 @@
 // The packet less its body, and the body after it: stored where the output has room.
+#![tactic(auto)]
+
 ghost use Rattle.std.specs.Prelude.{◌≡◌, cond, [], ◌+◌, ◌^◌, ◌≤◌, leb, length};
 ghost use Rattle.t800.specs.MarkerSegments.{sop_bytes, eph_bytes};
 ghost use Rattle.t800.specs.WriteHeader.{contribution};

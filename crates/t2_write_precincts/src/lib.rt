@@ -1,4 +1,6 @@
 // A layer's precincts, one after another: each packet put, and all states settled once the last one is accepted.
+#![tactic(auto)]
+
 ghost use Rattle.std.specs.Prelude.{◌≡◌, ◌≤◌, length};
 ghost use Rattle.t800.specs.WriteHeader.{contribution};
 ghost use Rattle.t2_write_precincts.specs.Layer.{LayerWritten};

@@ -1,4 +1,5 @@
 // The definitions of docs/SCOPE.md stand in specs/; here are the plain structs that definitions and code both speak of.
+#![tactic(auto)]
 
 // Where the bits of a header stand: the next byte's place, the held word, and how many of its low bits are still to be read or free.
 #[derive(Drop)]

@@ -1,4 +1,6 @@
 // The words of a band in a state, its tree nodes and its blocks: whether they are in range.
+#![tactic(auto)]
+
 ghost use Rattle.std.specs.Prelude.{◌≡◌, cond, ◌&&◌, ◌||◌, ◌+◌, ◌*◌, ◌≤◌, length, leb, eqb};
 ghost use Rattle.t800.specs.Base.{every};
 ghost use Rattle.t800.specs.State.{writer, band_nodes, band_length};

@@ -1,4 +1,6 @@
 // The thirteen words before a state's first band, and the bands that they name: part of refusal 5.
+#![tactic(auto)]
+
 ghost use Rattle.std.specs.Prelude.{◌≡◌, ◌||◌, ◌+◌, ◌*◌, ◌≤◌, ◌<◌, length, get_or, ltb, eqb};
 ghost use Rattle.t800.specs.Base.{every};
 ghost use Rattle.t800.specs.State.{band_at};

@@ -1,4 +1,6 @@
 // Where the words of three bands lie: lengths and starts, and numbers of blocks (tcd.rs).
+#![tactic(auto)]
+
 ghost use Rattle.std.specs.Prelude.{◌≡◌, ◌≤◌, length, take};
 ghost use Rattle.t800.specs.State.{blocks_in, band_nodes, band_length, end_of, state_length, blocks};
 ghost use Rattle.tcd_laws.specs.Geometry.{SidesUpTo64, AllUpTo64};

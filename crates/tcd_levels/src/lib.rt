@@ -1,4 +1,6 @@
 // The levels of a band's tag trees by value: nodes across and down, their number, and the nodes of all (tcd.rs).
+#![tactic(auto)]
+
 ghost use Rattle.std.specs.Prelude.{◌≡◌, ◌+◌, ◌*◌, ◌/◌, ◌≤◌, length};
 ghost use Rattle.t800.specs.TagTree.{levels, nodes};
 ghost use Rattle.tcd_laws.specs.Geometry.{padded, band_levels};

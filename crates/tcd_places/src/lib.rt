@@ -1,4 +1,6 @@
 // Where a band, a row of its blocks and one block stand in a state's words.
+#![tactic(auto)]
+
 ghost use Rattle.std.specs.Prelude.{◌≡◌, ◌+◌, ◌*◌, ◌^◌, ◌<◌, ◌≤◌};
 ghost use Rattle.t800.specs.State.{band_length};
 ghost use Rattle.tcd_laws.specs.Geometry.{SidesUpTo64};

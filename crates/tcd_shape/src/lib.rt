@@ -1,4 +1,6 @@
 // Start's checks of a shape and its planes.
+#![tactic(auto)]
+
 ghost use Rattle.std.specs.Prelude.{◌≡◌, ◌||◌, ◌≤◌, min, take, ltb, leb};
 ghost use Rattle.t800.specs.Base.{any};
 ghost use Rattle.t800.specs.State.{blocks};

@@ -1,4 +1,6 @@
 // What a state must meet: refusal 5, over its first words, its bands and its length.
+#![tactic(auto)]
+
 ghost use Rattle.std.specs.Prelude.{◌≡◌, cond, ◌&&◌, ◌≤◌, length, take, leb};
 ghost use Rattle.t800.specs.State.{state_length};
 ghost use Rattle.t800.specs.Ranges.{bands_in_range, valid_state};

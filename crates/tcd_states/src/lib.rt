@@ -1,4 +1,6 @@
 // States of readers behind one another in one list: how many, whether in range, and where each begins.
+#![tactic(auto)]
+
 ghost use Rattle.std.specs.Prelude.{◌≡◌, not, ◌*◌, ◌≤◌, ◌<◌, length, leb};
 ghost use Rattle.t800.specs.Base.{any};
 ghost use Rattle.t800.specs.Gathered.{states_in, bad_states, state_at};

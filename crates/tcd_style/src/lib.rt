@@ -1,4 +1,6 @@
 // Style bits and marker bytes of types.rs, the segment rule of tcd.rs, and the numbers of a state.
+#![tactic(auto)]
+
 ghost use Rattle.std.specs.Prelude.{◌≡◌, ◌+◌, ◌-◌, ◌%◌, ◌^◌};
 ghost use Rattle.t800.specs.Segments.{term_all, bypass, first_limit, next_limit};
 ghost use Rattle.t800.specs.Ranges.{bad_style};

@@ -1,5 +1,7 @@
 // A tag tree's nodes read on the way to a leaf (tgt.rs), from the bits of a packet header.
 // A tree of `depth` levels begins at the word `base`, and its leaf is in column x of the row that `row` was made for.
+#![tactic(auto)]
+
 ghost use Rattle.std.specs.Prelude.{◌≡◌, ◌&&◌, reverse, ◌+◌, ◌%◌, ◌^◌, ◌<◌, ◌≤◌, eqb, ltb, length};
 ghost use Rattle.t800.specs.TagTree.{read_node, read_path};
 ghost use Rattle.tgt.specs.Path.{path_over, leaf_word, PathIn, NodesIn};

@@ -1,5 +1,7 @@
 // The value of a leaf of a tag tree, as zero planes are read: by raised thresholds (tgt.rs).
 // A tree of `depth` levels begins at the word `base`, and its leaf is in column x of the row that `row` was made for.
+#![tactic(auto)]
+
 ghost use Rattle.std.specs.Prelude.{◌≡◌, ◌+◌, ◌≤◌, length};
 ghost use Rattle.t800.specs.State.{not_yet_planes};
 ghost use Rattle.t800.specs.ReadHeader.{read_zero_planes_from};

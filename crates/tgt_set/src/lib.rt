@@ -1,4 +1,6 @@
 // Fresh nodes of a tag tree, and the value of a leaf set on the way to the root (tgt.rs).
+#![tactic(auto)]
+
 ghost use Rattle.std.specs.Prelude.{◌≡◌, ◌+◌, ◌*◌, ◌≤◌, length};
 ghost use Rattle.std.proofs.lemmas.List.Edits.{sets};
 ghost use Rattle.t800.specs.TagTree.{set_value};

@@ -1,5 +1,7 @@
 // A tag tree's nodes coded on the way to a leaf (tgt.rs), into bits of a packet header.
 // A tree of `depth` levels begins at the word `base`, and its leaf is in column x of the row that `row` was made for.
+#![tactic(auto)]
+
 ghost use Rattle.std.specs.Prelude.{◌≡◌, cond, ◌&&◌, reverse, ◌+◌, ◌-◌, ◌<◌, ◌≤◌, eqb, ltb, leb, length, get_or, replicate};
 ghost use Rattle.t800.specs.TagTree.{code_path};
 ghost use Rattle.bio_bytes.specs.Writing.{output, put_bits, FreeBitsClear};

@@ -1,4 +1,6 @@
 // The engine's calls for programs in C and Rust: slices as pointer and length, the refusal as result, the rest in a lent list of words.
+#![tactic(auto)]
+
 ghost use Rattle.std.specs.Prelude.{◌≡◌};
 ghost use Rattle.t800.specs.State.{writer, reader};
 ghost use Rattle.t800.specs.WriteHeader.{contribution};

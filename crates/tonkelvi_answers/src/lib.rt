@@ -1,4 +1,6 @@
 // The answer words of the exported calls, stored in the list that is lent for them.
+#![tactic(auto)]
+
 ghost use Rattle.std.specs.Prelude.{◌≡◌, [], ◌∷◌, length};
 
 pub fn put_one(answer: &mut [u64], a: u64)

@@ -1,4 +1,6 @@
 // The bands of an exported start, from nine words, and the length of the state that it asks for.
+#![tactic(auto)]
+
 ghost use Rattle.std.specs.Prelude.{◌≡◌, ◌<◌, length};
 ghost use Rattle.t800.specs.State.{bands};
 ghost use Rattle.t800.specs.Exports.{band_in, bands_in, state_length_of};

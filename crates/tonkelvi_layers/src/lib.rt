@@ -1,4 +1,6 @@
 // Writing a layer with the lent list of answer words.
+#![tactic(auto)]
+
 ghost use Rattle.std.specs.Prelude.{◌≡◌};
 ghost use Rattle.t800.specs.WriteHeader.{contribution};
 ghost use Rattle.t800.specs.Exports.{write_layer_call};

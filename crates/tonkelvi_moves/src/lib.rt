@@ -1,4 +1,6 @@
 // Headers gathered in front and spread back, with the lent list of answer words.
+#![tactic(auto)]
+
 ghost use Rattle.std.specs.Prelude.{◌≡◌};
 ghost use Rattle.t800.specs.Exports.{gather_call, spread_call};
 

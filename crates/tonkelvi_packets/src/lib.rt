@@ -1,4 +1,6 @@
 // Measuring and writing with the lent list of answer words.
+#![tactic(auto)]
+
 ghost use Rattle.std.specs.Prelude.{◌≡◌};
 ghost use Rattle.t800.specs.WriteHeader.{contribution};
 ghost use Rattle.t800.specs.Exports.{measure_call, write_call};

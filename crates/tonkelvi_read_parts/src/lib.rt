@@ -1,4 +1,6 @@
 // The exported read but for its structs: the read on the work list, and the lent list of answer words.
+#![tactic(auto)]
+
 ghost use Rattle.std.specs.Prelude.{◌≡◌};
 ghost use Rattle.t800.specs.Reports.{as_words};
 ghost use Rattle.t800.specs.Packet.{read_result};

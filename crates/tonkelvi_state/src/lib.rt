@@ -1,4 +1,6 @@
 // What a lent state is: its role, next layer and number of blocks (tonkelvi_describe).
+#![tactic(auto)]
+
 ghost use Rattle.std.specs.Prelude.{◌≡◌, true, length};
 ghost use Rattle.t800.specs.State.{bands, blocks};
 ghost use Rattle.t800.specs.Exports.{any_state, describe_call};

@@ -1,6 +1,8 @@
 // Runs lists of packet calls and compares every answer. Its arguments name the lists, files of data/ that tools/make_vectors.py wrote: most
 // answers are those of crate openjp2 0.6.1's own code; those of refusals that the crate has not, of layers from 999 on, and of packets
 // written without passes are by the scope (docs/SCOPE.md) alone.
+#![tactic(auto)]
+
 ghost use Rattle.std.specs.Prelude.{◌≡◌, ◌≤◌, length};
 ghost use Rattle.io.specs.Counts.{IsPrefixLen};
 

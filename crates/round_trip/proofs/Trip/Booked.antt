@@ -51,8 +51,8 @@ layer-booked L ws v (k ∷ ks) [] f b = b
 layer-booked L ws v (k ∷ ks) (e ∷ es) f b =
     let P = f.0.0 in
     let K = b.0 in
-    let z = (L.Node-in zero_planes (leaf_of zero_planes k) (leaf_node L zero_planes k P)).0 in
-    let i = (L.Node-in inclusion (leaf_of inclusion k) (leaf_node L inclusion k P)).0 in
+    let z = (L.node_in zero_planes (leaf_of zero_planes k) (leaf_node L zero_planes k P)).0 in
+    let i = (L.node_in inclusion (leaf_of inclusion k) (leaf_node L inclusion k P)).0 in
     let a = (L.block_in k.at P.block).0 in (
       record {
         passes = get_or-set_other ws 3 k.at v 0 (omega arith) ∙ K.passes;

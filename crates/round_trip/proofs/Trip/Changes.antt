@@ -42,7 +42,7 @@ module _ (L : Layout) (ws vs : List ℕ) (o : NodesOnly L ws vs) where
   )
 
   pub first_stays : (i : ℕ) → i < 13 → get_or vs i 0 ≡ get_or ws i 0
-  first_stays i h = o i (λ t a n. let q = (L.Node-in t a n).0 in omega arith)
+  first_stays i h = o i (λ t a n. let q = (L.node_in t a n).0 in omega arith)
 
 -- ---- a change of one block alone
 

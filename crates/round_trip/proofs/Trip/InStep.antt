@@ -93,7 +93,7 @@ layer-in_step L s ws rs v y =
     word xs i h = get_or-set_other xs 3 i v 0 (omega arith)
 
     node_same : (xs : List ℕ) (t : Tree) (a : ℕ) → L.Node t a → node_at (set xs 3 v) a ≡ node_at xs a
-    node_same xs t a n = let h = (L.Node-in t a n).0 in
+    node_same xs t a n = let h = (L.node_in t a n).0 in
         λ i. record { value = word xs a h i; low = word xs (a + 1) (omega arith) i; known = word xs (a + 2) (omega arith) i }
 
     block_same : (xs : List ℕ) (p : ℕ) → L.BlockAt p → SameBlock xs (set xs 3 v) p

@@ -39,7 +39,7 @@ module _ (L : Layout) (v : ℕ) (rs : List ℕ) (u : Tree) where
   store_sync ws a wl n h lo y t b m =
       on-eq b a
       (λ e. let n₂ : L.Node t a = subst (L.Node t) e m in
-      rw e (lowered_sync v (node_at (set ws a v) a) (get_or-set_same ws a v 0 (omega (arith, (L.Node-in u a n).1)))
+      rw e (lowered_sync v (node_at (set ws a v) a) (get_or-set_same ws a v 0 (omega (arith, (L.node_in u a n).1)))
       (get_or-set_other ws a (a + 1) v 0 (omega arith)) (get_or-set_other ws a (a + 2) v 0 (omega arith)) h lo (y t a n₂)))
       (λ e. let p = L.nodes-apart t u b a m n e in
       let same : node_at (set ws a v) b ≡ node_at ws b = λ i. record {
@@ -111,7 +111,7 @@ module _ (L : Layout) (u : Tree) where
       → value (set_value (tree_of u k) k.path v ws) (leaf_of u k) ≡ v
   leaf_holds k P v ws wl h =
       subst (λ (z : List ℕ). value (set_value (tree_of u k) z v ws) (leaf_of u k) ≡ v) (sym P.path_is)
-      (leaf_is_set (tree_of u k) k.leaf P.above v ws (omega (arith, (L.Node-in u (leaf_of u k) (leaf_node L u k P)).1))
+      (leaf_is_set (tree_of u k) k.leaf P.above v ws (omega (arith, (L.node_in u (leaf_of u k) (leaf_node L u k P)).1))
       (P.path u).leaf_once h)
 
 -- a step for each block and its number

@@ -38,7 +38,7 @@ all_clear : (L : Layout) (t : Tree) (i : ℕ) (xs : List ℕ) → OffNodes L i �
 all_clear L t i xs f h = all_so (L.Node t) (Clear i) xs (f t) h
 
 inside : (L : Layout) (t : Tree) (n : ℕ) (xs : List ℕ) → n ≡ L.size → All (L.Node t) xs → All (λ a. a + 3 ≤ n) xs
-inside L t n xs e h = all_so (L.Node t) (λ a. a + 3 ≤ n) xs (λ a m. omega (arith, (L.Node-in t a m).1)) h
+inside L t n xs e h = all_so (L.Node t) (λ a. a + 3 ≤ n) xs (λ a m. omega (arith, (L.node_in t a m).1)) h
 
 -- ---- what coding a path keeps
 

@@ -113,14 +113,14 @@ module _ (L : Layout) (v : ℕ) where
   unfolding set_value
   keeps_order t base n [] ws l b c o =
       let j : ℕ = base + 3 * n in
-      let i = (L.Node-in t j b.0).1 in
+      let i = (L.node_in t j b.0).1 in
       on-lt v (value ws j)
       (λ h. rw (lowers base n [] v ws h)
       (but_none (L.parent j) (set ws j v) (rw c (le_of_eq (get_or-set_same ws j v 0 (omega arith)))) (but_parent j ws (omega arith) h o)))
       (λ h. rw (ends base n [] v ws h) (but_none j ws h o))
   keeps_order t base n (m ∷ ms) ws l b c o =
       let j : ℕ = base + 3 * n in
-      let i = (L.Node-in t j b.0).1 in
+      let i = (L.node_in t j b.0).1 in
       on-lt v (value ws j)
       (λ h. rw (lowers base n (m ∷ ms) v ws h)
       (keeps_order t base m ms (set ws j v) (length-set ws j v ∙ l) b.1 c.1 (rw c.0 (but_parent j ws (omega arith) h o))))
