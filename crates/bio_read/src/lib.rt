@@ -9,20 +9,20 @@ ghost use Rattle.bio_read.specs.Reading.{decoded, bit_read};
 use t800::{Bio, REACH};
 
 // A number that was read, and where reading goes on.
-#[derive(Drop)]
+#[derive(Clone, Copy)]
 pub struct Decoded {
     pub value: u32,
     pub bio: Bio,
 }
 
 // A bit, and whether it lay past the input's end.
-#[derive(Drop)]
+#[derive(Clone, Copy)]
 pub struct Bit {
     pub value: u32,
     pub past: bool,
 }
 
-#[derive(Drop)]
+#[derive(Clone, Copy)]
 pub struct BitRead {
     pub bit: Bit,
     pub bio: Bio,

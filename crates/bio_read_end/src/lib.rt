@@ -9,7 +9,7 @@ ghost use Rattle.bio_read_end.specs.HeaderEnd.{aligned_at};
 use t800::Bio;
 
 // Whether the header ends within the input, and where.
-#[derive(Drop)]
+#[derive(Clone, Copy)]
 pub struct Aligned {
     pub ok: bool,
     pub bio: Bio,

@@ -16,7 +16,7 @@ use t800::{Markers, Refusal};
 const MOST_HEADERS: usize = 256 * 65532;
 
 // Where a move stands: bytes of the row taken, header bytes and other bytes put; or a refusal.
-#[derive(Drop)]
+#[derive(Clone, Copy)]
 pub struct Moved {
     pub refusal: u32,
     pub taken: usize,

@@ -10,7 +10,7 @@ ghost use Rattle.t2_layer_parts.specs.Front.{FrontIs, lists_of, rest, PutInFront
 use t800::{Markers, Refusal, WriteAnswer};
 
 // A refusal; or 0, and then how much of the lists it has: words of the states, blocks, passes, body bytes, and bytes of the output.
-#[derive(Drop)]
+#[derive(Clone, Copy)]
 pub struct Front {
     pub refusal: u32,
     pub words: usize,
@@ -21,7 +21,7 @@ pub struct Front {
 }
 
 // Counts, lengths and marks that it asks for, or as many as there are; and what these counts add up to.
-#[derive(Drop)]
+#[derive(Clone, Copy)]
 struct Lists {
     counts: usize,
     lengths: usize,

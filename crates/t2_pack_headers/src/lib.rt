@@ -15,7 +15,7 @@ const MOST_OF_ALL: usize = 256 * MOST_BYTES;
 const FRONT: usize = 5;
 
 // How many header bytes are put, where the next one goes, and how many more the last segment takes.
-#[derive(Drop)]
+#[derive(Clone, Copy)]
 struct Place {
     count: usize,
     at: usize,

@@ -10,7 +10,7 @@ use t800::{Bio, Markers, ReadAnswer};
 use tcd_style::Marker;
 
 // Bytes to skip, and the mark: 0 in order or not used, 1 too few bytes, 2 not found.
-#[derive(Drop)]
+#[derive(Clone, Copy)]
 pub struct MarkerFound {
     pub skip: usize,
     pub mark: u32,

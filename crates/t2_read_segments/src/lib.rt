@@ -10,7 +10,7 @@ use t800::{Bio, Refusal};
 use tcd_style::Style;
 
 // The segment that a block's next passes go into: 1 if they open it, its limit, the passes that it has.
-#[derive(Drop)]
+#[derive(Clone, Copy)]
 pub struct Segment {
     pub opens: u32,
     pub limit: u32,
@@ -18,7 +18,7 @@ pub struct Segment {
 }
 
 // Where the bits stand, how many records there are and may be, the sum of their lengths modulo 2^64, and the refusal, or 0.
-#[derive(Drop)]
+#[derive(Clone, Copy)]
 pub struct Run {
     pub bio: Bio,
     pub count: usize,

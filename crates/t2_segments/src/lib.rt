@@ -6,7 +6,7 @@ ghost use Rattle.t800.specs.Segments.{segments_of, width, bit_length, increment}
 ghost use Rattle.t2_segments.specs.Segments.{segment, first_segment, PassLists, bits_before, any_too_long};
 
 // Passes that one length field stands for.
-#[derive(Drop)]
+#[derive(Clone, Copy)]
 pub struct CodedSegment {
     pub passes: u32,
     pub bytes: u64,

@@ -18,20 +18,20 @@ use t800::{Markers, Refusal};
 use tcd_style::Marker;
 
 // The packet's parts, and the header byte with which the window begins.
-#[derive(Drop)]
+#[derive(Clone, Copy)]
 pub struct SkippedGathered {
     pub parts: Skipped,
     pub base: usize,
 }
 
-#[derive(Drop)]
+#[derive(Clone, Copy)]
 struct FirstBit {
     pub value: u32,
     pub stand: InWindow,
 }
 
 // Whether the header doesn't end in a byte FF with the last header byte, and its bytes with EPH.
-#[derive(Drop)]
+#[derive(Clone, Copy)]
 struct HeaderEnd {
     pub ok: bool,
     pub bytes: usize,

@@ -12,7 +12,7 @@ use t800::Bio;
 // Room for every record that a packet can have: 164 a block, 12,288 blocks.
 pub const ROOM_FOR_ALL: usize = 2_015_232;
 
-#[derive(Drop)]
+#[derive(Clone, Copy)]
 pub struct Skipped {
     pub bio: Bio,
     pub bytes: u64,

@@ -15,7 +15,7 @@ use t800::{Bio, Markers, Refusal};
 use tcd_style::Marker;
 
 // Bytes of SOP, of the header with EPH, and of the body.
-#[derive(Drop)]
+#[derive(Clone, Copy)]
 pub struct Skipped {
     pub refusal: u32,
     pub sop: usize,

@@ -21,7 +21,7 @@ use tcd_places::Grid;
 pub const LAST_PLACE: usize = 21504;
 
 // A reading whose bits are counted from the window's first byte, and which header byte that is.
-#[derive(Drop)]
+#[derive(Clone, Copy)]
 pub struct InWindow {
     pub run: Run,
     pub base: usize,
@@ -152,7 +152,7 @@ fn next_block(
 // ---- several
 
 // A block's column and row in its band.
-#[derive(Drop)]
+#[derive(Clone, Copy)]
 struct At {
     x: usize,
     y: usize,

@@ -14,7 +14,7 @@ use t800::{Markers, Refusal};
 
 // Where a move stands: header bytes and other bytes taken, bytes of the row put, the window's first header byte, and the segment of the
 // last header; or a refusal.
-#[derive(Drop)]
+#[derive(Clone, Copy)]
 pub struct Moved {
     pub refusal: u32,
     pub headers: usize,

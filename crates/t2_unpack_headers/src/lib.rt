@@ -14,14 +14,14 @@ use t800::Refusal;
 const FRONT: usize = 5;
 
 // What the segments hold: a refusal or 0, and how many header bytes.
-#[derive(Drop)]
+#[derive(Clone, Copy)]
 pub struct Plain {
     pub refusal: u32,
     pub bytes: usize,
 }
 
 // A segment's place in the list, and the header bytes before it.
-#[derive(Drop)]
+#[derive(Clone, Copy)]
 pub struct Cursor {
     pub at: usize,
     pub before: usize,

@@ -16,7 +16,7 @@ use t800::Bio;
 use tcd_places::Place;
 
 // Where the bits stand, and how many blocks and passes of the caller's lists are done.
-#[derive(Drop)]
+#[derive(Clone, Copy)]
 pub struct Run {
     pub bio: Bio,
     pub block: usize,

@@ -13,7 +13,7 @@ use t800::Bio;
 pub mod pass_codes;
 
 // The low `len` bits of `value`.
-#[derive(Drop)]
+#[derive(Clone, Copy)]
 struct Codeword {
     value: u32,
     len: u32,

@@ -12,7 +12,7 @@ use t2_segments::CodedSegment;
 use t800::Bio;
 
 // A block's new length bits, and where the bits stand.
-#[derive(Drop)]
+#[derive(Clone, Copy)]
 pub struct LengthsPut {
     pub bits: u32,
     pub bio: Bio,

@@ -2,7 +2,7 @@
 #![tactic(auto)]
 
 // Where the bits of a header stand: the next byte's place, the held word, and how many of its low bits are still to be read or free.
-#[derive(Drop)]
+#[derive(Clone, Copy)]
 pub struct Bio {
     pub bp: usize,
     pub buf: u32,
@@ -13,14 +13,14 @@ pub struct Bio {
 pub const REACH: usize = 0x100_0000_0000;
 
 // One level of a tag tree: nodes across and down.
-#[derive(Drop)]
+#[derive(Clone, Copy)]
 pub struct Level {
     pub w: u32,
     pub h: u32,
 }
 
 // One band of the precinct: code-blocks across and down, and bit-planes.
-#[derive(Drop)]
+#[derive(Clone, Copy)]
 pub struct Band {
     pub across: u32,
     pub down: u32,
@@ -28,35 +28,35 @@ pub struct Band {
 }
 
 // Whether SOP and EPH are used.
-#[derive(Drop)]
+#[derive(Clone, Copy)]
 pub struct Markers {
     pub sop: bool,
     pub eph: bool,
 }
 
 // The answers. `refusal` is a number of SCOPE S4, or 0; all else is 0 where it isn't.
-#[derive(Drop)]
+#[derive(Clone, Copy)]
 pub struct MeasureAnswer {
     pub refusal: u32,
     pub header: u64,
     pub body: u64,
 }
 
-#[derive(Drop)]
+#[derive(Clone, Copy)]
 pub struct WriteAnswer {
     pub refusal: u32,
     pub bytes: u64,
 }
 
 // `place` is that of the precinct refused, and 0 with a success.
-#[derive(Drop)]
+#[derive(Clone, Copy)]
 pub struct LayerAnswer {
     pub refusal: u32,
     pub place: u64,
     pub bytes: u64,
 }
 
-#[derive(Drop)]
+#[derive(Clone, Copy)]
 pub struct ReadAnswer {
     pub refusal: u32,
     pub present: u32,
@@ -68,7 +68,7 @@ pub struct ReadAnswer {
 }
 
 // `headers` counts bytes of the gathered headers, `taken` those of the input beside them.
-#[derive(Drop)]
+#[derive(Clone, Copy)]
 pub struct ReadGatheredAnswer {
     pub refusal: u32,
     pub present: u32,
@@ -80,7 +80,7 @@ pub struct ReadGatheredAnswer {
     pub past: u64,
 }
 
-#[derive(Drop)]
+#[derive(Clone, Copy)]
 pub struct GatherAnswer {
     pub refusal: u32,
     pub headers: u64,
@@ -89,7 +89,7 @@ pub struct GatherAnswer {
 
 // A segment's record: block number; 1 if it opens a segment, else 0; passes; length; how many of the packet's body bytes lie before it.
 #[repr(C)]
-#[derive(Drop)]
+#[derive(Clone, Copy)]
 pub struct SegmentRecord {
     pub block: u32,
     pub opens: u32,
@@ -99,7 +99,7 @@ pub struct SegmentRecord {
 }
 
 // The refusals of SCOPE S4.
-#[derive(Drop)]
+#[derive(Clone, Copy)]
 pub struct Refusal {
     pub number: u32,
 }

@@ -12,7 +12,7 @@ use t800::Band;
 use tcd_style::Style;
 
 // The limits that a style gives: of a first segment, and of one after a limit 2 and any other.
-#[derive(Drop)]
+#[derive(Clone, Copy)]
 pub struct Limits {
     pub first: u32,
     pub second: u32,

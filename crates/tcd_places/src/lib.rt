@@ -9,7 +9,7 @@ ghost use Rattle.tcd_places.specs.Places.{place_at, grid_of, row_place};
 use t800::Band;
 
 // Where a block stands: its two trees, their depth, its column in them, its own words.
-#[derive(Drop)]
+#[derive(Clone, Copy)]
 pub struct Place {
     pub incl: usize,
     pub zero: usize,
@@ -19,7 +19,7 @@ pub struct Place {
 }
 
 // Where a band's words begin, the nodes and levels of one of its trees, its blocks across.
-#[derive(Drop)]
+#[derive(Clone, Copy)]
 pub struct Grid {
     pub start: usize,
     pub nodes: usize,

@@ -7,14 +7,14 @@ ghost use Rattle.t800.specs.Gathered.{states_in, bad_states, state_at};
 ghost use Rattle.tcd_states.specs.States.{start_of, AllValid, counted, Indexed};
 
 // How many states there are; 0 where one is out of range.
-#[derive(Drop)]
+#[derive(Clone, Copy)]
 pub struct Counted {
     pub ok: bool,
     pub count: usize,
 }
 
 // Where a state begins, and how many words it has.
-#[derive(Drop)]
+#[derive(Clone, Copy)]
 pub struct Found {
     pub start: usize,
     pub words: usize,

@@ -8,7 +8,7 @@ ghost use Rattle.t800.specs.Ranges.{bad_style};
 // ---- style bits and marker bytes
 
 // A code-block style (T.800, Table A.19).
-#[derive(Drop)]
+#[derive(Clone, Copy)]
 pub struct Style {
     pub bits: u32,
 }
@@ -74,7 +74,7 @@ impl Style {
 }
 
 // A marker in a packet (T.800, A.8): the byte after its first, and its bytes with all that belongs to it.
-#[derive(Drop)]
+#[derive(Clone, Copy)]
 pub struct Marker {
     pub second: u8,
     pub bytes: usize,

@@ -7,7 +7,7 @@ ghost use Rattle.tgt.specs.Path.{row_over, leaf_word, PathIn, SmallLevels};
 use t800::{Bio, Level};
 
 // What a node leaves to the next: its low, and where the bits stand.
-#[derive(Drop)]
+#[derive(Clone, Copy)]
 pub struct AfterNode {
     pub low: u32,
     pub bio: Bio,

@@ -11,7 +11,7 @@ use t800::Bio;
 use tgt::AfterNode;
 
 // A node's value and low after a read, and where reading goes on.
-#[derive(Drop)]
+#[derive(Clone, Copy)]
 struct NodeRead {
     value: u32,
     low: u32,
@@ -19,7 +19,7 @@ struct NodeRead {
 }
 
 // Whether the leaf's value lies below the threshold, and where reading goes on.
-#[derive(Drop)]
+#[derive(Clone, Copy)]
 pub struct LeafRead {
     pub below: bool,
     pub bio: Bio,

@@ -11,7 +11,7 @@ use t800::{Band, Markers, MeasureAnswer, ReadAnswer, WriteAnswer};
 // ---- a list: its bytes, as tools/make_vectors.py says them
 
 // A number of the list, and the place after it.
-#[derive(Drop)]
+#[derive(Clone, Copy)]
 struct Taken {
     value: u64,
     next: usize,
@@ -93,7 +93,7 @@ fn to_byte(n: u64) -> u8 {
 }
 
 // A number of a row, how often it comes again, and the place after it.
-#[derive(Drop)]
+#[derive(Clone, Copy)]
 struct Repeated {
     value: u64,
     left: u64,
@@ -198,7 +198,7 @@ fn fill_body(to: &mut [u8]) {
 // ---- comparing
 
 // The place in the list after what was compared, and whether all was as listed.
-#[derive(Drop)]
+#[derive(Clone, Copy)]
 struct Compared {
     next: usize,
     good: bool,
@@ -329,7 +329,7 @@ fn bytes_room(value: u8) -> [u8; 4000]
 }
 
 // A list in its room, of which it takes the first so many.
-#[derive(Drop)]
+#[derive(Clone, Copy)]
 struct Scratch {
     words: [u32; 147463],
     size: usize,
@@ -343,7 +343,7 @@ fn scratch_of(n: u64) -> Scratch
     Scratch { words, size }
 }
 
-#[derive(Drop)]
+#[derive(Clone, Copy)]
 struct Reports {
     words: [u32; 49152],
     size: usize,
@@ -357,7 +357,7 @@ fn reports_of(n: u64, value: u32) -> Reports
     Reports { words, size }
 }
 
-#[derive(Drop)]
+#[derive(Clone, Copy)]
 struct Bytes {
     bytes: [u8; 4000],
     size: usize,
@@ -412,7 +412,7 @@ fn markers_of(n: u64) -> Markers {
 // ---- the lists of a call
 
 // A row, of which so many words are in use, and the place after it.
-#[derive(Drop)]
+#[derive(Clone, Copy)]
 struct Words {
     words: [u32; 49152],
     size: usize,
@@ -432,7 +432,7 @@ fn row(list: &[u8], at: usize) -> Words
 }
 
 // Where bytes stand in the list.
-#[derive(Drop)]
+#[derive(Clone, Copy)]
 struct Part {
     from: usize,
     to: usize,
@@ -454,7 +454,7 @@ fn part_at(list: &[u8], at: usize) -> Part
 // ---- start
 
 // What a start was asked besides its lists.
-#[derive(Drop)]
+#[derive(Clone, Copy)]
 struct Begun {
     role: u32,
     count: u32,
@@ -463,7 +463,7 @@ struct Begun {
 }
 
 // A band, and the row after it.
-#[derive(Drop)]
+#[derive(Clone, Copy)]
 struct BandTaken {
     band: Band,
     row: Repeated,
@@ -482,7 +482,7 @@ fn band(list: &[u8], r: Repeated) -> BandTaken {
 }
 
 // Three bands, and the place after them.
-#[derive(Drop)]
+#[derive(Clone, Copy)]
 struct BandsTaken {
     bands: [Band; 3],
     next: usize,
@@ -536,7 +536,7 @@ fn start_in(list: &[u8], at: usize, begun: Begun, state: &mut [u32]) -> Compared
 // ---- measure and write
 
 // What a packet call was asked besides its lists, the words of scratch, and the place after these.
-#[derive(Drop)]
+#[derive(Clone, Copy)]
 struct Asked {
     kind: u64,
     markers: Markers,
@@ -825,7 +825,7 @@ fn packet_call(list: &[u8], at: usize, kind: u64, state: &mut [u32]) -> Compared
 }
 
 // The place after a call, the words of the state in use, and whether it had an answer, as listed.
-#[derive(Drop)]
+#[derive(Clone, Copy)]
 struct Done {
     next: usize,
     words: usize,
@@ -861,7 +861,7 @@ fn poke(list: &[u8], at: usize, words: usize, state: &mut [u32]) -> Done {
 }
 
 // What a start was asked, the words of the state, and the place after.
-#[derive(Drop)]
+#[derive(Clone, Copy)]
 struct Opening {
     begun: Begun,
     words: u64,
@@ -925,7 +925,7 @@ fn call(list: &[u8], at: usize, words: usize, state: &mut [u32]) -> Done {
 }
 
 // How many answers were as listed, of how many, and whether the lists were there and whole.
-#[derive(Drop)]
+#[derive(Clone, Copy)]
 struct Score {
     good: u64,
     of: u64,
