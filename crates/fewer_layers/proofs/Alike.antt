@@ -189,8 +189,8 @@ module _ (m n : ℕ) (more : m ≤ n) (ws scratch : List ℕ) (below : layer ws 
     read-refusal_same v =
         ap₂ (λ (cs : List Check) (given : List Band). first_of (cs ++ list_checks given)) (state_checks_same reader v) (bands-same m n bs ws)
 
-    abbrev read_as : ReadResult form → ReadResult form
-    read_as o = record {
+    abbrev replaced_read : ReadResult form → ReadResult form
+    replaced_read o = record {
       answer = o.answer;
       state = replaced m n o.state;
       scratch = replaced_if_accepted m n o.answer.refusal o.scratch;
@@ -214,29 +214,29 @@ module _ (m n : ℕ) (more : m ≤ n) (ws scratch : List ℕ) (below : layer ws 
         ∙ sym (replaced-as m n bs (set us 3 t) (bands-kept_then_layer t k₁))
 
     absent-as : (sop : MarkerRead) (b : Bio)
-        → read_absent form vs k src reports records sop b ≡ read_as (read_absent form ws k src reports records sop b)
+        → read_absent form vs k src reports records sop b ≡ replaced_read (read_absent form ws k src reports records sop b)
     unfolding read_absent
     absent-as sop b = rw (layer-set ws (kept 13))
 
     present_as : (sop : MarkerRead) → header.refusal ≡ 0
-        → read_present form vs k src records sop (replaced_header m n bs header) ≡ read_as (read_present form ws k src records sop header)
+        → read_present form vs k src records sop (replaced_header m n bs header) ≡ replaced_read (read_present form ws k src records sop header)
     unfolding read_present
     present_as sop z =
         rw (layer-set header.words (header_read src (form.room records) ws (first_bit k src).bio z))
 
-    read_as : few_valid reader ≡ true → read_with n form vs scratch k src reports records ≡ read_as few
+    read_as : few_valid reader ≡ true → read_with n form vs scratch k src reports records ≡ replaced_read few
     unfolding read_with
     read_as v =
         let why : ℕ = read_refusal_with m ws scratch reports in
         let why₂ : ℕ = read_refusal_with n vs scratch reports in
         let same : why₂ ≡ why = read-refusal_same v in
         let bit : ℕ = (first_bit k src).value in
-        choice-by read_as (not (eqb why 0)) (not (eqb why₂ 0)) _ _ _ _ (ap (λ (z : ℕ). not (eqb z 0)) same)
+        choice-by replaced_read (not (eqb why 0)) (not (eqb why₂ 0)) _ _ _ _ (ap (λ (z : ℕ). not (eqb z 0)) same)
         (λ t. rw (same, not-true (eqb why 0) t, state_as))
-        (λ f. choice-by read_as (eqb bit 0) (eqb bit 0) _ _ _ _ refl
+        (λ f. choice-by replaced_read (eqb bit 0) (eqb bit 0) _ _ _ _ refl
         (λ t. absent-as (read_sop k src) (first_bit k src).bio)
         (λ g. rw header_same
-        (choice-by read_as (eqb header.refusal 0) (eqb header.refusal 0) _ _ _ _ refl
+        (choice-by replaced_read (eqb header.refusal 0) (eqb header.refusal 0) _ _ _ _ refl
         (λ t. present_as (read_sop k src) (eqb-true header.refusal 0 t))
         (λ h. rw (h, state_as)))))
 

@@ -10,7 +10,6 @@ use lib.Dec.{ltb, eqb}
 use borrow.Author.Tests.{lt-leb}
 use Rattle.t800.specs.declared.Bio.{Bio}
 use Rattle.t800.specs.Bits.{get_bit, ends_in_ff}
-use Rattle.t800.specs.TagTree.{value}
 use Rattle.t800.specs.Segments.{width}
 use Rattle.t800.specs.State.{Block, blocks, bands, layer, length_bits}
 use Rattle.t800.specs.WriteHeader.{is_new}

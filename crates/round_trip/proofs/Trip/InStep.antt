@@ -7,7 +7,6 @@ use Prim.Native.Nat.{ℕ, ◌+◌, ◌≤◌}
 use native.Mathlib.Omega.{arith}
 use lib.ListN.{length, get_or, set, length-set}
 use lib.Seq.{get_or-set_other}
-use Rattle.t800.specs.TagTree.{value}
 use Rattle.t800.specs.State.{style, passes_so_far, length_bits, segment_limit, segment_passes}
 use Rattle.t800_laws.proofs.Laws.Tests.{on-eq}
 use Rattle.t800_laws.proofs.Laws.Layout.{Tree, not_yet, Layout}

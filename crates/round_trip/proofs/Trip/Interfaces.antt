@@ -22,7 +22,7 @@ use Rattle.t800.specs.RoundTrip.{Follows, Accepted, book_of, RoundTrip, WriterIn
 use Rattle.t800_laws.proofs.Laws.Tests.{if-true, if-false}
 use Rattle.t800_laws.proofs.Laws.Checks.{on_bool}
 use Rattle.t800_laws.proofs.Laws.Accepted.{start-accepted}
-use Rattle.round_trip.proofs.Trip.Lists.{WriterCall, writing, accepted, state_after, owed_for, owed, all_terminated_as_style}
+use Rattle.round_trip.proofs.Trip.Lists.{WriterCall, writing, state_after, owed_for, owed, all_terminated_as_style}
 use Rattle.round_trip.proofs.Trip.Lists.{ReaderCall, refused_read, packet_read, ReadsAsOwed}
 use Rattle.round_trip.proofs.Trip.WriterInRange.{calls-in_range}
 use Rattle.round_trip.proofs.Trip.RoundTrip.{all_packets_read}

@@ -50,8 +50,8 @@ at_threshold s v l b = refl
 
 -- what the writer's closed forms come to
 module _ (t l : ℕ) (n : Node) where
-  pub puts_one : n.known ≡ 0 → low_out t l n < t → puts_one t l n ≡ true
-  puts_one k h = cc (lt-ltb (low_out t l n) t h, eq-eqb n.known 0 k)
+  pub puts_one-true : n.known ≡ 0 → low_out t l n < t → puts_one t l n ≡ true
+  puts_one-true k h = cc (lt-ltb (low_out t l n) t h, eq-eqb n.known 0 k)
 
   pub puts_none : t ≤ low_out t l n → puts_one t l n ≡ false
   puts_none h = cc (le-ltb (low_out t l n) t h)
@@ -111,7 +111,7 @@ node_sync mark s t l b e n m ht hl (not_known k mv ml nl nv mk) r =
     on-lt n.value t
     (λ h. let w : low_out t l n ≡ n.value = omega arith in
     let d : t - L ≡ Z + suc (t - n.value - 1) = cc (lt_gap t n.value A h a≤) in
-    let y : puts_one t l n ≡ true = puts_one t l n k (omega arith) in
+    let y : puts_one t l n ≡ true = puts_one-true t l n k (omega arith) in
     let yy : ltb (low_out t l n) t ≡ true = lt-ltb (low_out t l n) t (omega arith) in
     let r₁ : Reads s b (replicate Z 0 ++ (1 ∷ [])) e = rw y at r in
     let g : L + Z ≡ n.value = cc (lt_sum n.value A a≤) in

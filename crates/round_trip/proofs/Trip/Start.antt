@@ -9,7 +9,6 @@ use lib.ListN.{length, get_or, take, drop, length-append, length-drop}
 use lib.Dec.{ltb}
 use borrow.Author.Tests.{ltb-false}
 use Rattle.t800.specs.declared.Band.{Band}
-use Rattle.t800.specs.TagTree.{value, low}
 use Rattle.t800.specs.State.{Block, blocks_in, band_length, blocks_from, blocks_at, blocks, style, passes_so_far}
 use Rattle.t800.specs.Ranges.{bad_shape, band_too_deep, block_too_deep}
 use Rattle.t800.specs.Start.{fresh_state, fresh_state_with, set_zero_planes}

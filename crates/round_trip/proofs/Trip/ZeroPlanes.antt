@@ -165,7 +165,7 @@ module _ (i j l : ℕ) (n : Node) (h : i ≤ n.value) (g : i ≤ j) where
 
 -- ---- a path
 
-pub lower_then_higher : (i j l : ℕ) {mark : ℕ} {ns ms : List Node} → i ≤ j → Increasing l ns → AllSync mark ns ms
+pub lower_then_higher : {mark : ℕ} (i j l : ℕ) {ns ms : List Node} → i ≤ j → Increasing l ns → AllSync mark ns ms
     → (bits_of_path i l ns ++ bits_of_path j l (nodes_after i l ns) ≡ bits_of_path j l ns)
     × (nodes_after j l (nodes_after i l ns) ≡ nodes_after j l ns)
 unfolding bits_of_path nodes_after
@@ -208,7 +208,7 @@ increasing_leaf l [] c = le_refl l
 increasing_leaf l (n ∷ ns) c = le_trans c.0 (increasing_leaf n.value ns c.1)
 
 -- the leaf's value lies below the threshold: a higher one does the same
-pub above_leaf : (i j l : ℕ) {mark : ℕ} {ns ms : List Node} → i ≤ j → Increasing l ns → AllSync mark ns ms → leaf_value l ns < i
+pub above_leaf : {mark : ℕ} (i j l : ℕ) {ns ms : List Node} → i ≤ j → Increasing l ns → AllSync mark ns ms → leaf_value l ns < i
     → (bits_of_path i l ns ≡ bits_of_path j l ns) × (nodes_after i l ns ≡ nodes_after j l ns)
 unfolding bits_of_path nodes_after
 above_leaf i j l g c nil h = (refl, refl)
@@ -256,7 +256,7 @@ sync_known : {mark : ℕ} {n m : Node} → n.known ≡ 1 → Sync mark n m → m
 sync_known h (is_known k mv ml nl nv mk) = mv
 sync_known h (not_known k mv ml nl nv mk) = absurd (omega arith)
 
-leaf_known : (i l v w : ℕ) {mark : ℕ} {ns ms os : List Node} → Increasing l ns → AllSync mark ns ms
+leaf_known : {mark : ℕ} (i l v w : ℕ) {ns ms os : List Node} → Increasing l ns → AllSync mark ns ms
     → AllSync mark (nodes_after i l ns) os → leaf_value v ns < i → w ≡ v → leaf_value w os ≡ leaf_value v ns
 unfolding nodes_after
 leaf_known i l v w c nil nil h e = e

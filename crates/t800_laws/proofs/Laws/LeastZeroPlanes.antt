@@ -29,6 +29,7 @@ In a [] = ⊥
 In a (b ∷ bs) = (a ≡ b) ⊎ In a bs
 
 all_in : (P : ℕ → Type 0) (a : ℕ) (xs : List ℕ) → All P xs → In a xs → P a
+all_in P a [] h e = elim e [ ]
 all_in P a (x ∷ xs) h (inl e) = subst P (sym e) h.0
 all_in P a (x ∷ xs) h (inr i) = all_in P a xs h.1 i
 
@@ -89,6 +90,7 @@ leaf_below w h j b =
     )
 
 in_addresses : (base j : ℕ) (js : List ℕ) → In j js → In (base + 3 * j) (addresses base js)
+in_addresses base j [] e = elim e [ ]
 in_addresses base j (k ∷ ks) (inl e) = inl (ap (λ (z : ℕ). base + 3 * z) e)
 in_addresses base j (k ∷ ks) (inr i) = inr (in_addresses base j ks i)
 
