@@ -1,5 +1,3 @@
--- `math::opj_uint_floorlog2` meets its contract: the halvings of a number that isn't 0, its top bit and the zeros above make the width.
--- Assumes nothing.
 use mathlib.Core.Path.{◌≡◌, refl, sym, ap, ◌∙◌}
 use mathlib.Core.Bool.{Bool, true, false, cond}
 use Prim.Native.Nat.{ℕ, zero, suc, ◌+◌, ◌/◌, ◌^◌, ◌≤◌, ◌<◌}
@@ -9,15 +7,18 @@ use lib.Bits.{bit_or, or_step, or_shr, or_zero_r}
 use lib.Count.{count_leading_zeros, leading_of_zero}
 use borrow.Author.Tests.{ltb-true, ltb-false}
 use Rattle.t800.specs.Base.{halvings, floor_log2}
-use Rattle.math.proofs.opj_uint_floorlog2.Statement.{statement}
-use Rattle.math.proofs.opj_uint_floorlog2.Tie as tie
+use Rattle.math.proofs.opj_uint_floorlog2.Goals as goal
+
+-- the halvings of a number that isn't 0, its top bit and the zeros above make the width.
 
 leading-half : (k n : ℕ) → 0 < n → count_leading_zeros (suc k) n ≡ count_leading_zeros k (n / 2)
+
 unfolding count_leading_zeros
 leading-half k zero h = absurd (omega arith)
 leading-half k (suc n) h = refl
 
 leading-halvings : (k f n : ℕ) → 0 < n → n < 2 ^ k → n ≤ f → halvings f n + suc (count_leading_zeros k n) ≡ k
+
 unfolding halvings
 leading-halvings zero f n pos h l = absurd (omega arith)
 leading-halvings (suc k) zero n pos h l = absurd (omega arith)
@@ -36,6 +37,7 @@ leading-halvings (suc k) (suc f) n pos h l =
         omega (arith, rest (omega arith))
 
 -- the low bit set, no more
+
 module _ (a : ℕ) where
   odd-half : bit_or a 1 / 2 ≡ a / 2
   odd-half = or_shr a 1 1 ∙ or_zero_r (a / 2)
@@ -44,6 +46,7 @@ module _ (a : ℕ) where
   odd_pos = omega (arith, or_step a 1)
 
 floorLog2-is : (a : ℕ) → a < 2 ^ 32 → floor_log2 a + suc (count_leading_zeros 32 (bit_or a 1)) ≡ 32
+
 unfolding floor_log2 halvings count_leading_zeros
 floorLog2-is zero h = refl
 floorLog2-is (suc n) h =
@@ -52,11 +55,8 @@ floorLog2-is (suc n) h =
     ∙ sym (leading-half 31 (suc n) (omega arith)))
     ∙ leading-halvings 32 (suc n) (suc n) (omega arith) h (omega arith)
 
-sub-result : tie.Need-overflow-sub-result
-sub-result c = omega (arith, floorLog2-is c.args.a c.ranges.a.fits)
+pub overflow_sub-result : goal.overflow_sub-result
+overflow_sub-result c = omega (arith, floorLog2-is c.args.a c.ranges.a.fits)
 
-returns : tie.Need-returns
+pub returns : goal.returns
 returns c = omega (arith, floorLog2-is c.args.a c.ranges.a.fits)
-
-pub opj-uint-floorlog2-spec : {M : Type 1} → statement M
-opj-uint-floorlog2-spec = tie.close (tie.spec sub-result returns)
