@@ -1,5 +1,5 @@
-use Prim.Native.Nat.{◌-◌, ◌≤◌}
-use lib.ListN.{length, length-set}
+use Prim.Native.Nat.{◌-◌}
+use lib.ListN.{length-set}
 use lib.Seq.{sets}
 use mathlib.Core.List.{List}
 use mathlib.Core.Path.{◌∙◌, ◌≡◌, ap, refl, sym}
@@ -7,7 +7,6 @@ use native.Mathlib.Omega.{arith}
 use Rattle.t800.specs.TagTree.{levels, levels_from}
 use Rattle.t800.specs.declared.Level.{Level}
 use Rattle.tcd_laws.proofs.Laws.TreeLevels.{levels-over_none, levels-stop, stored-turn}
-use Rattle.tcd_laws.specs.Geometry.{padded}
 use Rattle.tcd_levels.proofs.levels.Goals as goal
 
 pub loop-i-init : goal.loop-i-init

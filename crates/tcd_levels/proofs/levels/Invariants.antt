@@ -1,12 +1,8 @@
 use Prim.Native.Nat.{◌-◌, ◌≤◌}
-use lib.ListN.{length, length-set}
+use lib.ListN.{length}
 use lib.Seq.{sets}
-use mathlib.Core.List.{List}
-use mathlib.Core.Path.{◌∙◌, ◌≡◌, ap, refl, sym}
-use native.Mathlib.Omega.{arith}
+use mathlib.Core.Path.{◌≡◌}
 use Rattle.t800.specs.TagTree.{levels, levels_from}
-use Rattle.t800.specs.declared.Level.{Level}
-use Rattle.tcd_laws.proofs.Laws.TreeLevels.{levels-over_none, levels-stop, stored-turn}
 use Rattle.tcd_laws.specs.Geometry.{padded}
 use Rattle.tcd_levels.proofs.levels.Given as goal
 

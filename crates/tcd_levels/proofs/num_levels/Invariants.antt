@@ -1,9 +1,7 @@
 use Prim.Native.Nat.{◌+◌, ◌-◌, ◌≤◌}
 use lib.ListN.{length}
-use mathlib.Core.Path.{◌∙◌, ◌≡◌, ap}
-use native.Mathlib.Omega.{arith}
+use mathlib.Core.Path.{◌≡◌}
 use Rattle.t800.specs.TagTree.{levels, levels_from}
-use Rattle.tcd_laws.proofs.Laws.TreeLevels.{counted-turn, levels-stop}
 use Rattle.tcd_levels.proofs.num_levels.Given as goal
 
 abbrev pub invariant-loop-i : goal.invariant-loop-i

@@ -1,8 +1,6 @@
 use Prim.Native.Nat.{◌*◌, ◌+◌, ◌-◌, ◌≤◌}
 use mathlib.Core.Path.{◌≡◌}
-use native.Mathlib.Omega.{arith}
-use Rattle.t800.specs.TagTree.{levels, levels_from, nodes, nodes_in}
-use Rattle.tcd_laws.proofs.Laws.TreeLevels.{area_up_to_4096, summed_stop, summed_turn}
+use Rattle.t800.specs.TagTree.{levels_from, nodes, nodes_in}
 use Rattle.tcd_levels.proofs.num_nodes.Given as goal
 
 abbrev pub invariant-loop-left : goal.invariant-loop-left
