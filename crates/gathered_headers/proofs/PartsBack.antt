@@ -17,7 +17,7 @@ use Rattle.bits_taken.proofs.Laws.Counting.{none_past_inside}
 use Rattle.past_end.specs.PastEnd.{last_bit}
 use Rattle.past_end.proofs.SameBits.{bits_to}
 use Rattle.past_end.proofs.SameMarkers.{sop_inside}
-use Rattle.past_end.proofs.AcceptedReads.{told_at, result, accepted, last_reached, told_at, same_told}
+use Rattle.past_end.proofs.AcceptedReads.{told_at, result, accepted, last_reached, told_at-same, same_told}
 use Rattle.gathered_headers.specs.Gathered.{gathered_read}
 use Rattle.gathered_headers.proofs.Ends.{read-end}
 use Rattle.gathered_headers.proofs.HeadersBehind.{further_on, agree, end_there, taken_there, eph_there}
@@ -58,7 +58,7 @@ same_parts_back state m row headers bodies ok sop0 eph0 past0 sops front =
     let p : Parts = parts_gathered state m headers bodies in
     let skip : p.sop ≡ s = if-eq r.answer.refusal 0 sop.skip 0 ok in
     let mark : sop.mark ≡ 0 = sym (if-eq r.answer.refusal 0 sop.mark 0 ok) ∙ sop0 in
-    let told : r ≡ told_at as_found n headers e r = told_at as_found state state n (reports_for state) [] headers a in
+    let told : r ≡ told_at as_found n headers e r = told_at-same as_found state state n (reports_for state) [] headers a in
     let taken : t ≡ at + (read_eph n headers at).skip = ap (λ (x : ReadResult as_found). x.answer.taken) told in
     let eph : (read_eph n headers at).mark ≡ 0 = sym (ap (λ (x : ReadResult as_found). x.answer.eph) told) ∙ eph0 in
     let reached : Reached headers 0 e = last_reached as_found state state n (reports_for state) [] headers a in

@@ -17,7 +17,7 @@ use Rattle.bits_taken.specs.Taken.{Reached}
 use Rattle.bits_taken.proofs.Laws.Inside.{none_past}
 use Rattle.past_end.specs.PastEnd.{last_bit}
 use Rattle.past_end.proofs.SameMarkers.{eph_inside}
-use Rattle.past_end.proofs.AcceptedReads.{accepted, last_reached, told_at}
+use Rattle.past_end.proofs.AcceptedReads.{accepted, last_reached, told_at-same}
 use Rattle.gathered_headers.specs.Gathered.{SameReading, row_read}
 use Rattle.gathered_headers.proofs.Ends.{Ending, ending, read-end, taken_between}
 use Rattle.gathered_headers.proofs.SameReading.{same_reading}
@@ -36,7 +36,7 @@ taken_of form state scratch m row reports records ok =
     let e : Bio = last_bit state m row (form.room records) in
     let s : ℕ = (read_sop m row).skip in
     let at : ℕ = bytes_taken row e in
-    let told = told_at form state scratch m reports records row a in
+    let told = told_at-same form state scratch m reports records row a in
     let taken = ap (λ (r : ReadResult form). r.answer.taken) told in
     let past = ap (λ (r : ReadResult form). r.answer.past) told in
     let reached : Reached row s e = last_reached form state scratch m reports records row a in

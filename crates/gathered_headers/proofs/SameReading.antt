@@ -18,7 +18,7 @@ use Rattle.t800.specs.Gathered.{GatheredResult, read_gathered}
 use Rattle.past_end.specs.PastEnd.{last_bit}
 use Rattle.past_end.proofs.SameBits.{Way, bits_to}
 use Rattle.past_end.proofs.SameMarkers.{sop_inside, eph_inside}
-use Rattle.past_end.proofs.AcceptedReads.{told_at, result, accepted, last_reached, told_at, same_told}
+use Rattle.past_end.proofs.AcceptedReads.{told_at, result, accepted, last_reached, told_at-same, same_told}
 use Rattle.gathered_headers.specs.Gathered.{SameReading}
 use Rattle.gathered_headers.proofs.Ends.{ending, read-end, taken_between, marker_there}
 use Rattle.gathered_headers.proofs.HeadersAlone.{from_on, agree, end_there, taken_there, past_there, eph_there}
@@ -75,7 +75,7 @@ same_reading form state scratch m row headers src reports records ok sop0 eph0 f
     let s : ℕ = (read_sop m row).skip in
     let at : ℕ = bytes_taken row e in
     let t : ℕ = r.answer.taken in
-    let told : r ≡ told_at form m row e r = told_at form state scratch m reports records row a in
+    let told : r ≡ told_at form m row e r = told_at-same form state scratch m reports records row a in
     let taken : t ≡ at + (read_eph m row at).skip = ap (λ (r : ReadResult form). r.answer.taken) told in
     let sop : r.answer.sop ≡ (read_sop m row).mark = ap (λ (r : ReadResult form). r.answer.sop) told in
     let eph : r.answer.eph ≡ (read_eph m row at).mark = ap (λ (r : ReadResult form). r.answer.eph) told in

@@ -130,9 +130,9 @@ module _ (form : RecordForm) (state scratch : List ℕ) (m : Markers) (reports :
       subst (λ (e : Bio). ends_in_ff src e ≡ false) (sym (if-ne (first_bit m src).value 0 (first_bit m src).bio (header src).bio n))
       (accepted_end src (form.room records) state (first_bit m src).bio (a.1 n))
 
-  pub told_at : (src : List ℕ) → Accepted src → result src ≡ told_at form m src (last_bit state m src (form.room records)) (result src)
+  pub told_at-same : (src : List ℕ) → Accepted src → result src ≡ told_at form m src (last_bit state m src (form.room records)) (result src)
   unfolding read_absent read_present
-  told_at src a =
+  told_at-same src a =
       let first : Decoded = first_bit m src in
       let told : Bio → ReadResult form → ReadResult form = told_at form m src in
       on-eq first.value 0

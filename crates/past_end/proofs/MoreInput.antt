@@ -22,7 +22,7 @@ use Rattle.past_end.specs.PastEnd.{last_bit, eph_again, MoreInput}
 use Rattle.past_end.proofs.MoreBytes.{staying, with_more_lem}
 use Rattle.past_end.proofs.Flags.{reached_there}
 use Rattle.past_end.proofs.SameMarkers.{same_sop, same_eph, eph_not_skipped, same_taken}
-use Rattle.past_end.proofs.AcceptedReads.{told_at, result, accepted, last_reached, count_is, sop_is, told_at, same_told}
+use Rattle.past_end.proofs.AcceptedReads.{told_at, result, accepted, last_reached, count_is, sop_is, told_at-same, same_told}
 use Rattle.past_end.proofs.AcceptedReads.{not_ended}
 
 -- r is read over less of the input, longer over all of src
@@ -80,6 +80,6 @@ more_input form state scratch m src more reports records e past sop =
     (omega arith) skip a inside
     (λ n. not_in_ff src more last (not_ended form state scratch m reports records src a n) inside) in
     subst (λ (x : ReadResult form). SameOrAgain form m (src ++ more) x (result form state scratch m reports records (src ++ more)))
-    (sym (told_at form state scratch m reports records src a))
+    (sym (told_at-same form state scratch m reports records src a))
     (subst (λ (y : ReadResult form). SameOrAgain form m (src ++ more) (told_at form m src last r) y) (sym longer)
     (same_or_again form m src more last r inside reached had))

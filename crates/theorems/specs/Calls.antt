@@ -1,7 +1,8 @@
 -- The calls of crate t2 as an interface: each contract in its src/lib.rt is t800's equation, and no list is added. Records are lent as
 -- words.
 use Rattle.std.specs.Prelude.{◌≡◌, true, ℕ}
-use Rattle.std.proofs.Common.{true≢false, arith}
+use Rattle.std.proofs.Common.{true≢false, suc-le-suc, zero-le}
+use Rattle.std.proofs.Math.Nat.{le_refl}
 use Rattle.t800.specs.Base.{Words}
 use Rattle.t800.specs.Reports.{as_words}
 use Rattle.t800.specs.Interface.{start_of, start_untouched, measure_of, measure_untouched, write_of, write_untouched, read_of, read_untouched}
@@ -27,7 +28,7 @@ by_equation gives untouched = record {
   otherwise = λ m. 1;
   meets = λ m a. m.met;
   refuses = λ m a. absurd (true≢false a);
-  numbered = λ m. omega arith;
+  numbered = λ m. (le_refl 1, suc-le-suc zero-le);
 }
 
 abbrev pub calls : Interface

@@ -129,7 +129,7 @@ output-left output (s ∷ ss) h =
 all_in_order : (output : List ℕ) (ss : List Single) → InOrder output ss → AllAccepted ss
 unfolding InOrder
 all_in_order output [] h = tt
-all_in_order output (s ∷ ss) h = (h.1, all_in_order _ ss h.2)
+all_in_order output (s ∷ ss) h = (h.1, all_in_order (drop (wrote s).answer.bytes (wrote s).output) ss h.2)
 
 whole_is : (c : LayerCall) (ss : List Single) → InOrder c.output ss
     → whole_of_it c ss (record { refusal = 0; place = 0; bytes = length (packets ss) }) ≡ left_in_order c.output ss
