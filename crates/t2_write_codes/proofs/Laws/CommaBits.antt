@@ -10,7 +10,7 @@ use Rattle.t800.specs.Bits.{bits_of}
 use Rattle.t800.specs.Segments.{comma_bits}
 use Rattle.t800_laws.proofs.Laws.Computed.{every-below}
 use Rattle.t2_write_codes.specs.PassTable.{same_bits}
-use Rattle.t2_write_codes.proofs.Laws.PassTable.{same_bits}
+use Rattle.t2_write_codes.proofs.Laws.PassTable.{same_bits-equal}
 
 append_assoc : (xs ys zs : List ℕ) → (xs ++ ys) ++ zs ≡ xs ++ ys ++ zs
 append_assoc [] ys zs = refl
@@ -31,5 +31,5 @@ unfolding every same_bits bits_of comma_bits
 computed = tt
 
 pub comma_number : (n : ℕ) → n ≤ 30 → bits_of (n + 1) (2 * 2 ^ n % 4294967296 - 2) ≡ comma_bits n
-comma_number n h = same_bits _ _
+comma_number n h = same_bits-equal _ _
     (every-below 31 (λ n. same_bits (bits_of (n + 1) (2 * 2 ^ n % 4294967296 - 2)) (comma_bits n)) computed n (omega arith))

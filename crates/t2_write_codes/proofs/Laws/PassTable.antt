@@ -11,13 +11,13 @@ use Rattle.t800.specs.PassCount.{pass_bits}
 use Rattle.t800_laws.proofs.Laws.Computed.{every-below}
 use Rattle.t2_write_codes.specs.PassTable.{same_bits, is_codeword, is_pass_table, IsCodewordOf}
 
-pub same_bits : (xs ys : List ℕ) → T (same_bits xs ys) → xs ≡ ys
+pub same_bits-equal : (xs ys : List ℕ) → T (same_bits xs ys) → xs ≡ ys
 unfolding same_bits
-same_bits [] [] t = refl
-same_bits [] (y ∷ ys) t = absurd t
-same_bits (x ∷ xs) [] t = absurd t
-same_bits (x ∷ xs) (y ∷ ys) t = let both = and_yes (eqb x y) (same_bits xs ys) t in
-    ap₂ ◌∷◌ (eqb→eq x y both.0) (same_bits xs ys both.1)
+same_bits-equal [] [] t = refl
+same_bits-equal [] (y ∷ ys) t = absurd t
+same_bits-equal (x ∷ xs) [] t = absurd t
+same_bits-equal (x ∷ xs) (y ∷ ys) t = let both = and_yes (eqb x y) (same_bits xs ys) t in
+    ap₂ ◌∷◌ (eqb→eq x y both.0) (same_bits-equal xs ys both.1)
 
 pub codeword_at : (codes : List ℕ) (n : ℕ) → T (is_pass_table codes) → 1 ≤ n → n ≤ 164
     → IsCodewordOf n (record { value = get_or codes (n - 1) 0; len = get_or codes (n - 1 + 164) 0 })
@@ -28,6 +28,6 @@ codeword_at codes n t l h =
     (leb (get_or codes (n - 1 + 164) 0) 16) place in
     let e : n - 1 + 1 ≡ n = omega arith in
     record {
-      bits = subst (λ (m : ℕ). bits_of (get_or codes (n - 1 + 164) 0) (get_or codes (n - 1) 0) ≡ pass_bits m) e (same_bits _ _ both.0);
+      bits = subst (λ (m : ℕ). bits_of (get_or codes (n - 1 + 164) 0) (get_or codes (n - 1) 0) ≡ pass_bits m) e (same_bits-equal _ _ both.0);
       short = leb→le _ _ both.1;
     }

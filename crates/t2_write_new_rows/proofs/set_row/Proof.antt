@@ -7,7 +7,7 @@ use lib.ListN.{length, get_or}
 use Rattle.t800.specs.State.{Block}
 use Rattle.tcd_places.specs.declared.Place.{Place}
 use Rattle.tcd_places.specs.Places.{BlockIn, RowIn, block_in, row_blocks}
-use Rattle.tcd_places.proofs.Laws.Rows.{block_in, row_end}
+use Rattle.tcd_places.proofs.Laws.Rows.{block_in-inside, row_end}
 use Rattle.t2_write_new_rows.specs.Setting.{set_next, set_all}
 use Rattle.t2_write_new_rows.proofs.Laws.Rows.{sets_then}
 use Rattle.t2_write_new_rows.proofs.set_row.Statement.{statement}
@@ -48,7 +48,7 @@ set-next-requires c κs =
     let l = c.before.before.before.before.loop in
     let r = subst (λ (k : ℕ). RowIn k a.p a.row.now a.n) (sym l.invariant.0) s.requires.0 in
     subst (λ (k : Place). BlockIn (length l.words) k a.row.now) (sym c.before.before.place_at.ensures)
-    (block_in (length l.words) a.n l.i a.p a.row.now c.before.before.before.loop-test.true r)
+    (block_in-inside (length l.words) a.n l.i a.p a.row.now c.before.before.before.loop-test.true r)
 
 add-i : tie.Need-overflow-add-i invariant-loop decreases-loop
 add-i c = omega (arith, c.before.before.before.before.before.before.before.before.before.before.requires.0.small)

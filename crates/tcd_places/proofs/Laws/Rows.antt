@@ -22,8 +22,8 @@ unfolding row_blocks
 row_end p row planes n i h = let e : n - i ≡ 0 = omega arith in rw e
 
 module _ (size n i : ℕ) (p : Place) (row : List ℕ) (h : i < n) (r : RowIn size p row n) where
-  pub block_in : BlockIn size (place_at p i) row
-  block_in =
+  pub block_in-inside : BlockIn size (place_at p i) row
+  block_in-inside =
       record {
         incl = path_wider p.at (p.at + 4 * i) p.incl row p.depth (p.x + i) (omega arith) (r.incl i h);
         zero = path_wider p.at (p.at + 4 * i) p.zero row p.depth (p.x + i) (omega arith) (r.zero i h);
