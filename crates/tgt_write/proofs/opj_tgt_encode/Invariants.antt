@@ -1,0 +1,26 @@
+use mathlib.Core.Path.{◌≡◌, refl, sym, ap, ◌∙◌, subst}
+use mathlib.Core.List.{List, reverse}
+use Prim.Native.Nat.{ℕ, ◌+◌, ◌-◌, ◌*◌, ◌/◌, ◌^◌, ◌≤◌, ◌<◌, max}
+use native.Mathlib.Omega.{arith}
+use lib.ListN.{length, get_or, take}
+use Rattle.t800.specs.TagTree.{code_path, low}
+use Rattle.bio_bytes.specs.Writing.{output, put_bits, FreeBitsClear}
+use Rattle.tgt.specs.Path.{nodes_over}
+use Rattle.tgt_write.specs.Coding.{NodeCoded, node_coded, put_coded, code_node}
+use Rattle.tgt.proofs.Laws.Path.{node_down}
+use Rattle.tgt_write.proofs.Laws.Coding.{code_from-clear, code_turn}
+use borrow.Author.Rules.{rules}
+use Rattle.tgt_write.proofs.opj_tgt_encode.Given as goal
+
+-- The invariant: the nodes that are left, coded in the present words into the
+-- present output, give the whole.
+abbrev pub invariant-loop-i : goal.invariant-loop-i
+invariant-loop-i l = (FreeBitsClear l.bio)
+    × (length l.words ≡ length l.initial.words)
+    × (length l.out ≡ length l.initial.out)
+    × (l.i ≤ l.depth)
+    × (put_coded (output l.out l.bio) (code_path l.base l.threshold (reverse (nodes_over (take l.i l.row) l.x)) l.low l.words)
+    ≡ put_coded (output l.initial.out l.initial.bio) (code_path l.base l.threshold (reverse (nodes_over (take l.depth l.row) l.x)) 0 l.initial.words))
+
+abbrev pub decreases-loop-i : goal.decreases-loop-i
+decreases-loop-i l = l.i
