@@ -10,7 +10,6 @@ use Rattle.tgt_write.proofs.Laws.Coding.{code_to_threshold, code_to_value}
 use Rattle.tgt_write.proofs.encode_from.Goals as goal
 
 low-after : (v from t m to : ℕ) → m ≡ min v t → to ≡ max from m → to ≡ low_after v from t
-
 unfolding low_after
 low-after v from t m to e f = f ∙ ap (max from) e
 
@@ -53,7 +52,7 @@ returns c = let s =
     let e = low-after (value ws at) s.args.from s.args.threshold
     c.opj_uint_min.result to c.opj_uint_min.ensures
     c.opj_uint_max-to.ensures in
-    sym (code_to_value s.args.threshold at s.args.from ws o to (leaf_coded t.new.words t.new.out.0 t.result) e
+    sym (code_to_value s.args.threshold at s.args.from ws o to (leaf_coded t.new.words t.new.out t.result) e
     c.if-threshold-to.false
     (t.ensures ∙ ap (λ (p : Output). told (set ws (at + 1) to) p (at + 2))
     c.zeros-bio.ensures))

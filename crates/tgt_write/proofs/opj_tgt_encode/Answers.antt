@@ -1,6 +1,6 @@
 use mathlib.Core.Path.{◌≡◌, refl, sym, ap, ◌∙◌, subst}
 use mathlib.Core.List.{List, reverse}
-use Prim.Native.Nat.{ℕ, ◌+◌, ◌-◌, ◌*◌, ◌/◌, ◌^◌, ◌≤◌, ◌<◌, max}
+use Prim.Native.Nat.{ℕ, ◌+◌, ◌-◌, ◌*◌, ◌/◌, ◌^◌, ◌<◌, max}
 use native.Mathlib.Omega.{arith}
 use lib.ListN.{length, get_or, take}
 use Rattle.t800.specs.TagTree.{code_path, low}
@@ -42,14 +42,14 @@ loop-i-preserved c = let s = c in
     let x = s.args.x in
     let n = get_or row (l.i - 1) 0 + x / 2 ^ (l.i - 1) in
     let o = output l.out l.bio in
-    let k = node_coded r.new.words r.new.out.0 r.result in
+    let k = node_coded r.new.words r.new.out r.result in
     let e : k ≡ code_node t (base + 3 * n) l.low l.words o = r.ensures
     ∙ ap (λ (a : ℕ). code_node t a l.low l.words o)
     c.first_word-at.ensures in (
       subst FreeBitsClear (sym (ap (λ (j : NodeCoded). j.output.bio) e))
           (code_from-clear t (base + 3 * n) (max l.low (low l.words (base + 3 * n))) l.words o l.invariant.0),
       r.auto.words ∙ l.invariant.1,
-      r.auto.out.0 ∙ l.invariant.2,
+      r.auto.out ∙ l.invariant.2,
       omega arith,
       code_turn base t n (reverse (nodes_over (take (l.i - 1) row) x)) l.low l.words o k e
           ∙ ap (λ (ns : List ℕ). put_coded o (code_path base t ns l.low l.words))

@@ -1,15 +1,11 @@
-use mathlib.Core.Path.{◌≡◌, refl, sym, ap, ◌∙◌, subst}
-use mathlib.Core.List.{List, reverse}
-use Prim.Native.Nat.{ℕ, ◌+◌, ◌-◌, ◌*◌, ◌/◌, ◌^◌, ◌≤◌, ◌<◌, max}
-use native.Mathlib.Omega.{arith}
-use lib.ListN.{length, get_or, take}
-use Rattle.t800.specs.TagTree.{code_path, low}
-use Rattle.bio_bytes.specs.Writing.{output, put_bits, FreeBitsClear}
+use mathlib.Core.Path.{◌≡◌}
+use mathlib.Core.List.{reverse}
+use Prim.Native.Nat.{◌≤◌}
+use lib.ListN.{length, take}
+use Rattle.t800.specs.TagTree.{code_path}
+use Rattle.bio_bytes.specs.Writing.{output, FreeBitsClear}
 use Rattle.tgt.specs.Path.{nodes_over}
-use Rattle.tgt_write.specs.Coding.{NodeCoded, node_coded, put_coded, code_node}
-use Rattle.tgt.proofs.Laws.Path.{node_down}
-use Rattle.tgt_write.proofs.Laws.Coding.{code_from-clear, code_turn}
-use borrow.Author.Rules.{rules}
+use Rattle.tgt_write.specs.Coding.{put_coded}
 use Rattle.tgt_write.proofs.opj_tgt_encode.Given as goal
 
 -- The invariant: the nodes that are left, coded in the present words into the

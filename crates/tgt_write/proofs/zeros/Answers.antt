@@ -1,7 +1,7 @@
-use mathlib.Core.Path.{◌≡◌, refl, sym, ap, ◌∙◌, subst}
-use Prim.Native.Nat.{◌-◌, ◌*◌}
+use mathlib.Core.Path.{refl, sym, ap, ◌∙◌, subst}
+use Prim.Native.Nat.{◌-◌}
 use native.Mathlib.Omega.{arith}
-use lib.ListN.{length, replicate}
+use lib.ListN.{replicate}
 use Rattle.bio_bytes.specs.Writing.{Output, output, put_bits, FreeBitsClear}
 use Rattle.bio_write.proofs.Laws.FreeBits.{byte_out-ct, byte_out-clear}
 use Rattle.tgt_write.proofs.Laws.Coding.{zeros_end, zeros_turn}

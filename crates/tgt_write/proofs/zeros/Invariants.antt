@@ -1,10 +1,7 @@
-use mathlib.Core.Path.{◌≡◌, refl, sym, ap, ◌∙◌, subst}
+use mathlib.Core.Path.{◌≡◌}
 use Prim.Native.Nat.{◌-◌, ◌*◌}
-use native.Mathlib.Omega.{arith}
 use lib.ListN.{length, replicate}
-use Rattle.bio_bytes.specs.Writing.{Output, output, put_bits, FreeBitsClear}
-use Rattle.bio_write.proofs.Laws.FreeBits.{byte_out-ct, byte_out-clear}
-use Rattle.tgt_write.proofs.Laws.Coding.{zeros_end, zeros_turn}
+use Rattle.bio_bytes.specs.Writing.{output, put_bits, FreeBitsClear}
 use Rattle.tgt_write.proofs.zeros.Given as goal
 
 -- The invariant: the zeros that are left, put into the present output, give the whole.

@@ -1,70 +1,64 @@
--- `tcd_places::grid_end` meets its contract.
-use borrow.Author.Rules.{rules}
 use mathlib.Core.Path.{ap}
 use native.Mathlib.Omega.{arith}
 use Rattle.t800_laws.proofs.Laws.Layout.{band_length_lem}
 use Rattle.tcd_laws.proofs.Laws.Bands.{blocks-up_to_4096, nodes-of_band_up_to}
 use Rattle.tcd_places.specs.declared.Grid.{Grid}
-use Rattle.tcd_places.proofs.grid_end.Statement.{statement}
-use Rattle.tcd_places.proofs.grid_end.Tie as tie
+use Rattle.tcd_places.proofs.grid_end.Goals as goal
 
-mul-result : tie.Need-overflow-mul-result
-mul-result c =
-    let s = c.before.before in
+pub overflow_mul-result : goal.overflow_mul-result
+overflow_mul-result c =
+    let s = c in
     let n = ap (λ (k : Grid). k.nodes) s.requires.1 in
     omega (
       arith,
       n,
-      c.before.band_blocks_lem.ensures,
+      c.band_blocks-blocks.ensures,
       nodes-of_band_up_to s.args.band s.requires.0,
       blocks-up_to_4096 s.args.band s.requires.0,
       s.requires.2,
     )
 
-add-result : tie.Need-overflow-add-result
-add-result c =
-    let s = c.before.before.before in
+pub overflow_add-result : goal.overflow_add-result
+overflow_add-result c =
+    let s = c in
     let n = ap (λ (k : Grid). k.nodes) s.requires.1 in
     omega (
       arith,
       n,
-      c.before.before.band_blocks_lem.ensures,
+      c.band_blocks-blocks.ensures,
       nodes-of_band_up_to s.args.band s.requires.0,
       blocks-up_to_4096 s.args.band s.requires.0,
       s.requires.2,
     )
 
-mul-result-2 : tie.Need-overflow-mul-result-2
-mul-result-2 c =
-    let s = c.before.before.before in
+pub overflow_mul-result-2 : goal.overflow_mul-result-2
+overflow_mul-result-2 c =
+    let s = c in
     let n = ap (λ (k : Grid). k.nodes) s.requires.1 in
     omega (
       arith,
       n,
-      c.before.before.band_blocks_lem.ensures,
+      c.band_blocks-blocks.ensures,
       nodes-of_band_up_to s.args.band s.requires.0,
       blocks-up_to_4096 s.args.band s.requires.0,
       s.requires.2,
     )
 
-add-result-2 : tie.Need-overflow-add-result-2
-add-result-2 c =
-    let s = c.before.before.before in
+pub overflow_add-result-2 : goal.overflow_add-result-2
+overflow_add-result-2 c =
+    let s = c in
     let n = ap (λ (k : Grid). k.nodes) s.requires.1 in
     omega (
       arith,
       n,
-      c.before.before.band_blocks_lem.ensures,
+      c.band_blocks-blocks.ensures,
       nodes-of_band_up_to s.args.band s.requires.0,
       blocks-up_to_4096 s.args.band s.requires.0,
       s.requires.2,
     )
 
-returns : tie.Need-returns
+pub returns : goal.returns
 returns c =
-    let s = c.before.before.before in
+    let s = c in
     let n = ap (λ (k : Grid). k.nodes) s.requires.1 in
-    omega (arith, n, c.before.before.band_blocks_lem.ensures, band_length_lem s.args.band)
-
-pub grid-end-spec : {M : Type 1} → statement M
-grid-end-spec = tie.close (tie.spec (λ c κs. search rules) mul-result add-result mul-result-2 add-result-2 returns)
+    omega (arith, n, c.band_blocks-blocks.ensures, band_length_lem s.args.band)
