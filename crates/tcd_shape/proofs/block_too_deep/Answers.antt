@@ -11,7 +11,7 @@ use Rattle.tcd_laws.proofs.Laws.BlockPlanes.{deep_is, deep_turn, deep_from}
 use Rattle.tcd_shape.proofs.block_too_deep.Goals as goal
 
 pub loop-i-init : goal.loop-i-init
-loop-i-init c = let s = c.args in (omega arith, omega arith, deep_is (take s.n s.t1) s.planes.now)
+loop-i-init c = let s = c.args in (omega arith, omega arith, deep_is (take s.n s.bands) s.planes.now)
 
 pub overflow_add-to : goal.overflow_add-to
 overflow_add-to c = omega (arith, c.smaller.ensures)
