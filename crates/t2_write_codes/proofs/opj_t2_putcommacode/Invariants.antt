@@ -1,13 +1,7 @@
-use mathlib.Core.Path.{◌≡◌, refl, sym, ap, ◌∙◌, subst}
-use Prim.Native.Nat.{◌-◌}
-use native.Mathlib.Omega.{arith}
+use mathlib.Core.Path.{◌≡◌}
 use lib.ListN.{length}
-use lib.Pow.{pow_pos, shl_exact}
-use Rattle.t800.specs.Bits.{bits_of}
 use Rattle.t800.specs.Segments.{comma_bits}
-use Rattle.bio_bytes.specs.Writing.{Output, output, put_bits, FreeBitsClear}
-use Rattle.bio_write.proofs.Laws.FreeBits.{put_bits-clear, put_bits-append}
-use Rattle.t2_write_codes.proofs.Laws.CommaBits.{comma_ones, comma_number}
+use Rattle.bio_bytes.specs.Writing.{output, put_bits, FreeBitsClear}
 use Rattle.t2_write_codes.proofs.opj_t2_putcommacode.Given as goal
 
 -- The invariant: what is left to put, after what is there, is the whole.
