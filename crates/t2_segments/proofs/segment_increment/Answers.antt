@@ -1,0 +1,65 @@
+use Prim.Native.Nat.{◌-◌, ◌≤◌, max}
+use lib.ListN.{length, drop}
+use mathlib.Core.Bool.{false}
+use mathlib.Core.Path.{◌≡◌}
+use native.Mathlib.Omega.{arith}
+use Rattle.t800.specs.Segments.{segments_of, increment}
+use Rattle.t2_segments.specs.Segments.{any_too_long}
+use Rattle.t2_segments.proofs.Laws.Segments.{Next, next_segment_lem, no_segment_left, increment-turn, first_not_long}
+use Rattle.t2_segments.proofs.segment_increment.Goals as goal
+
+next : (c : tie.After-segment-at invariant-loop decreases-loop)
+    → let s = c.before.before.before.before.before in
+    Next s.args.lengths.now s.args.marks.now
+    c.before.before.loop.at c.segment-at.result.passes c.segment-at.result.bytes
+next c = next_segment_lem _ _ _ _ _ (omega arith) (omega arith) c.segment-at.ensures
+
+pub loop-at-init : goal.loop-at-init
+loop-at-init c = let s = c in (omega arith, omega arith, s.requires.1)
+
+pub overflow_cast-bytes : goal.overflow_cast-bytes
+overflow_cast-bytes c = omega (arith, (first_not_long _ _ _ (next c).is c.loop-at.invariant.2).0)
+
+pub overflow_cast-at : goal.overflow_cast-at
+overflow_cast-at c = omega (arith, (next c).enough)
+
+pub overflow_add-at : goal.overflow_add-at
+overflow_add-at c = omega (arith, (next c).enough)
+
+pub loop-at-smaller : goal.loop-at-smaller
+loop-at-smaller c = let n = next c in omega (arith, n.enough, n.some)
+
+pub loop-at-preserved : goal.loop-at-preserved
+loop-at-preserved c =
+    let s = c in
+    let l = c.loop-at in
+    let n = next c in (
+      n.enough,
+      omega (
+        arith,
+        c.opj_uint_max-most.ensures,
+        c.bits_missing-missing.ensures,
+        increment-turn s.args.length-bits l.most _ _ _ n.is,
+        l.invariant.1,
+      ),
+      (first_not_long _ _ _ n.is l.invariant.2).1,
+    )
+
+pub returns : goal.returns
+unfolding increment
+returns c =
+    let s = c in
+    let l = c.loop-at in
+    let z = no_segment_left s.args.lengths.now s.args.marks.now l.at (omega arith) in
+    let e : max l.most 0
+    ≡ increment s.args.length-bits (segments_of s.args.lengths.now s.args.marks.now) = rw z at l.invariant.1 in
+    omega arith
+
+pub segment_at-s-requires : goal.segment_at-s-requires
+segment_at-s-requires c = omega arith
+
+pub bits_missing-missing-requires : goal.bits_missing-missing-requires
+bits_missing-missing-requires c = omega arith
+
+pub opj_uint_max-most-requires : goal.opj_uint_max-most-requires
+opj_uint_max-most-requires c = omega arith
