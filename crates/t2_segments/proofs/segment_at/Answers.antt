@@ -1,9 +1,7 @@
-use Prim.Native.Nat.{◌+◌, ◌-◌, ◌*◌, ◌≤◌}
 use borrow.Author.Tests.{eq-eqb, ne_eqb}
-use lib.ListN.{length, drop}
-use mathlib.Core.Path.{◌≡◌, ◌∙◌, refl}
+use mathlib.Core.Path.{◌∙◌, refl}
 use native.Mathlib.Omega.{arith}
-use Rattle.t2_segments.specs.Segments.{first_from, first_segment}
+use Rattle.t2_segments.specs.Segments.{first_segment}
 use Rattle.t2_segments.proofs.Laws.Segments.{pass_stays, pass_is_last, no_pass_left}
 use Rattle.t2_segments.proofs.segment_at.Goals as goal
 

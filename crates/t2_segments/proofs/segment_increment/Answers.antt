@@ -1,45 +1,43 @@
-use Prim.Native.Nat.{◌-◌, ◌≤◌, max}
-use lib.ListN.{length, drop}
-use mathlib.Core.Bool.{false}
+use Prim.Native.Nat.{max}
 use mathlib.Core.Path.{◌≡◌}
 use native.Mathlib.Omega.{arith}
 use Rattle.t800.specs.Segments.{segments_of, increment}
-use Rattle.t2_segments.specs.Segments.{any_too_long}
 use Rattle.t2_segments.proofs.Laws.Segments.{Next, next_segment_lem, no_segment_left, increment-turn, first_not_long}
 use Rattle.t2_segments.proofs.segment_increment.Goals as goal
+use Rattle.t2_segments.proofs.segment_increment.Goals.{After-segment_at-s}
 
-next : (c : tie.After-segment-at invariant-loop decreases-loop)
-    → let s = c.before.before.before.before.before in
+next : (c : After-segment_at-s)
+    → let s = c in
     Next s.args.lengths.now s.args.marks.now
-    c.before.before.loop.at c.segment-at.result.passes c.segment-at.result.bytes
-next c = next_segment_lem _ _ _ _ _ (omega arith) (omega arith) c.segment-at.ensures
+    c.loop-at.at c.segment_at-s.result.passes c.segment_at-s.result.bytes
+next c = next_segment_lem _ _ _ _ _ (omega arith) (omega arith) c.segment_at-s.ensures
 
 pub loop-at-init : goal.loop-at-init
 loop-at-init c = let s = c in (omega arith, omega arith, s.requires.1)
 
 pub overflow_cast-bytes : goal.overflow_cast-bytes
-overflow_cast-bytes c = omega (arith, (first_not_long _ _ _ (next c).is c.loop-at.invariant.2).0)
+overflow_cast-bytes c = omega (arith, (first_not_long _ _ _ (next (goal.at.overflow_cast-bytes c).After-segment_at-s).is c.loop-at.invariant.2).0)
 
 pub overflow_cast-at : goal.overflow_cast-at
-overflow_cast-at c = omega (arith, (next c).enough)
+overflow_cast-at c = omega (arith, (next (goal.at.overflow_cast-at c).After-segment_at-s).enough)
 
 pub overflow_add-at : goal.overflow_add-at
-overflow_add-at c = omega (arith, (next c).enough)
+overflow_add-at c = omega (arith, (next (goal.at.overflow_add-at c).After-segment_at-s).enough)
 
 pub loop-at-smaller : goal.loop-at-smaller
-loop-at-smaller c = let n = next c in omega (arith, n.enough, n.some)
+loop-at-smaller c = let n = next (goal.at.loop-at-smaller c).After-segment_at-s in omega (arith, n.enough, n.some)
 
 pub loop-at-preserved : goal.loop-at-preserved
 loop-at-preserved c =
     let s = c in
     let l = c.loop-at in
-    let n = next c in (
+    let n = next (goal.at.loop-at-preserved c).After-segment_at-s in (
       n.enough,
       omega (
         arith,
         c.opj_uint_max-most.ensures,
         c.bits_missing-missing.ensures,
-        increment-turn s.args.length-bits l.most _ _ _ n.is,
+        increment-turn s.args.length_bits l.most _ _ _ n.is,
         l.invariant.1,
       ),
       (first_not_long _ _ _ n.is l.invariant.2).1,
@@ -52,7 +50,7 @@ returns c =
     let l = c.loop-at in
     let z = no_segment_left s.args.lengths.now s.args.marks.now l.at (omega arith) in
     let e : max l.most 0
-    ≡ increment s.args.length-bits (segments_of s.args.lengths.now s.args.marks.now) = rw z at l.invariant.1 in
+    ≡ increment s.args.length_bits (segments_of s.args.lengths.now s.args.marks.now) = rw z at l.invariant.1 in
     omega arith
 
 pub segment_at-s-requires : goal.segment_at-s-requires

@@ -2,10 +2,8 @@ use Prim.Native.Nat.{◌-◌, ◌≤◌, max}
 use lib.ListN.{length, drop}
 use mathlib.Core.Bool.{false}
 use mathlib.Core.Path.{◌≡◌}
-use native.Mathlib.Omega.{arith}
 use Rattle.t800.specs.Segments.{segments_of, increment}
 use Rattle.t2_segments.specs.Segments.{any_too_long}
-use Rattle.t2_segments.proofs.Laws.Segments.{Next, next_segment_lem, no_segment_left, increment-turn, first_not_long}
 use Rattle.t2_segments.proofs.segment_increment.Given as goal
 
 abbrev pub invariant-loop-at : goal.invariant-loop-at

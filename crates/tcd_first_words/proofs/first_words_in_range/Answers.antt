@@ -1,4 +1,4 @@
-use borrow.Author.Tests.{le-leb, lt-leb, not-false, not-true}
+use borrow.Author.Tests.{le-leb, lt-leb}
 use mathlib.Core.Bool.{false, true}
 use mathlib.Core.Path.{◌∙◌, ap, refl, sym}
 use native.Mathlib.Omega.{arith}
@@ -10,14 +10,14 @@ use Rattle.tcd_first_words.proofs.first_words_in_range.Goals as goal
 pub returns-then-not-shape_in_range : goal.returns-then-not-shape_in_range
 returns-then-not-shape_in_range c = let s = c.args in
     first_words_parts s.role s.state.now false _ _ _ _
-    (sym (not-true _ c.if-not-shape_in_range.true) ∙ c.shape_in_range.ensures) refl refl refl refl
+    (sym c.if-not-shape_in_range.true ∙ c.shape_in_range.ensures) refl refl refl refl
 
 pub returns-then-is_refused : goal.returns-then-is_refused
 returns-then-is_refused c =
     let styled = c in
     let shaped = styled in
     let s = shaped.args in
-    let shape = sym (not-false _ styled.if-not-shape_in_range.false) ∙ shaped.shape_in_range.ensures in
+    let shape = sym styled.if-not-shape_in_range.false ∙ shaped.shape_in_range.ensures in
     let style' = sym c.if-is_refused.true ∙ styled.is_refused.ensures ∙ ap bad_style styled.word-bits.ensures in
     first_words_parts s.role s.state.now true true _ _ _ shape style' refl refl refl
 
@@ -27,7 +27,7 @@ returns-then-word-gt-NOT_YET_INCLUDED c =
     let styled = layered in
     let shaped = styled in
     let s = shaped.args in
-    let shape = sym (not-false _ styled.if-not-shape_in_range.false) ∙ shaped.shape_in_range.ensures in
+    let shape = sym styled.if-not-shape_in_range.false ∙ shaped.shape_in_range.ensures in
     let style' = sym layered.if-is_refused.false ∙ styled.is_refused.ensures ∙ ap bad_style styled.word-bits.ensures in
     let layer' = sym (lt-leb (layer s.state.now) not_yet_included (omega (arith, layered.word.ensures))) in
     first_words_parts s.role s.state.now true false false _ _ shape style' layer' refl refl
@@ -37,7 +37,7 @@ band_too_deep-requires c =
     let s = c.args in
     let k = shape_known s.role s.state.now
     (sym c.shape_in_range.ensures
-    ∙ not-false _ c.if-not-shape_in_range.false) in
+    ∙ c.if-not-shape_in_range.false) in
     omega (arith, c.word-n.ensures, k.1)
 
 pub returns-then-band_too_deep : goal.returns-then-band_too_deep
@@ -48,7 +48,7 @@ returns-then-band_too_deep c =
     let shaped = styled in
     let s = shaped in
     let ws = s.args.state.now in
-    let shape = sym (not-false _ styled.if-not-shape_in_range.false) ∙ shaped.shape_in_range.ensures in
+    let shape = sym styled.if-not-shape_in_range.false ∙ shaped.shape_in_range.ensures in
     let style' = sym layered.if-is_refused.false ∙ styled.is_refused.ensures ∙ ap bad_style styled.word-bits.ensures in
     let layer' = sym (le-leb (layer ws) not_yet_included (omega (arith, layered.word.ensures))) in
     let depth = sym c.if-band_too_deep.true ∙ deep.band_too_deep.ensures
@@ -63,7 +63,7 @@ returns c =
     let shaped = styled in
     let s = shaped in
     let ws = s.args.state.now in
-    let shape = sym (not-false _ styled.if-not-shape_in_range.false) ∙ shaped.shape_in_range.ensures in
+    let shape = sym styled.if-not-shape_in_range.false ∙ shaped.shape_in_range.ensures in
     let style' = sym layered.if-is_refused.false ∙ styled.is_refused.ensures ∙ ap bad_style styled.word-bits.ensures in
     let layer' = sym (le-leb (layer ws) not_yet_included (omega (arith, layered.word.ensures))) in
     let depth = sym c.if-band_too_deep.false ∙ deep.band_too_deep.ensures

@@ -1,12 +1,11 @@
-use Prim.Native.Nat.{◌*◌, ◌+◌, ◌-◌, ◌≤◌}
+use Prim.Native.Nat.{◌*◌, ◌+◌}
 use lib.Dec.{eqb, ltb}
 use lib.ListN.{get_or}
 use mathlib.Core.Bool.{◌||◌}
-use mathlib.Core.Path.{◌≡◌, refl}
+use mathlib.Core.Path.{refl}
 use native.Mathlib.Omega.{arith}
 use Rattle.t800.specs.Base.{every}
 use Rattle.tcd_laws.proofs.Laws.Faults.{faults_end, faults_turn}
-use Rattle.tcd_laws.specs.Parts.{fault}
 use Rattle.tcd_first_words.proofs.unused_bands_zero.Goals as goal
 
 pub loop-i-init : goal.loop-i-init

@@ -2,10 +2,8 @@ use Prim.Native.Nat.{◌*◌, ◌+◌, ◌-◌, ◌≤◌}
 use lib.Dec.{eqb, ltb}
 use lib.ListN.{get_or}
 use mathlib.Core.Bool.{◌||◌}
-use mathlib.Core.Path.{◌≡◌, refl}
-use native.Mathlib.Omega.{arith}
+use mathlib.Core.Path.{◌≡◌}
 use Rattle.t800.specs.Base.{every}
-use Rattle.tcd_laws.proofs.Laws.Faults.{faults_end, faults_turn}
 use Rattle.tcd_laws.specs.Parts.{fault}
 use Rattle.tcd_first_words.proofs.unused_bands_zero.Given as goal
 
