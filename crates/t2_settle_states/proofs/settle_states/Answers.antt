@@ -1,0 +1,170 @@
+use lib.ListN.{drop, get_or, length, length-drop, length-take, take}
+use lib.Seq.{get_or-take}
+use mathlib.Core.List.{List, ◌∷◌, ◌++◌}
+use mathlib.Core.Logic.{⊎_elim}
+use mathlib.Core.Path.{◌∙◌, ◌≡◌, ap, refl, subst, sym}
+use native.Mathlib.Omega.{arith}
+use Prim.Native.Nat.{◌+◌, ◌-◌, ◌≤◌, ℕ}
+use Rattle.t800.specs.Base.{sum}
+use Rattle.t800_laws.proofs.Laws.Sums.{sum-turn, sum-end}
+use Rattle.t2_settle_states.specs.Settle.{Settles}
+use Rattle.t2_settle_states.proofs.Laws.{next_one, settled_to, length-settled, waiting_copied}
+use Rattle.t2_settle_states.proofs.Laws.{settle_layer_settles, settles_behind}
+use Rattle.t2_settle_states.proofs.settle_states.Goals as goal
+use Rattle.t2_settle_states.proofs.settle_states.Goals.{At-loop-i, In-loop-i, Joined-passes-i-eq0, After-copy}
+
+as_long : (c : At-loop-i) → length c.loop-i.states ≡ length c.args.states.now
+as_long c =
+    let s = c in
+    ap length c.loop-i.invariant.4 ∙ length-settled s.args.scratch.now s.args.states.now s.requires.2 c.loop-i.wait
+
+can-be-settled : (c : In-loop-i) →
+    let a = c.args in
+    let l = c.loop-i in
+    Settles (words_of c ∷ drop (l.i + 1) (take a.n a.words.now))
+    (get_or a.passes.now l.i 0 ∷ drop (l.i + 1) (take a.n a.passes.now)) (drop l.at a.scratch.now)
+    (drop l.at a.states.now)
+can-be-settled c =
+    let s = c in
+    let a = s.args in
+    let l = c.loop-i in
+    subst (λ (ps : List ℕ). Settles (words_of c ∷ drop (l.i + 1) (take a.n a.words.now)) ps (drop l.at a.scratch.now)
+    (drop l.at a.states.now))
+    (next_one a.passes.now a.n l.i s.requires.1 (omega (arith, c.loop-i-test.true)))
+    (subst (λ (ws : List ℕ). Settles ws (drop l.i (take a.n a.passes.now)) (drop l.at a.scratch.now)
+    (drop l.at a.states.now))
+    (next_one a.words.now a.n l.i s.requires.0 (omega (arith, c.loop-i-test.true)))
+    l.invariant.5)
+
+words-there : (c : In-loop-i) → c.loop-i.at + words_of c ≤ length c.args.states.now
+words-there c =
+    let s = c in
+    let l = c.loop-i in
+    omega (
+      arith,
+      (can-be-settled c).1,
+      length-drop l.at s.args.states.now,
+      l.invariant.2,
+      s.requires.2,
+    )
+
+wait-after : (c : Joined-passes-i-eq0) → c.if-passes-i-eq0.wait ≤ c.loop-i.at + words_of c
+wait-after c =
+    let l = c.loop-i in
+    ⊎_elim (λ w. omega (arith, w.6)) (λ w. omega (arith, w.2, l.invariant.1)) c.if-passes-i-eq0.branch
+
+states-after : (c : Joined-passes-i-eq0) → c.if-passes-i-eq0.states
+    ≡ settled_to c.if-passes-i-eq0.wait c.args.scratch.now c.args.states.now
+states-after c =
+    let s = c in
+    let l = c.loop-i in
+    let z = can-be-settled c in
+    ⊎_elim
+    (λ w. w.5 ∙ w.2.ensures
+    ∙ settle_layer_settles s.args.scratch.now s.args.states.now s.requires.2 l.states l.wait l.at
+    (words_of c) l.invariant.4 l.invariant.1 z.0 z.1 (z.2 w.0.taken)
+    ∙ ap (λ (n : ℕ). settled_to n s.args.scratch.now s.args.states.now) (sym w.6))
+    (λ w. w.1 ∙ l.invariant.4 ∙ ap (λ (n : ℕ). settled_to n s.args.scratch.now s.args.states.now) (sym w.2))
+    c.if-passes-i-eq0.branch
+
+last-copied : (c : After-copy) →
+    let a = c.args in
+    let l = c.loop-i in
+    take l.wait l.states ++ (c.copy.new.1.0 ++ drop (l.at - l.wait) (drop l.wait l.states))
+    ≡ settled_to l.at a.scratch.now a.states.now
+last-copied c =
+    let s = c in
+    let l = c.loop-i in
+    waiting_copied s.args.scratch.now s.args.states.now s.requires.2 l.states c.copy.new.1.0 l.wait l.at
+    l.invariant.4 l.invariant.1 (omega (arith, l.invariant.2, s.requires.2)) c.copy.ensures
+
+pub loop-i-init : goal.loop-i-init
+loop-i-init c = (omega arith, omega arith, omega arith, omega arith, refl, c.requires.3)
+
+pub settle_layer-requires : goal.settle_layer-requires
+settle_layer-requires c =
+    let s = c in
+    let l = c.loop-i in
+    let t = c in
+    let e = as_long t in (
+      omega (arith, l.invariant.1),
+      omega (arith, e, (can-be-settled t).0, words-there t),
+      s.requires.2 ∙ sym e,
+    )
+
+pub overflow_add-wait : goal.overflow_add-wait
+overflow_add-wait c =
+    let s = c in
+    omega (arith, words-there (goal.at.overflow_add-wait c).In-loop-i, s.well-formed.1.0)
+
+pub overflow_add-at : goal.overflow_add-at
+overflow_add-at c =
+    let s = c in
+    omega (arith, words-there (goal.at.overflow_add-at c).In-loop-i, s.well-formed.1.0)
+
+pub loop-i-preserved : goal.loop-i-preserved
+loop-i-preserved c =
+    let s = c in
+    let a = s.args in
+    let l = c.loop-i in
+    let t = c in (
+      omega (arith, t.loop-i-test.true),
+      wait-after (goal.at.loop-i-preserved c).Joined-passes-i-eq0,
+      omega (arith, words-there t, s.requires.2),
+      omega (
+        arith,
+        sum-turn (take a.n a.words.now) l.i
+            (omega (arith, length-take a.n a.words.now, s.requires.0, t.loop-i-test.true)),
+        get_or-take a.n a.words.now l.i 0 (omega (arith, t.loop-i-test.true)),
+        l.invariant.3,
+      ),
+      states-after (goal.at.loop-i-preserved c).Joined-passes-i-eq0,
+      settles_behind (drop (l.i + 1) (take a.n a.words.now)) (drop (l.i + 1) (take a.n a.passes.now)) a.scratch.now
+          a.states.now l.at (words_of t) (can-be-settled t).3,
+    )
+
+-- ---- the words that wait at last
+pub slice_bounds-copy-end-2 : goal.slice_bounds-copy-end-2
+slice_bounds-copy-end-2 c =
+    let l = c.loop-i in
+    omega (arith, as_long (goal.at.slice_bounds-copy-end-2 c).At-loop-i, l.invariant.2, c.requires.2)
+
+pub copy-requires : goal.copy-requires
+copy-requires c =
+    let s = c in
+    let l = c.loop-i in
+    omega (
+      arith,
+      as_long (goal.at.copy-requires c).At-loop-i,
+      s.requires.2,
+      length-take (l.at - l.wait) (drop l.wait s.args.scratch.now),
+      length-take (l.at - l.wait) (drop l.wait l.states),
+      length-drop l.wait s.args.scratch.now,
+      length-drop l.wait l.states,
+    )
+
+pub shape_of-states : goal.shape_of-states
+shape_of-states c =
+    let s = c in
+    let l = c.loop-i in
+    ap length (last-copied (goal.at.shape_of-states c).After-copy)
+    ∙ length-settled s.args.scratch.now s.args.states.now s.requires.2 l.at
+
+pub returns : goal.returns
+returns c =
+    let s = c in
+    let l = c.loop-i in
+    let e : l.at ≡ sum (take s.args.n s.args.words.now) =
+    omega (
+      arith,
+      l.invariant.3,
+      sum-end (take s.args.n s.args.words.now) l.i
+          (omega (arith, length-take s.args.n s.args.words.now, c.loop-i-test.false)),
+    ) in
+    last-copied (goal.at.returns c).After-copy ∙ ap (λ (n : ℕ). settled_to n s.args.scratch.now s.args.states.now) e
+
+pub overflow_add-i : goal.overflow_add-i
+overflow_add-i c = omega arith
+
+pub loop-i-smaller : goal.loop-i-smaller
+loop-i-smaller c = omega arith

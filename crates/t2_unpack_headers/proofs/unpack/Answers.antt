@@ -1,0 +1,54 @@
+use Prim.Native.Nat.{◌+◌, ◌-◌, ◌≤◌}
+use lib.ListN.{length}
+use native.Mathlib.Omega.{arith}
+use Rattle.t2_unpack_headers.proofs.Laws.Looks.{Looking, looking_first, looking_next, looked_none, looked_bad, right_segment}
+use Rattle.t2_unpack_headers.proofs.unpack.Goals as goal
+use Rattle.t2_unpack_headers.proofs.unpack.Goals.{Else-size-eq0}
+
+right : (c : Else-size-eq0)
+    → let l = c.loop-at in
+    let size = c.size_at-size.result in
+    (6 ≤ size) × (l.at + size ≤ length c.args.segments.now)
+right c =
+    let l = c.loop-at in
+    let r = right_segment c.args.segments.now l.index l.at l.bytes l.invariant
+    c.loop-at-test.true _ c.size_at-size.ensures c.if-size-eq0.false in
+    (r.1, r.2)
+
+pub loop-at-init : goal.loop-at-init
+loop-at-init c = looking_first c.args.segments.now
+
+pub size_at-size-requires : goal.size_at-size-requires
+size_at-size-requires c = c.loop-at.invariant.within
+
+pub returns-then-size-eq0 : goal.returns-then-size-eq0
+returns-then-size-eq0 c =
+    let l = c.loop-at in
+    looked_bad c.args.segments.now l.index l.at l.bytes l.invariant
+    c.loop-at-test.true _ c.size_at-size.ensures c.if-size-eq0.true
+
+pub overflow_add-bytes : goal.overflow_add-bytes
+overflow_add-bytes c = omega (arith, right (goal.at.overflow_add-bytes c).Else-size-eq0, c.loop-at.invariant.fewer)
+
+pub overflow_add-index : goal.overflow_add-index
+overflow_add-index c = omega (arith, right (goal.at.overflow_add-index c).Else-size-eq0, c.loop-at.invariant.indices)
+
+pub loop-at-preserved : goal.loop-at-preserved
+loop-at-preserved c =
+    let l = c.loop-at in
+    looking_next c.args.segments.now l.index l.at l.bytes l.invariant
+    c.loop-at-test.true _ c.size_at-size.ensures c.if-size-eq0.false
+
+pub returns : goal.returns
+returns c =
+    let l = c.loop-at in
+    looked_none c.args.segments.now l.index l.at l.bytes l.invariant c.loop-at-test.false
+
+pub overflow_add-at : goal.overflow_add-at
+overflow_add-at c = omega (arith, right (goal.at.overflow_add-at c).Else-size-eq0)
+
+pub overflow_sub-bytes : goal.overflow_sub-bytes
+overflow_sub-bytes c = omega (arith, right (goal.at.overflow_sub-bytes c).Else-size-eq0)
+
+pub loop-at-smaller : goal.loop-at-smaller
+loop-at-smaller c = omega (arith, right (goal.at.loop-at-smaller c).Else-size-eq0)
