@@ -7,7 +7,7 @@ use mathlib.Core.List.{List}
 use lib.ListN.{length, get_or, take}
 use borrow.Author.Tests.{eq-eqb, ne_eqb}
 use Rattle.t800.specs.declared.Band.{Band}
-use Rattle.t800.specs.State.{bands, state_length}
+use Rattle.t800.specs.State.{state_length}
 use Rattle.t800.specs.Ranges.{bad_shape}
 use Rattle.t800.specs.Exports.{band_in, bands_in, state_length_of}
 
