@@ -23,7 +23,9 @@ overflow_add-base c =
     omega (arith, f, s.requires.1, s.requires.4, band_length_lem s.args.band)
 
 pub overflow_mul-base : goal.overflow_mul-base
-overflow_mul-base c = omega (arith, add-base c)
+overflow_mul-base c = omega (arith, (let s = c in
+    let f : length s.args.state.now < 0x1_0000_0000_0000_0000 = search rules in
+    omega (arith, f, s.requires.1, s.requires.4, band_length_lem s.args.band)))
 
 pub loop-y-init : goal.loop-y-init
 loop-y-init c =
@@ -61,10 +63,18 @@ slice_bounds-set_row-end c =
     omega (arith, e, f, s.requires.5)
 
 pub offset_bounds-planes-from : goal.offset_bounds-planes-from
-offset_bounds-planes-from c = omega (arith, part-set-row-end c)
+offset_bounds-planes-from c = omega (arith, (let s = c in
+    let l = c.loop-y in
+    let e = row_inside s.args.band l.y l.from (omega arith) l.invariant.1 in
+    let f : length s.args.planes.now * 4 < 0x1_0000_0000_0000_0000 = search rules in
+    omega (arith, e, f, s.requires.5)))
 
 pub slice_bounds-set_row-start : goal.slice_bounds-set_row-start
-slice_bounds-set_row-start c = omega (arith, part-set-row-end c)
+slice_bounds-set_row-start c = omega (arith, (let s = c in
+    let l = c.loop-y in
+    let e = row_inside s.args.band l.y l.from (omega arith) l.invariant.1 in
+    let f : length s.args.planes.now * 4 < 0x1_0000_0000_0000_0000 = search rules in
+    omega (arith, e, f, s.requires.5)))
 
 pub set_row-requires : goal.set_row-requires
 set_row-requires c =
@@ -77,7 +87,7 @@ set_row-requires c =
     let to : ℕ = l.from + b.across in
     let n : length (take (to - l.from) (drop l.from s.args.planes.now))
     ≡ to - l.from = part_length s.args.planes.now l.from to (omega arith) (omega (arith, e, s.requires.5)) in (
-      row_in s.args.at b s.args.tree s.args.depth t l.y k c.opj_tgt_row.new.1.1.1.0
+      row_in s.args.at b s.args.tree s.args.depth t l.y k c.opj_tgt_row.new.row
           c.opj_tgt_row.ensures _ _ _ (ap (λ (m : ℕ). s.args.at + 3 * m) s.requires.1)
           (omega (arith, s.requires.4, l.invariant.2)) (omega (arith, n)),
       none_before (λ p. ltb b.planes p) (to - l.from) (drop l.from s.args.planes.now)
@@ -113,7 +123,7 @@ loop-y-preserved c =
           l.invariant.1 refl refl n
           (c.set_row.ensures
           ∙ ap (λ (m : ℕ). set_row (s.args.at + 3 * m)
-          c.opj_tgt_row.new.1.1.1.0 s.args.depth b.planes 0 part
+          c.opj_tgt_row.new.row s.args.depth b.planes 0 part
           l.state) s.requires.1
           ∙ ap (λ (r : List ℕ). set_row (s.args.at + 3 * band_nodes b) r s.args.depth b.planes 0 part l.state)
           c.opj_tgt_row.ensures)

@@ -56,10 +56,24 @@ slice_bounds-set_band-end c =
     omega (arith, e, f, l.invariant.3, c.band_blocks-size.ensures)
 
 pub offset_bounds-planes-from : goal.offset_bounds-planes-from
-offset_bounds-planes-from c = omega (arith, part-set-band-end c)
+offset_bounds-planes-from c = omega (arith, (let s = c in
+    let l = c.loop-i in
+    let g : length s.args.bands ≡ 3 = search rules in
+    let k : s.args.n ≤ length s.args.bands = omega (arith, s.requires.0) in
+    let b : Band = get_or s.args.bands l.i no_band in
+    let e = blocks-turn s.args.bands s.args.n l.i l.from k (omega arith) in
+    let f : length s.args.planes.now * 4 < 0x1_0000_0000_0000_0000 = search rules in
+    omega (arith, e, f, l.invariant.3, c.band_blocks-size.ensures)))
 
 pub slice_bounds-set_band-start : goal.slice_bounds-set_band-start
-slice_bounds-set_band-start c = omega (arith, part-set-band-end c)
+slice_bounds-set_band-start c = omega (arith, (let s = c in
+    let l = c.loop-i in
+    let g : length s.args.bands ≡ 3 = search rules in
+    let k : s.args.n ≤ length s.args.bands = omega (arith, s.requires.0) in
+    let b : Band = get_or s.args.bands l.i no_band in
+    let e = blocks-turn s.args.bands s.args.n l.i l.from k (omega arith) in
+    let f : length s.args.planes.now * 4 < 0x1_0000_0000_0000_0000 = search rules in
+    omega (arith, e, f, l.invariant.3, c.band_blocks-size.ensures)))
 
 pub set_band-requires : goal.set_band-requires
 set_band-requires c =

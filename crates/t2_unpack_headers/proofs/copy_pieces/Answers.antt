@@ -64,17 +64,17 @@ overflow_sub-held c = omega (arith, c.loop-done.invariant.2.skips c.if-segments-
 pub overflow_add-done : goal.overflow_add-done
 overflow_add-done c =
     let b = c in
-    omega (arith, (fits b).1, b.loop-done.invariant.1)
+    omega (arith, (fits (goal.at.overflow_add-done c).After-smaller-n).1, b.loop-done.invariant.1)
 
 pub overflow_add-at : goal.overflow_add-at
 overflow_add-at c =
     let b = c in
-    omega (arith, (first b).size, b.held_at-held.ensures)
+    omega (arith, (first (goal.at.overflow_add-at c).Else-segments-at).size, b.held_at-held.ensures)
 
 pub overflow_add-at-in-loop-done : goal.overflow_add-at-in-loop-done
 overflow_add-at-in-loop-done c =
     let b = c in
-    omega (arith, (first b).size, b.held_at-held.ensures)
+    omega (arith, (first (goal.at.overflow_add-at-in-loop-done c).Else-segments-at).size, b.held_at-held.ensures)
 
 pub loop-done-smaller : goal.loop-done-smaller
 loop-done-smaller c = omega (arith, c.if-segments-at.false)
@@ -87,10 +87,10 @@ loop-done-preserved c =
     let p = c.copy_piece in
     let window = window_of (unpacked s.segments.now).bytes s.from (length s.to.now) in
     let next = copying_next s.segments.now l.at l.skip l.to l.done window l.invariant.2 b.if-segments-at.false
-    b.smaller-n.result (piece b) l.invariant.0 p.new.1.1.0 p.ensures in (
-      omega (arith, (fits b).1, p.auto.1.1.0),
-      p.auto.1.1.0 ∙ l.invariant.1,
-      subst (λ (k : ℕ). Copying s.segments.now (l.at + (5 + k)) 0 p.new.1.1.0 (l.done + b.smaller-n.result) window)
+    b.smaller-n.result (piece (goal.at.loop-done-preserved c).After-smaller-n) l.invariant.0 p.new.to p.ensures in (
+      omega (arith, (fits (goal.at.loop-done-preserved c).After-smaller-n).1, p.auto.to),
+      p.auto.to ∙ l.invariant.1,
+      subst (λ (k : ℕ). Copying s.segments.now (l.at + (5 + k)) 0 p.new.to (l.done + b.smaller-n.result) window)
           (sym b.held_at-held.ensures) next,
     )
 

@@ -8,7 +8,7 @@ use Rattle.t2_unpack_headers.proofs.Laws.Cursors.{FirstOf, first_of_lem, next_cu
 use Rattle.t2_unpack_headers.proofs.seek.Given as goal
 
 abbrev pub invariant-loop-at : goal.invariant-loop-at
-invariant-loop-at l = (CursorAt l.segments (record { l.at = l.at; l.before = l.before })) × (l.before ≤ l.from)
+invariant-loop-at l = (CursorAt l.segments (record { at = l.at; before = l.before })) × (l.before ≤ l.from)
 
 abbrev pub decreases-loop-at : goal.decreases-loop-at
 decreases-loop-at l = length l.segments - l.at

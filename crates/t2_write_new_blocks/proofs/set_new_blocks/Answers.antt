@@ -1,5 +1,4 @@
 use Prim.Native.Nat.{ℕ, ◌+◌, ◌-◌}
-use borrow.Author.Tests.{not-true}
 use lib.Dec.{ltb}
 use lib.ListN.{length, take, drop}
 use mathlib.Core.Path.{◌≡◌, ap, sym, ◌∙◌}
@@ -20,6 +19,6 @@ returns-then-not-any_over c =
     ≡ a.block + c.band_blocks.result - a.block =
     omega (arith, n, c.band_blocks.ensures) in
     let none = ap (λ (k : ℕ). any (λ (p : ℕ). ltb 0 p) (take k (drop a.block a.counts.now))) e
-    ∙ sym c.any_over.ensures ∙ not-true _ c.if-not-any_over.true in
+    ∙ sym c.any_over.ensures ∙ c.if-not-any_over.true in
     sym (none_set a.layer a.counts.now (band_blocks a.g.start a.band) a.block a.words.now
     (omega (arith, n, s.requires.3)) none)
