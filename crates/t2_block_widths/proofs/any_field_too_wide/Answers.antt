@@ -1,0 +1,50 @@
+use Prim.Native.Nat.{ℕ, ◌-◌}
+use borrow.Author.Tests.{lt-ltb, le-ltb}
+use lib.Dec.{ltb}
+use lib.ListN.{length}
+use mathlib.Core.Bool.{Bool}
+use mathlib.Core.Path.{◌∙◌, ap, refl, sym}
+use native.Mathlib.Omega.{arith}
+use Rattle.t800.specs.Segments.{Segment, width}
+use Rattle.t2_block_widths.proofs.Laws.{NoneBefore, Turn, turn, none_left}
+use Rattle.t2_block_widths.proofs.any_field_too_wide.Goals as goal
+use Rattle.t2_block_widths.proofs.any_field_too_wide.Goals.{After-segment_at-s}
+
+abbrev too_wide : ℕ → Segment → Bool
+too_wide length-bits s = ltb 32 (width length-bits s.passes)
+
+at-segment : (c : After-segment_at-s)
+    → let s = c in
+    Turn (too_wide s.args.length_bits) s.args.lengths.now s.args.marks.now
+    c.loop-at.at c.segment_at-s.result.passes c.segment_at-s.result.bytes
+at-segment c = turn (too_wide _) _ _ _ _ _ (omega arith) (omega arith) c.loop-at.invariant c.segment_at-s.ensures
+
+pub loop-at-init : goal.loop-at-init
+loop-at-init c = (omega arith, refl)
+
+pub returns-then-field_width-gt32 : goal.returns-then-field_width-gt32
+returns-then-field_width-gt32 c =
+    (at-segment (goal.at.returns-then-field_width-gt32 c).After-segment_at-s).met (ap (λ (k : ℕ). ltb 32 k) (sym c.field_width.ensures) ∙ lt-ltb _ _ c.if-field_width-gt32.true)
+
+pub overflow_cast-at : goal.overflow_cast-at
+overflow_cast-at c = omega (arith, (at-segment (goal.at.overflow_cast-at c).After-segment_at-s).enough)
+
+pub overflow_add-at : goal.overflow_add-at
+overflow_add-at c = omega (arith, (at-segment (goal.at.overflow_add-at c).After-segment_at-s).enough)
+
+pub loop-at-smaller : goal.loop-at-smaller
+loop-at-smaller c = let t = at-segment (goal.at.loop-at-smaller c).After-segment_at-s in omega (arith, t.enough, t.some)
+
+pub loop-at-preserved : goal.loop-at-preserved
+loop-at-preserved c =
+    (at-segment (goal.at.loop-at-preserved c).After-segment_at-s).not_met
+    (ap (λ (k : ℕ). ltb 32 k) (sym c.field_width.ensures) ∙ le-ltb _ _ c.if-field_width-gt32.false)
+
+pub returns : goal.returns
+returns c = none_left (too_wide _) _ _ _ (omega arith) c.loop-at.invariant
+
+pub segment_at-s-requires : goal.segment_at-s-requires
+segment_at-s-requires c = omega arith
+
+pub field_width-requires : goal.field_width-requires
+field_width-requires c = omega arith
