@@ -1,13 +1,7 @@
-use native.Mathlib.Omega.{arith}
-use borrow.Author.Tests.{ltb-false}
-use mathlib.Core.Path.{◌≡◌, refl, sym, ap, ◌∙◌, subst}
-use mathlib.Core.List.{List}
-use Prim.Native.Nat.{ℕ, ◌+◌, ◌-◌, ◌≤◌}
-use lib.Dec.{ltb}
-use lib.ListN.{length, drop, drop_of_length-le}
-use Rattle.tgt.specs.Path.{PathIn}
+use mathlib.Core.Path.{◌≡◌}
+use Prim.Native.Nat.{◌-◌, ◌≤◌}
+use lib.ListN.{length, drop}
 use Rattle.t2_start_planes.specs.Rows.{set_row}
-use Rattle.t2_start_planes.proofs.Laws.ZeroPlanes.{none_at, column_turn}
 use Rattle.t2_start_planes.proofs.set_row.Given as goal
 
 abbrev pub invariant-loop-x : goal.invariant-loop-x

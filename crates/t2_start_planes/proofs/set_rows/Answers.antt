@@ -2,11 +2,11 @@ use native.Mathlib.Omega.{arith}
 use borrow.Author.Rules.{rules}
 use mathlib.Core.Path.{◌≡◌, refl, ap, ◌∙◌}
 use mathlib.Core.List.{List}
-use Prim.Native.Nat.{ℕ, ◌+◌, ◌-◌, ◌*◌, ◌≤◌, ◌<◌}
+use Prim.Native.Nat.{ℕ, ◌+◌, ◌-◌, ◌*◌, ◌<◌}
 use lib.Dec.{ltb}
 use lib.ListN.{length, take, drop}
 use Rattle.t800.specs.declared.Band.{Band}
-use Rattle.t800.specs.State.{Block, blocks_in, band_nodes, blocks_from}
+use Rattle.t800.specs.State.{Block, band_nodes}
 use Rattle.t800.specs.Start.{set_zero_planes}
 use Rattle.t800_laws.proofs.Laws.Layout.{band_length_lem}
 use Rattle.tgt.proofs.Laws.Path.{small_levels}
@@ -23,9 +23,7 @@ overflow_add-base c =
     omega (arith, f, s.requires.1, s.requires.4, band_length_lem s.args.band)
 
 pub overflow_mul-base : goal.overflow_mul-base
-overflow_mul-base c = omega (arith, (let s = c in
-    let f : length s.args.state.now < 0x1_0000_0000_0000_0000 = search rules in
-    omega (arith, f, s.requires.1, s.requires.4, band_length_lem s.args.band)))
+overflow_mul-base c = omega (arith, overflow_add-base c)
 
 pub loop-y-init : goal.loop-y-init
 loop-y-init c =
@@ -63,18 +61,10 @@ slice_bounds-set_row-end c =
     omega (arith, e, f, s.requires.5)
 
 pub offset_bounds-planes-from : goal.offset_bounds-planes-from
-offset_bounds-planes-from c = omega (arith, (let s = c in
-    let l = c.loop-y in
-    let e = row_inside s.args.band l.y l.from (omega arith) l.invariant.1 in
-    let f : length s.args.planes.now * 4 < 0x1_0000_0000_0000_0000 = search rules in
-    omega (arith, e, f, s.requires.5)))
+offset_bounds-planes-from c = omega (arith, slice_bounds-set_row-end c)
 
 pub slice_bounds-set_row-start : goal.slice_bounds-set_row-start
-slice_bounds-set_row-start c = omega (arith, (let s = c in
-    let l = c.loop-y in
-    let e = row_inside s.args.band l.y l.from (omega arith) l.invariant.1 in
-    let f : length s.args.planes.now * 4 < 0x1_0000_0000_0000_0000 = search rules in
-    omega (arith, e, f, s.requires.5)))
+slice_bounds-set_row-start c = omega (arith, slice_bounds-set_row-end c)
 
 pub set_row-requires : goal.set_row-requires
 set_row-requires c =

@@ -1,17 +1,15 @@
 use native.Mathlib.Omega.{arith}
 use borrow.Author.Rules.{rules}
 use mathlib.Core.Path.{◌≡◌, refl, sym, ap, ◌∙◌}
-use mathlib.Core.Bool.{false}
-use mathlib.Core.List.{List, map}
-use Prim.Native.Nat.{ℕ, ◌+◌, ◌-◌, ◌*◌, ◌≤◌, ◌<◌}
+use mathlib.Core.List.{List}
+use Prim.Native.Nat.{ℕ, ◌+◌, ◌*◌, ◌≤◌, ◌<◌}
 use lib.ListN.{length, get_or, take, drop, length-take, drop_of_length-le}
 use Rattle.t800.specs.declared.Band.{Band}
-use Rattle.t800.specs.Base.{sum}
 use Rattle.t800.specs.State.{blocks_in, blocks_at, blocks, end_of, state_length}
 use Rattle.t800.specs.Start.{set_zero_planes}
 use Rattle.tcd_laws.specs.Geometry.{no_band}
 use Rattle.tcd_laws.proofs.Laws.Bands.{next_band, sides_of_first, end_turn, length-blocks, blocks-turn}
-use Rattle.tcd_laws.proofs.Laws.BlockPlanes.{deep_from, deep_is}
+use Rattle.tcd_laws.proofs.Laws.BlockPlanes.{deep_is}
 use Rattle.t2_start_planes.proofs.Laws.Runs.{part_length}
 use Rattle.t2_start_planes.proofs.Laws.BlockRows.{band_inside}
 use Rattle.t2_start_planes.proofs.Laws.ZeroPlanes.{shallow_turn, band_turn}
@@ -56,24 +54,10 @@ slice_bounds-set_band-end c =
     omega (arith, e, f, l.invariant.3, c.band_blocks-size.ensures)
 
 pub offset_bounds-planes-from : goal.offset_bounds-planes-from
-offset_bounds-planes-from c = omega (arith, (let s = c in
-    let l = c.loop-i in
-    let g : length s.args.bands ≡ 3 = search rules in
-    let k : s.args.n ≤ length s.args.bands = omega (arith, s.requires.0) in
-    let b : Band = get_or s.args.bands l.i no_band in
-    let e = blocks-turn s.args.bands s.args.n l.i l.from k (omega arith) in
-    let f : length s.args.planes.now * 4 < 0x1_0000_0000_0000_0000 = search rules in
-    omega (arith, e, f, l.invariant.3, c.band_blocks-size.ensures)))
+offset_bounds-planes-from c = omega (arith, slice_bounds-set_band-end c)
 
 pub slice_bounds-set_band-start : goal.slice_bounds-set_band-start
-slice_bounds-set_band-start c = omega (arith, (let s = c in
-    let l = c.loop-i in
-    let g : length s.args.bands ≡ 3 = search rules in
-    let k : s.args.n ≤ length s.args.bands = omega (arith, s.requires.0) in
-    let b : Band = get_or s.args.bands l.i no_band in
-    let e = blocks-turn s.args.bands s.args.n l.i l.from k (omega arith) in
-    let f : length s.args.planes.now * 4 < 0x1_0000_0000_0000_0000 = search rules in
-    omega (arith, e, f, l.invariant.3, c.band_blocks-size.ensures)))
+slice_bounds-set_band-start c = omega (arith, slice_bounds-set_band-end c)
 
 pub set_band-requires : goal.set_band-requires
 set_band-requires c =

@@ -1,20 +1,12 @@
-use native.Mathlib.Omega.{arith}
-use borrow.Author.Rules.{rules}
-use mathlib.Core.Path.{◌≡◌, refl, sym, ap, ◌∙◌}
+use mathlib.Core.Path.{◌≡◌}
 use mathlib.Core.Bool.{false}
-use mathlib.Core.List.{List, map}
-use Prim.Native.Nat.{ℕ, ◌+◌, ◌-◌, ◌*◌, ◌≤◌, ◌<◌}
-use lib.ListN.{length, get_or, take, drop, length-take, drop_of_length-le}
-use Rattle.t800.specs.declared.Band.{Band}
+use mathlib.Core.List.{map}
+use Prim.Native.Nat.{◌+◌, ◌-◌, ◌≤◌}
+use lib.ListN.{length, take, drop}
 use Rattle.t800.specs.Base.{sum}
-use Rattle.t800.specs.State.{blocks_in, blocks_at, blocks, end_of, state_length}
+use Rattle.t800.specs.State.{blocks_in, blocks_at, blocks, end_of}
 use Rattle.t800.specs.Start.{set_zero_planes}
-use Rattle.tcd_laws.specs.Geometry.{no_band}
-use Rattle.tcd_laws.proofs.Laws.Bands.{next_band, sides_of_first, end_turn, length-blocks, blocks-turn}
-use Rattle.tcd_laws.proofs.Laws.BlockPlanes.{deep_from, deep_is}
-use Rattle.t2_start_planes.proofs.Laws.Runs.{part_length}
-use Rattle.t2_start_planes.proofs.Laws.BlockRows.{band_inside}
-use Rattle.t2_start_planes.proofs.Laws.ZeroPlanes.{shallow_turn, band_turn}
+use Rattle.tcd_laws.proofs.Laws.BlockPlanes.{deep_from}
 use Rattle.t2_start_planes.proofs.set_zero_planes.Given as goal
 
 abbrev pub invariant-loop-i : goal.invariant-loop-i

@@ -56,7 +56,7 @@ returns-then-segments-at c =
     }
 
 pub held_at-held-requires : goal.held_at-held-requires
-held_at-held-requires c = omega (arith, (first (goal.at.held_at-held-requires c).Else-segments-at).field, (first (goal.at.held_at-held-requires c).Else-segments-at).size)
+held_at-held-requires c = omega (arith, (first c).field, (first c).size)
 
 pub overflow_sub-held : goal.overflow_sub-held
 overflow_sub-held c = omega (arith, c.loop-done.invariant.2.skips c.if-segments-at.false, c.held_at-held.ensures)
@@ -95,7 +95,7 @@ loop-done-preserved c =
     )
 
 pub returns : goal.returns
-returns c =
+returns-then-segments-at (goal.at.returns c).Then-segments-at =
     let l = c.loop-done in
     let s = c.args in
     let window = window_of (unpacked s.segments.now).bytes s.from (length s.to.now) in
@@ -115,10 +115,10 @@ pub overflow_sub-to : goal.overflow_sub-to
 overflow_sub-to c = c.loop-done.invariant.0
 
 pub overflow_add-first : goal.overflow_add-first
-overflow_add-first c = omega (arith, (fits (goal.at.overflow_add-first c).After-smaller-n).0)
+overflow_add-first c = omega (arith, (fits c).0)
 
 pub overflow_add-first-in-loop-done : goal.overflow_add-first-in-loop-done
-overflow_add-first-in-loop-done c = omega (arith, (fits (goal.at.overflow_add-first-in-loop-done c).After-smaller-n).0)
+overflow_add-first-in-loop-done c = omega (arith, (fits c).0)
 
 pub copy_piece-requires : goal.copy_piece-requires
 copy_piece-requires c = omega (arith, fits (goal.at.copy_piece-requires c).After-smaller-n)

@@ -18,7 +18,7 @@ first c =
     first_of_lem segments l.at (drop l.before (unpacked segments).bytes) l.invariant.0.here c.loop-at-test.true
 
 pub held_at-held-requires : goal.held_at-held-requires
-held_at-held-requires c = omega (arith, (first (goal.at.held_at-held-requires c).In-loop-at).field, (first (goal.at.held_at-held-requires c).In-loop-at).size)
+held_at-held-requires c = omega (arith, (first c).field, (first c).size)
 
 pub overflow_add-next : goal.overflow_add-next
 overflow_add-next c = omega (arith, (first (goal.at.overflow_add-next c).In-loop-at).size, c.held_at-held.ensures, c.loop-at.invariant.0.fewer)
@@ -47,7 +47,7 @@ loop-at-preserved c =
     )
 
 pub returns : goal.returns
-returns c =
+returns-then-from-next (goal.at.returns c).Then-from-next =
     let l = c.loop-at in
     record { cursor = l.invariant.0; before = l.invariant.1; inside = λ h. absurd (omega (arith, h, c.loop-at-test.false)) }
 

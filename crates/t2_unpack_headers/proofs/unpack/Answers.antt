@@ -28,10 +28,10 @@ returns-then-size-eq0 c =
     c.loop-at-test.true _ c.size_at-size.ensures c.if-size-eq0.true
 
 pub overflow_add-bytes : goal.overflow_add-bytes
-overflow_add-bytes c = omega (arith, right (goal.at.overflow_add-bytes c).Else-size-eq0, c.loop-at.invariant.fewer)
+overflow_add-bytes c = omega (arith, right c, c.loop-at.invariant.fewer)
 
 pub overflow_add-index : goal.overflow_add-index
-overflow_add-index c = omega (arith, right (goal.at.overflow_add-index c).Else-size-eq0, c.loop-at.invariant.indices)
+overflow_add-index c = omega (arith, right c, c.loop-at.invariant.indices)
 
 pub loop-at-preserved : goal.loop-at-preserved
 loop-at-preserved c =
@@ -40,15 +40,15 @@ loop-at-preserved c =
     c.loop-at-test.true _ c.size_at-size.ensures c.if-size-eq0.false
 
 pub returns : goal.returns
-returns c =
+returns-then-size-eq0 (goal.at.returns c).Then-size-eq0 =
     let l = c.loop-at in
     looked_none c.args.segments.now l.index l.at l.bytes l.invariant c.loop-at-test.false
 
 pub overflow_add-at : goal.overflow_add-at
-overflow_add-at c = omega (arith, right (goal.at.overflow_add-at c).Else-size-eq0)
+overflow_add-at c = omega (arith, right c)
 
 pub overflow_sub-bytes : goal.overflow_sub-bytes
-overflow_sub-bytes c = omega (arith, right (goal.at.overflow_sub-bytes c).Else-size-eq0)
+overflow_sub-bytes c = omega (arith, right c)
 
 pub loop-at-smaller : goal.loop-at-smaller
-loop-at-smaller c = omega (arith, right (goal.at.loop-at-smaller c).Else-size-eq0)
+loop-at-smaller c = omega (arith, right c)

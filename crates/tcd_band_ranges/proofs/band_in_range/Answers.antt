@@ -43,7 +43,7 @@ blocks_in_range-requires c = let s = c in
     omega (arith, s.requires.0, c.band_blocks.ensures, band_length_lem s.args.band, s.requires.1)
 
 pub returns : goal.returns
-returns c =
+returns-then-not-nodes_in_range (goal.at.returns c).Then-not-nodes_in_range =
     let incl = c in
     let s = incl.args in
     let t = sym c.if-not-nodes_in_range.false ∙ incl.nodes_in_range.ensures in

@@ -20,7 +20,7 @@ loop-i-preserved c =
     let layered = looped in
     let s = layered.args in
     let words = block_words s.state.now (s.at + 4 * l.i) _ _ _ _ layered.word-role.ensures
-    layered.word-bits.ensures layered.word-layer.ensures looped.Limits-of.ensures in (
+    layered.word-bits.ensures layered.word-layer.ensures looped.limits_of-limits.ensures in (
       omega arith,
       faults_turn (λ k. block_in_range s.state.now (s.at + 4 * k)) l.i l.faults _ l.invariant.1
           (c.block_fault-faults.ensures ∙ ap fault words),
