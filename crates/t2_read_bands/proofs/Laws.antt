@@ -1,2 +1,2 @@
-pub mod ReadBlocks
+pub mod ReadRows
 pub mod ReadBands

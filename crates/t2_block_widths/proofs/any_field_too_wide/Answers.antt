@@ -1,17 +1,12 @@
-use Prim.Native.Nat.{ℕ, ◌-◌}
+use Prim.Native.Nat.{ℕ}
 use borrow.Author.Tests.{lt-ltb, le-ltb}
 use lib.Dec.{ltb}
-use lib.ListN.{length}
-use mathlib.Core.Bool.{Bool}
 use mathlib.Core.Path.{◌∙◌, ap, refl, sym}
 use native.Mathlib.Omega.{arith}
-use Rattle.t800.specs.Segments.{Segment, width}
-use Rattle.t2_block_widths.proofs.Laws.{NoneBefore, Turn, turn, none_left}
+use Rattle.t2_block_widths.proofs.Laws.{Turn, turn, none_left}
+use Rattle.t2_block_widths.proofs.any_field_too_wide.Invariants.{too_wide}
 use Rattle.t2_block_widths.proofs.any_field_too_wide.Goals as goal
 use Rattle.t2_block_widths.proofs.any_field_too_wide.Goals.{After-segment_at-s}
-
-abbrev too_wide : ℕ → Segment → Bool
-too_wide length-bits s = ltb 32 (width length-bits s.passes)
 
 at-segment : (c : After-segment_at-s)
     → let s = c in

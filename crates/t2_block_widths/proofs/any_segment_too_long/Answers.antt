@@ -1,17 +1,10 @@
-use Prim.Native.Nat.{◌-◌, ◌^◌}
 use borrow.Author.Tests.{le-leb, lt-leb}
-use lib.Dec.{leb}
-use lib.ListN.{length}
-use mathlib.Core.Bool.{Bool}
 use mathlib.Core.Path.{refl}
 use native.Mathlib.Omega.{arith}
-use Rattle.t800.specs.Segments.{Segment}
-use Rattle.t2_block_widths.proofs.Laws.{NoneBefore, Turn, turn, none_left}
+use Rattle.t2_block_widths.proofs.Laws.{Turn, turn, none_left}
+use Rattle.t2_block_widths.proofs.any_segment_too_long.Invariants.{too_long}
 use Rattle.t2_block_widths.proofs.any_segment_too_long.Goals as goal
 use Rattle.t2_block_widths.proofs.any_segment_too_long.Goals.{After-segment_at-s}
-
-abbrev too_long : Segment → Bool
-too_long s = leb (2 ^ 31) s.bytes
 
 at-segment : (c : After-segment_at-s)
     → let s = c in

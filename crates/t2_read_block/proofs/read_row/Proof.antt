@@ -9,7 +9,7 @@ use Rattle.tcd_places.specs.declared.Place.{Place}
 use Rattle.t2_read_segments.specs.Reading.{reading, BlockFits}
 use Rattle.t2_read_block_parts.specs.Blocks.{next_block, next_blocks}
 use Rattle.tcd_places.specs.Places.{BlockIn, RowIn, block_in, row_blocks}
-use Rattle.tcd_places.proofs.Laws.Rows.{block_in-inside, row_end}
+use Rattle.tcd_places.proofs.Laws.Rows.{block_in, row_end}
 use Rattle.t2_read_block_parts.proofs.Laws.Kept.{Keeps}
 use Rattle.t2_read_block.proofs.Laws.Rows.{block_fits, reads_then, reads_no_more, keeps_then}
 use Rattle.t2_read_block.proofs.read_row.Statement.{statement}
@@ -63,7 +63,7 @@ read-block-requires c κs =
     let r = subst (λ (m : ℕ). RowIn m a.p a.row.now a.n) (sym l.invariant.1) s.requires.2 in (
       l.invariant.0.bits.few,
       subst (λ (k : Place). BlockIn (length l.words) k a.row.now) (sym e)
-          (block_in-inside (length l.words) a.n l.i a.p a.row.now t r),
+          (block_in (length l.words) a.n l.i a.p a.row.now t r),
       s.requires.3,
       omega (arith, s.requires.4, t),
       subst (λ (k : Place). BlockFits l.words k.at) (sym e)

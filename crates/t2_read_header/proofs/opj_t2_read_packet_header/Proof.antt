@@ -1,25 +1,169 @@
 -- `t2_read_header::opj_t2_read_packet_header` meets its contract.
-use mathlib.Core.Path.{sym, subst}
+use mathlib.Core.Path.{◌≡◌, refl, sym, ap, ◌∙◌, subst}
+use mathlib.Core.Bool.{Bool, true, false, not}
+use mathlib.Core.List.{List}
+use Prim.Native.Nat.{ℕ, ◌≤◌}
+use native.Mathlib.Omega.{arith}
 use lib.ListN.{length}
-use Rattle.t800.specs.State.{reader}
-use Rattle.tcd_laws.proofs.Laws.ValidStates.{valid_state_lem}
-use Rattle.t2_read_header.specs.Header.{ReadsHeader}
-use Rattle.t2_read_header.proofs.Laws.HeaderEnd.{header_reads}
+use Rattle.t800.specs.declared.Bio.{Bio}
+use Rattle.t800.specs.declared.Band.{Band}
+use Rattle.t800.specs.Bits.{ends_in_ff}
+use Rattle.t800.specs.State.{reader, layer, blocks, end_of}
+use Rattle.tcd_laws.specs.Geometry.{AllUpTo64}
+use Rattle.bio_read_end.specs.declared.Aligned.{Aligned}
+use Rattle.bio_read_end.specs.HeaderEnd.{aligned_at}
+use Rattle.tcd_laws.proofs.Laws.FirstWords.{first_bands}
+use Rattle.tcd_laws.proofs.Laws.ValidStates.{valid_state_lem, bands-inside, thirteen_words}
+use Rattle.t2_read_segments.specs.declared.Run.{Run}
+use Rattle.t2_read_segments.specs.Reading.{reading}
+use Rattle.t2_read_block_parts.specs.Blocks.{next_blocks}
+use Rattle.t2_read_bands.specs.Bands.{BandsFit}
+use Rattle.t2_read_bands.proofs.Laws.ReadBands.{bands-fit}
+use Rattle.t2_read_header.proofs.Laws.HeaderEnd.{bits_in, header_refused, header_done, header_cut}
 use borrow.Author.Rules.{rules}
 use Rattle.t2_read_header.proofs.opj_t2_read_packet_header.Statement.{statement}
 use Rattle.t2_read_header.proofs.opj_t2_read_packet_header.Tie as tie
 
-returns : tie.Need-returns
-returns c =
-    let s = c.before.before.before.before.before.before.before.before.before.before.before.before.before.before in
+abbrev start_at : Bio → Run
+start_at b = record { bio = b; count = 0; refusal = 0 }
+
+-- what `ok` says of the last byte
+ends : (src : List ℕ) (b : Bio) (r : Aligned) (t : Bool) → r ≡ aligned_at src b → r.ok ≡ t → ends_in_ff src b ≡ not t
+unfolding aligned_at
+ends src b r t e o = flip (ends_in_ff src b) t (sym (ap (λ (x : Aligned). x.ok) e) ∙ o)
+  where
+    flip : (x y : Bool) → not x ≡ y → x ≡ not y
+    flip true y q = ap not q
+    flip false y q = ap not q
+
+bands-of-requires : tie.Need-bands-of-requires
+bands-of-requires c κs =
+    let s = c.before.before.before.before.before in
+    let ws = s.args.words.now in
+    thirteen_words ws (length ws) (valid_state_lem reader ws (length ws) s.requires.0)
+
+slice-read-n : tie.Need-slice-read-n
+slice-read-n c =
+    let s = c.before.before.before.before.before.before.before in
     let a = s.args in
     let ws = a.words.now in
     let v = valid_state_lem reader ws (length ws) s.requires.0 in
-    subst (ReadsHeader a.src.now a.reports.now a.records.now ws a.b)
-    (sym c.before.before.before.before.before.before.read-header.ensures)
-    (header_reads a.src.now a.reports.now a.records.now ws a.b v s.requires.2 s.requires.3)
+    omega (arith, thirteen_words ws (length ws) v)
+
+cast-n : tie.Need-overflow-cast-n
+cast-n c =
+    let s = c.before.before.before.before.before.before.before in
+    let a = s.args in
+    let ws = a.words.now in
+    let v = valid_state_lem reader ws (length ws) s.requires.0 in
+    omega (arith, v.three_bands_lem)
+
+slice-read-layer : tie.Need-slice-read-layer
+slice-read-layer c =
+    let s = c.before.before.before.before.before.before.before.before in
+    let a = s.args in
+    let ws = a.words.now in
+    let v = valid_state_lem reader ws (length ws) s.requires.0 in
+    omega (arith, thirteen_words ws (length ws) v)
+
+read-bands-requires : tie.Need-read-bands-requires
+read-bands-requires c κs =
+    let s = c.before.before.before.before.before.before.before.before.before.before.before in
+    let a = s.args in
+    let ws = a.words.now in
+    let v = valid_state_lem reader ws (length ws) s.requires.0 in
+    let e = first_bands ws _ _ refl c.before.before.before.before.before.bands-of.ensures in (
+      s.requires.3,
+      refl,
+      v.three_bands_lem,
+      subst AllUpTo64 (sym e) v.sides,
+      subst (λ (bs : List Band). end_of 13 bs ≤ length ws) (sym e) (bands-inside ws (length ws) v),
+      s.requires.1,
+      subst (BandsFit ws 13) (sym e) (bands-fit ws 13 _ s.requires.1 v.ranges),
+    )
+
+returns : tie.Need-returns
+returns c =
+    let s = c.before.before.before.before.before.before.before.before.before.before.before.before.before.before.before.before.before.before.before.before in
+    let a = s.args in
+    let ws = a.words.now in
+    let v = valid_state_lem reader ws (length ws) s.pre.0 in
+    let e = first_bands ws _ _ refl
+    c.before.before.before.before.before.before.before.before.before.before.before.before.before.before.bands-of.ensures in
+    let f = c.before.before.before.before.before.before.before.before.read-bands in
+    let is = f.ensures ∙ ap
+    (λ (bs : List Band). next_blocks a.src.now (layer ws) 0 (blocks bs)
+    (reading ws a.reports.now a.records.now (start_at a.b))) e in
+    header_refused a.src.now a.reports.now a.records.now ws a.b v s.pre.2 (start_at a.b) refl _ is s.pre.3
+    c.if1.true
+
+opj-bio-inalign-requires : tie.Need-opj-bio-inalign-requires
+opj-bio-inalign-requires c κs =
+    let s = c.before.before.before.before.before.before.before.before.before.before.before.before.before.before.before.before.before.before.before.before in
+    let a = s.args in
+    let ws = a.words.now in
+    let v = valid_state_lem reader ws (length ws) s.pre.0 in
+    let e = first_bands ws _ _ refl
+    c.before.before.before.before.before.before.before.before.before.before.before.before.before.before.bands-of.ensures in
+    let f = c.before.before.before.before.before.before.before.before.read-bands in
+    let is = f.ensures ∙ ap
+    (λ (bs : List Band). next_blocks a.src.now (layer ws) 0 (blocks bs)
+    (reading ws a.reports.now a.records.now (start_at a.b))) e in
+    (bits_in a.src.now a.reports.now a.records.now ws a.b v s.pre.2 (start_at a.b) refl _ is s.pre.3).place
+
+returns-2 : tie.Need-returns-2
+returns-2 c =
+    let s = c.before.before.before.before.before.before.before.before.before.before.before.before.before.before.before.before.before.before.before.before.before.before in
+    let a = s.args in
+    let ws = a.words.now in
+    let v = valid_state_lem reader ws (length ws) s.pre.0 in
+    let e = first_bands ws _ _ refl
+    c.before.before.before.before.before.before.before.before.before.before.before.before.before.before.before.before.bands-of.ensures in
+    let f = c.before.before.before.before.before.before.before.before.before.before.read-bands in
+    let is = f.ensures ∙ ap
+    (λ (bs : List Band). next_blocks a.src.now (layer ws) 0 (blocks bs)
+    (reading ws a.reports.now a.records.now (start_at a.b))) e in
+    header_done a.src.now a.reports.now a.records.now ws a.b v s.pre.2 (start_at a.b) refl _ is s.pre.3
+    c.before.before.if1.false
+    (ends a.src.now f.result.bio _ true c.before.opj-bio-inalign.ensures c.if2.true)
+
+returns-3 : tie.Need-returns-3
+returns-3 c =
+    let s = c.before.before.before.before.before.before.before.before.before.before.before.before.before.before.before.before.before.before.before.before.before.before.before in
+    let a = s.args in
+    let ws = a.words.now in
+    let v = valid_state_lem reader ws (length ws) s.pre.0 in
+    let e = first_bands ws _ _ refl
+    c.before.before.before.before.before.before.before.before.before.before.before.before.before.before.before.before.before.bands-of.ensures in
+    let f = c.before.before.before.before.before.before.before.before.before.before.before.read-bands in
+    let is = f.ensures ∙ ap
+    (λ (bs : List Band). next_blocks a.src.now (layer ws) 0 (blocks bs)
+    (reading ws a.reports.now a.records.now (start_at a.b))) e in
+    header_cut a.src.now a.reports.now a.records.now ws a.b v s.pre.2 (start_at a.b) refl _ is s.pre.3
+    c.before.before.before.if1.false _
+    (ap (λ (o : Run). reading f.new.0 f.new.1.0 f.new.1.1.0 o) c.refuse.ensures)
+    (ends a.src.now f.result.bio _ false c.before.before.opj-bio-inalign.ensures c.before.if2.false)
 
 pub opj-t2-read-packet-header-spec : {M : Type 1} → statement M
 opj-t2-read-packet-header-spec =
     tie.close
-    (tie.spec (λ c κs. search rules) (λ c. search rules) (λ c. search rules) (λ c. search rules) returns)
+    (tie.spec
+    bands-of-requires
+    slice-read-n
+    cast-n
+    slice-read-layer
+    read-bands-requires
+    (λ c. search rules)
+    (λ c. search rules)
+    (λ c. search rules)
+    returns
+    opj-bio-inalign-requires
+    (λ c. search rules)
+    (λ c. search rules)
+    (λ c. search rules)
+    returns-2
+    (λ c κs. search rules)
+    (λ c. search rules)
+    (λ c. search rules)
+    (λ c. search rules)
+    returns-3)

@@ -74,11 +74,6 @@ done-requires c κs =
     s.pre.3 s.pre.4 s.pre.0 s.pre.1
     c.before.before.before.before.before.before.before.if1.false
 
-same-length-6 : tie.Need-same-length-6
-same-length-6 c = c.before.before.before.before.before.settle.auto.1.0
-    ∙ c.before.before.before.before.before.before.before.before.before.before.before.before.before.before.before.before.opj-t2-read-packet-header.auto.0
-    ∙ c.before.before.before.before.before.before.before.before.before.before.before.before.before.before.before.before.before.before.before.before.before.before.copy.auto.1.0
-
 returns-2 : tie.Need-returns-2
 returns-2 c =
     let s = c.before.before.before.before.before.before.before.before.before.before.before.before.before.before.before.before.before.before.before.before.before.before.before.before.before.before.before.before.before.before in
@@ -108,7 +103,7 @@ read-present-spec =
     settle-requires
     done-requires
     (λ c. search rules)
-    same-length-6
+    (λ c. search rules)
     (λ c. search rules)
     (λ c. search rules)
     returns-2)

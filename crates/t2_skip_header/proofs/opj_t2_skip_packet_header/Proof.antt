@@ -1,6 +1,6 @@
 -- `t2_skip_header::opj_t2_skip_packet_header` meets its contract.
 use mathlib.Core.List.{[]}
-use Rattle.t2_read_segments.specs.Reading.{reading}
+use Rattle.t2_within_segments.specs.Reading.{reading}
 use Rattle.t2_skip_header.proofs.Laws.Skips.{skips}
 use borrow.Author.Rules.{rules}
 use Rattle.t2_skip_header.proofs.opj_t2_skip_packet_header.Statement.{statement}

@@ -95,7 +95,7 @@ loop-done-preserved c =
     )
 
 pub returns : goal.returns
-returns-then-segments-at (goal.at.returns c).Then-segments-at =
+returns c =
     let l = c.loop-done in
     let s = c.args in
     let window = window_of (unpacked s.segments.now).bytes s.from (length s.to.now) in

@@ -47,7 +47,7 @@ loop-at-preserved c =
     )
 
 pub returns : goal.returns
-returns-then-from-next (goal.at.returns c).Then-from-next =
+returns c =
     let l = c.loop-at in
     record { cursor = l.invariant.0; before = l.invariant.1; inside = λ h. absurd (omega (arith, h, c.loop-at-test.false)) }
 

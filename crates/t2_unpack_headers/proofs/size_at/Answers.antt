@@ -41,7 +41,7 @@ returns-then-told-index c =
     c.if-told-index.true
 
 pub returns : goal.returns
-returns-then-left (goal.at.returns c).Then-left =
+returns c =
     let t = c in
     let s = t in
     let b = c in

@@ -40,7 +40,7 @@ loop-at-preserved c =
     c.loop-at-test.true _ c.size_at-size.ensures c.if-size-eq0.false
 
 pub returns : goal.returns
-returns-then-size-eq0 (goal.at.returns c).Then-size-eq0 =
+returns c =
     let l = c.loop-at in
     looked_none c.args.segments.now l.index l.at l.bytes l.invariant c.loop-at-test.false
 

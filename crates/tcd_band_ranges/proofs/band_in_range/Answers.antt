@@ -1,4 +1,3 @@
-use borrow.Author.Tests.{not-false, not-true}
 use mathlib.Core.Bool.{false, true}
 use mathlib.Core.Path.{◌∙◌, refl, sym}
 use native.Mathlib.Omega.{arith}
@@ -43,7 +42,7 @@ blocks_in_range-requires c = let s = c in
     omega (arith, s.requires.0, c.band_blocks.ensures, band_length_lem s.args.band, s.requires.1)
 
 pub returns : goal.returns
-returns-then-not-nodes_in_range (goal.at.returns c).Then-not-nodes_in_range =
+returns c =
     let incl = c in
     let s = incl.args in
     let t = sym c.if-not-nodes_in_range.false ∙ incl.nodes_in_range.ensures in

@@ -1,9 +1,8 @@
-use Prim.Native.Nat.{◌*◌, ◌+◌, ◌-◌, ◌≤◌}
-use mathlib.Core.Path.{◌∙◌, ◌≡◌, ap, refl}
+use Prim.Native.Nat.{◌*◌, ◌+◌}
+use mathlib.Core.Path.{◌∙◌, ap, refl}
 use native.Mathlib.Omega.{arith}
 use Rattle.t800.specs.Base.{every}
 use Rattle.t800.specs.Ranges.{block_in_range}
-use Rattle.t800.specs.State.{layer, role}
 use Rattle.tcd_laws.proofs.Laws.Faults.{faults_end, faults_turn}
 use Rattle.tcd_band_ranges.proofs.Laws.BandParts.{block_words}
 use Rattle.tcd_laws.specs.Parts.{fault}

@@ -7,4 +7,4 @@ returns-then-passes-eq0 c = simp (eq-eqb _ _ c.if-passes-eq0.true)
 
 pub returns : goal.returns
 unfolding writer
-returns-then-passes-eq0 (goal.at.returns c).Then-passes-eq0 = simp (ne_eqb _ _ c.if-passes-eq0.false)
+returns c = simp (ne_eqb _ _ c.if-passes-eq0.false)

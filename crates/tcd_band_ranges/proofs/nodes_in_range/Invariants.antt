@@ -1,9 +1,7 @@
 use Prim.Native.Nat.{◌*◌, ◌+◌, ◌-◌, ◌≤◌}
-use mathlib.Core.Path.{◌≡◌, refl}
-use native.Mathlib.Omega.{arith}
+use mathlib.Core.Path.{◌≡◌}
 use Rattle.t800.specs.Base.{every}
 use Rattle.t800.specs.Ranges.{node_in_range}
-use Rattle.tcd_laws.proofs.Laws.Faults.{faults_end, faults_turn}
 use Rattle.tcd_laws.specs.Parts.{fault}
 use Rattle.tcd_band_ranges.proofs.nodes_in_range.Given as goal
 

@@ -1,0 +1,2 @@
+pub mod ReadBlocks
+pub mod ReadBands

@@ -1,0 +1,2 @@
+pub mod BandBlocks
+pub mod HeaderEnd
