@@ -5,9 +5,9 @@
 ghost use Rattle.std.specs.Prelude.{◌≡◌, ◌≤◌, length};
 ghost use Rattle.gathered_vectors.specs.Counts.{IsPrefixLen};
 
-use t800::{GatherAnswer, Markers, ReadGatheredAnswer, WriteAnswer};
 use std::rt::Files;
 use std::{fs, io};
+use t800::{GatherAnswer, Markers, ReadGatheredAnswer};
 
 // ---- the file: words of four bytes, the highest first
 

@@ -5,9 +5,9 @@
 ghost use Rattle.std.specs.Prelude.{◌≡◌, ◌≤◌, length};
 ghost use Rattle.layer_vectors.specs.Counts.{IsPrefixLen};
 
-use t800::{LayerAnswer, Markers};
 use std::rt::Files;
 use std::{fs, io};
+use t800::{LayerAnswer, Markers};
 
 // ---- the file: words of four bytes, the highest first
 

@@ -6,9 +6,9 @@
 ghost use Rattle.std.specs.Prelude.{◌≡◌, ◌≤◌, length};
 ghost use Rattle.vectors.specs.Counts.{IsPrefixLen};
 
-use t800::{Band, Markers, MeasureAnswer, ReadAnswer, WriteAnswer};
 use std::rt::{Env, Files};
 use std::{env, fs, io};
+use t800::{Band, Markers, MeasureAnswer, ReadAnswer, WriteAnswer};
 
 // ---- a list: its bytes, as tools/make_vectors.py says them
 
