@@ -3,8 +3,10 @@
 #![tactic(auto)]
 
 ghost use Rattle.std.specs.Prelude.{◌≡◌, ◌≤◌, length};
-ghost use Rattle.io.specs.Counts.{IsPrefixLen};
+ghost use Rattle.layer_vectors.specs.Counts.{IsPrefixLen};
 
+use std::rt::Files;
+use std::{fs, io};
 use t800::{LayerAnswer, Markers};
 
 // ---- the file: words of four bytes, the highest first
@@ -57,7 +59,7 @@ fn size_at(words: &[u32], at: usize, k: usize) -> usize {
 // ---- lists
 
 // Where a list stands.
-#[derive(Drop)]
+#[derive(Clone, Copy)]
 struct Part {
     from: usize,
     to: usize,
@@ -131,13 +133,13 @@ fn bytes_room(value: u8) -> [u8; 4096]
 }
 
 // A list in its room, of which it takes the first so many.
-#[derive(Drop)]
+#[derive(Clone, Copy)]
 struct Words {
     words: [u32; 16384],
     size: usize,
 }
 
-#[derive(Drop)]
+#[derive(Clone, Copy)]
 struct Bytes {
     bytes: [u8; 4096],
     size: usize,
@@ -241,7 +243,7 @@ fn expected(
 // ---- calls
 
 // The place after a call, and whether it had an answer, as listed.
-#[derive(Drop)]
+#[derive(Clone, Copy)]
 struct Done {
     next: usize,
     good: bool,
@@ -434,7 +436,7 @@ fn call(list: &[u8], words: &[u32], at: usize, states: &mut [u32]) -> Done {
 // ---- all of them
 
 // How many answers were as listed, of how many, and whether the file was there and whole.
-#[derive(Drop)]
+#[derive(Clone, Copy)]
 struct Score {
     good: u32,
     of: u32,
@@ -475,42 +477,34 @@ fn run(list: &[u8]) -> Score {
     run_on(list, &words, &mut states)
 }
 
-// A file that fills the room may be longer than it.
-fn run_file(fd: i32) -> Score {
-    let mut room = io::large_buffer();
-    let n = io::read_full(fd, &mut room);
-    if n == 65536 {
-        return Score {
-            good: 0,
-            of: 0,
-            whole: false,
-        };
+const NONE: Score = Score {
+    good: 0,
+    of: 0,
+    whole: false,
+};
+
+// The words of a longer file have no room.
+fn run_file(list: &[u8]) -> Score {
+    if 65536 <= list.len() {
+        return NONE;
     }
-    run(&room[..n])
+    run(list)
 }
 
-fn run_layer() -> Score {
-    let fd = os::open_read(b"layer");
-    if fd < 0 {
-        return Score {
-            good: 0,
-            of: 0,
-            whole: false,
-        };
+fn run_layer<R: Files + Alloc>(rt: &R) -> Score {
+    match fs::read(rt, "layer") {
+        Ok(list) => run_file(list.as_slice()),
+        Err(_) => NONE,
     }
-    let s = run_file(fd);
-    libc::close(fd);
-    s
 }
 
-fn main() {
-    let s = run_layer();
-    io::write_all(1, b"layer: ");
-    io::print_decimal(1, s.good as u64);
-    io::write_all(1, b" of ");
-    io::print_decimal(1, s.of as u64);
-    if !s.whole {
-        io::write_all(1, b", the list is missing, cut or too long");
+fn main(rt: HostRuntime) -> io::Result<()> {
+    let s = run_layer(&rt);
+    let good = s.good;
+    let of = s.of;
+    if s.whole {
+        println!(rt; "layer: {good} of {of}")
+    } else {
+        println!(rt; "layer: {good} of {of}, the list is missing, cut or too long")
     }
-    io::write_all(1, b"\n");
 }

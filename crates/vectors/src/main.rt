@@ -4,8 +4,10 @@
 #![tactic(auto)]
 
 ghost use Rattle.std.specs.Prelude.{◌≡◌, ◌≤◌, length};
-ghost use Rattle.io.specs.Counts.{IsPrefixLen};
+ghost use Rattle.vectors.specs.Counts.{IsPrefixLen};
 
+use std::rt::{Env, Files};
+use std::{env, fs, io};
 use t800::{Band, Markers, MeasureAnswer, ReadAnswer, WriteAnswer};
 
 // ---- a list: its bytes, as tools/make_vectors.py says them
@@ -971,45 +973,37 @@ fn run(list: &[u8]) -> Score {
     run_on(list, &mut state)
 }
 
-// A file that fills the room may be longer than it.
-fn run_file(fd: i32) -> Score {
-    let mut room = io::large_buffer();
-    let n = io::read_full(fd, &mut room);
-    if n == 65536 {
-        return Score {
-            good: 0,
-            of: 0,
-            whole: false,
-        };
+const NONE: Score = Score {
+    good: 0,
+    of: 0,
+    whole: false,
+};
+
+// A longer file is no list.
+fn run_file(list: &[u8]) -> Score {
+    if 65536 <= list.len() {
+        return NONE;
     }
-    run(&room[..n])
+    run(list)
 }
 
-fn score_of(file: &[u8]) -> Score {
-    let fd = os::open_read(file);
-    if fd < 0 {
-        return Score {
-            good: 0,
-            of: 0,
-            whole: false,
-        };
+fn score_of<R: Files + Alloc>(rt: &R, file: &str) -> Score {
+    match fs::read(rt, file) {
+        Ok(list) => run_file(list.as_slice()),
+        Err(_) => NONE,
     }
-    let s = run_file(fd);
-    libc::close(fd);
-    s
 }
 
 // ---- what is written
 
-fn print(s: Score) {
-    io::write_all(1, b": ");
-    io::print_decimal(1, s.good);
-    io::write_all(1, b" of ");
-    io::print_decimal(1, s.of);
-    if !s.whole {
-        io::write_all(1, b", a list is missing, cut or too long");
+fn print(rt: &impl Print, s: Score) -> io::Result<()> {
+    let good = s.good;
+    let of = s.of;
+    if s.whole {
+        println!(rt; ": {good} of {of}")
+    } else {
+        println!(rt; ": {good} of {of}, a list is missing, cut or too long")
     }
-    io::write_all(1, b"\n");
 }
 
 fn sum(a: Score, b: Score) -> Score {
@@ -1020,32 +1014,28 @@ fn sum(a: Score, b: Score) -> Score {
     }
 }
 
-// The line of the list that argument i names; the sum with the lists before.
-fn listed(i: usize, before: Score) -> Score {
-    let mut name = io::buffer();
-    let n = os::arg(i, &mut name);
-    let s = score_of(&name[..n]);
-    io::write_all(1, &name[..n]);
-    print(s);
-    sum(before, s)
+// The line of the list that an argument names; the sum with the lists before.
+fn listed<R: Files + Alloc + Print>(rt: &R, name: &str, before: Score) -> io::Result<Score> {
+    let s = score_of(rt, name);
+    print!(rt; "{name}")?;
+    print(rt, s)?;
+    Ok(sum(before, s))
 }
 
-fn run_all(arguments: usize) -> Score {
+fn run_all<R: Env + Files + Alloc + Print>(rt: &R) -> io::Result<Score> {
     let mut all = Score {
         good: 0,
         of: 0,
         whole: true,
     };
-    let mut i: usize = 1;
-    while i < arguments {
-        all = listed(i, all);
-        i += 1;
+    for name in env::args(rt)?.skip(1) {
+        all = listed(rt, name.as_str(), all)?;
     }
-    all
+    Ok(all)
 }
 
-fn main() {
-    let all = run_all(os::arg_count());
-    io::write_all(1, b"all");
-    print(all);
+fn main(rt: HostRuntime) -> io::Result<()> {
+    let all = run_all(&rt)?;
+    print!(rt; "all")?;
+    print(&rt, all)
 }
