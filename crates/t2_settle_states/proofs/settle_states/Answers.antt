@@ -18,6 +18,11 @@ as_long c =
     let s = c in
     ap length c.loop-i.invariant.4 ∙ length-settled s.args.scratch.now s.args.states.now s.requires.2 c.loop-i.wait
 
+-- ---- precinct i
+
+abbrev words_of : In-loop-i → ℕ
+words_of c = get_or c.args.words.now c.loop-i.i 0
+
 can-be-settled : (c : In-loop-i) →
     let a = c.args in
     let l = c.loop-i in
@@ -48,7 +53,7 @@ words-there c =
       s.requires.2,
     )
 
-wait-after : (c : Joined-passes-i-eq0) → c.if-passes-i-eq0.wait ≤ c.loop-i.at + words_of c
+wait-after : (c : Joined-passes-i-eq0) → c.if-passes-i-eq0.wait ≤ c.loop-i.at + words_of c.before.before.before
 wait-after c =
     let l = c.loop-i in
     ⊎_elim (λ w. omega (arith, w.6)) (λ w. omega (arith, w.2, l.invariant.1)) c.if-passes-i-eq0.branch
@@ -58,11 +63,11 @@ states-after : (c : Joined-passes-i-eq0) → c.if-passes-i-eq0.states
 states-after c =
     let s = c in
     let l = c.loop-i in
-    let z = can-be-settled c in
+    let z = can-be-settled c.before.before.before in
     ⊎_elim
     (λ w. w.5 ∙ w.2.ensures
     ∙ settle_layer_settles s.args.scratch.now s.args.states.now s.requires.2 l.states l.wait l.at
-    (words_of c) l.invariant.4 l.invariant.1 z.0 z.1 (z.2 w.0.taken)
+    (words_of c.before.before.before) l.invariant.4 l.invariant.1 z.0 z.1 (z.2 w.0.taken)
     ∙ ap (λ (n : ℕ). settled_to n s.args.scratch.now s.args.states.now) (sym w.6))
     (λ w. w.1 ∙ l.invariant.4 ∙ ap (λ (n : ℕ). settled_to n s.args.scratch.now s.args.states.now) (sym w.2))
     c.if-passes-i-eq0.branch
@@ -70,12 +75,12 @@ states-after c =
 last-copied : (c : After-copy) →
     let a = c.args in
     let l = c.loop-i in
-    take l.wait l.states ++ (c.copy.new.1.0 ++ drop (l.at - l.wait) (drop l.wait l.states))
+    take l.wait l.states ++ (c.copy.new.to ++ drop (l.at - l.wait) (drop l.wait l.states))
     ≡ settled_to l.at a.scratch.now a.states.now
 last-copied c =
     let s = c in
     let l = c.loop-i in
-    waiting_copied s.args.scratch.now s.args.states.now s.requires.2 l.states c.copy.new.1.0 l.wait l.at
+    waiting_copied s.args.scratch.now s.args.states.now s.requires.2 l.states c.copy.new.to l.wait l.at
     l.invariant.4 l.invariant.1 (omega (arith, l.invariant.2, s.requires.2)) c.copy.ensures
 
 pub loop-i-init : goal.loop-i-init
@@ -86,9 +91,9 @@ settle_layer-requires c =
     let s = c in
     let l = c.loop-i in
     let t = c in
-    let e = as_long t in (
+    let e = as_long (goal.at.settle_layer-requires c).At-loop-i in (
       omega (arith, l.invariant.1),
-      omega (arith, e, (can-be-settled t).0, words-there t),
+      omega (arith, e, (can-be-settled (goal.at.settle_layer-requires c).In-loop-i).0, words-there (goal.at.settle_layer-requires c).In-loop-i),
       s.requires.2 ∙ sym e,
     )
 
@@ -109,8 +114,8 @@ loop-i-preserved c =
     let l = c.loop-i in
     let t = c in (
       omega (arith, t.loop-i-test.true),
-      wait-after (goal.at.loop-i-preserved c).Joined-passes-i-eq0,
-      omega (arith, words-there t, s.requires.2),
+      wait-after c,
+      omega (arith, words-there (goal.at.loop-i-preserved c).In-loop-i, s.requires.2),
       omega (
         arith,
         sum-turn (take a.n a.words.now) l.i
@@ -118,9 +123,9 @@ loop-i-preserved c =
         get_or-take a.n a.words.now l.i 0 (omega (arith, t.loop-i-test.true)),
         l.invariant.3,
       ),
-      states-after (goal.at.loop-i-preserved c).Joined-passes-i-eq0,
+      states-after c,
       settles_behind (drop (l.i + 1) (take a.n a.words.now)) (drop (l.i + 1) (take a.n a.passes.now)) a.scratch.now
-          a.states.now l.at (words_of t) (can-be-settled t).3,
+          a.states.now l.at (words_of (goal.at.loop-i-preserved c).In-loop-i) (can-be-settled (goal.at.loop-i-preserved c).In-loop-i).3,
     )
 
 -- ---- the words that wait at last

@@ -11,7 +11,7 @@ use lib.Dec.{ltb, eqb}
 use borrow.Author.Tests.{ltb-false, lt-ltb, le-ltb}
 use Rattle.t800.specs.Base.{Bytes}
 use Rattle.t800.specs.Refusals.{packed_refusal}
-use Rattle.t800.specs.PackedHeaders.{Unpacked, bad_segment, unpacked_from, unpacked}
+use Rattle.t800.specs.PackedHeaders.{Unpacked, bad_segment, unpacked_from}
 use Rattle.t800_laws.proofs.Laws.Tests.{on-lt, if-eq, if-ne, if-true, if-false, or_left, or_right}
 use Rattle.t2_unpack_headers.specs.Segments.{field_at, held_at, bad_at, unpacked_at}
 

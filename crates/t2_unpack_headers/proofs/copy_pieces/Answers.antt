@@ -106,7 +106,7 @@ returns c =
     }
 
 pub overflow_sub-skip : goal.overflow_sub-skip
-overflow_sub-skip c = c.requires
+overflow_sub-skip c = c.requires.before
 
 pub shape_of-to-then-segments-at : goal.shape_of-to-then-segments-at
 shape_of-to-then-segments-at c = c.loop-done.invariant.1

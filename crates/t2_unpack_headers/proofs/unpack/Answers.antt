@@ -1,7 +1,7 @@
-use Prim.Native.Nat.{◌+◌, ◌-◌, ◌≤◌}
+use Prim.Native.Nat.{◌+◌, ◌≤◌}
 use lib.ListN.{length}
 use native.Mathlib.Omega.{arith}
-use Rattle.t2_unpack_headers.proofs.Laws.Looks.{Looking, looking_first, looking_next, looked_none, looked_bad, right_segment}
+use Rattle.t2_unpack_headers.proofs.Laws.Looks.{looking_first, looking_next, looked_none, looked_bad, right_segment}
 use Rattle.t2_unpack_headers.proofs.unpack.Goals as goal
 use Rattle.t2_unpack_headers.proofs.unpack.Goals.{Else-size-eq0}
 

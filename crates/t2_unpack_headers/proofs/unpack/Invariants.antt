@@ -1,7 +1,6 @@
-use Prim.Native.Nat.{◌+◌, ◌-◌, ◌≤◌}
+use Prim.Native.Nat.{◌-◌}
 use lib.ListN.{length}
-use native.Mathlib.Omega.{arith}
-use Rattle.t2_unpack_headers.proofs.Laws.Looks.{Looking, looking_first, looking_next, looked_none, looked_bad, right_segment}
+use Rattle.t2_unpack_headers.proofs.Laws.Looks.{Looking}
 use Rattle.t2_unpack_headers.proofs.unpack.Given as goal
 
 abbrev pub invariant-loop-at : goal.invariant-loop-at

@@ -20,7 +20,7 @@ overflow_add-lenbits c =
       arith,
       c.segment_increment-more.ensures,
       s.requires.5,
-      increment-up_to_31 s.args (segments_of s.args.lengths.now s.args.marks.now) s.requires.4.short,
+      increment-up_to_31 s.args.before (segments_of s.args.lengths.now s.args.marks.now) s.requires.4.short,
     )
 
 pub put_pass_codeword-counted-requires : goal.put_pass_codeword-counted-requires
@@ -36,7 +36,7 @@ pub code_lengths-bio-requires : goal.code_lengths-bio-requires
 code_lengths-bio-requires c =
     let s = c in
     let m = c.segment_increment-more.ensures in
-    let w = subst (λ (k : ℕ). any_too_wide (s.args + k) (segments_of s.args.lengths.now s.args.marks.now) ≡ false)
+    let w = subst (λ (k : ℕ). any_too_wide (s.args.before + k) (segments_of s.args.lengths.now s.args.marks.now) ≡ false)
     (sym m) s.requires.6 in
     let f = subst FreeBitsClear
     (sym (ap (λ (x : Output). x.bio) c.put_pass_codeword-counted.ensures))
@@ -55,7 +55,7 @@ shape_of-out c = c.code_lengths-bio.auto.out
 pub returns : goal.returns
 returns c =
     let s = c in
-    lengths_are_lem (output s.args.out.now s.args.b) _ _ _ s.args s.args.count
+    lengths_are_lem (output s.args.out.now s.args.b) _ _ _ s.args.before s.args.count
     c.segment_increment-more.result
     (segments_of s.args.lengths.now s.args.marks.now)
     c.put_pass_codeword-counted.ensures

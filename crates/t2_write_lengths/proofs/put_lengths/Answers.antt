@@ -21,14 +21,14 @@ put_one_length-requires c =
       omega (arith, s.requires.3, s.requires.4.few),
       s.requires.5,
       (first_not_long _ _ _ e s.requires.4.short).0,
-      subst (λ (ss : List Segment). block_too_wide s.args ss ≡ false) e s.requires.6,
+      subst (λ (ss : List Segment). block_too_wide s.args.before ss ≡ false) e s.requires.6,
     )
 
 pub returns-then-first-count : goal.returns-then-first-count
 returns-then-first-count c =
     let s = c in
     c.put_one_length.ensures
-    ∙ ap (put_lengths (output s.args.out.now s.args.b) s.args s.args.count)
+    ∙ ap (put_lengths (output s.args.out.now s.args.b) s.args.before s.args.count)
     (sym (one_segment_lem s.args.lengths.now s.args.marks.now _ _ (sym s.requires.4.marked)
     (omega (arith, s.requires.2, s.requires.3)) c.segment_at-first.ensures
     (c.if-first-count.true ∙ s.requires.3)))

@@ -26,9 +26,9 @@ overflow_cast-width c =
     omega (
       arith,
       c.field_width-width.ensures,
-      one_narrow s.args _ (segment s.args.s.passes s.args.s.bytes)
+      one_narrow s.args.before _ (segment s.args.s.passes s.args.s.bytes)
           (c.bits_missing-more.ensures
-          ∙ one_increment s.args (segment s.args.s.passes s.args.s.bytes)) s.requires.6,
+          ∙ one_increment s.args.before (segment s.args.s.passes s.args.s.bytes)) s.requires.6,
     )
 
 pub opj_bio_write-bio-requires : goal.opj_bio_write-bio-requires
@@ -42,9 +42,9 @@ opj_bio_write-bio-requires c =
       omega (
         arith,
         c.field_width-width.ensures,
-        one_narrow s.args _ (segment s.args.s.passes s.args.s.bytes)
+        one_narrow s.args.before _ (segment s.args.s.passes s.args.s.bytes)
             (c.bits_missing-more.ensures
-            ∙ one_increment s.args (segment s.args.s.passes s.args.s.bytes)) s.requires.6,
+            ∙ one_increment s.args.before (segment s.args.s.passes s.args.s.bytes)) s.requires.6,
       ),
     )
 
@@ -53,11 +53,11 @@ returns c =
     let s = c in
     let one = segment s.args.s.passes s.args.s.bytes in
     let more = c.bits_missing-more in
-    let e = more.ensures ∙ one_increment s.args one in
+    let e = more.ensures ∙ one_increment s.args.before one in
     let field = ap (λ (k : ℕ). bits_of k s.args.s.bytes)
     c.field_width-width.ensures
-    ∙ one_field (s.args + more.result) one in
-    lengths_are_lem (output s.args.out.now s.args.b) _ _ _ s.args s.args.count more.result (one ∷ [])
+    ∙ one_field (s.args.before + more.result) one in
+    lengths_are_lem (output s.args.out.now s.args.b) _ _ _ s.args.before s.args.count more.result (one ∷ [])
     c.put_pass_codeword-counted.ensures
     c.opj_t2_putcommacode-widened.ensures
     (c.opj_bio_write-bio.ensures ∙ ap (put_bits _) field) e
