@@ -1,0 +1,18 @@
+use Prim.Native.Nat.{◌+◌, ◌-◌, ◌≤◌, ◌<◌}
+use lib.ListN.{drop, length}
+use mathlib.Core.Path.{◌∙◌, ◌≡◌, refl, sym}
+use native.Mathlib.Omega.{arith}
+use Rattle.t800.specs.Base.{sum}
+use Rattle.t800.specs.State.{reader}
+use Rattle.t800.specs.Gathered.{states_in}
+use Rattle.tcd_states.specs.States.{start_of, any_out_of_range}
+use Rattle.tcd_states.proofs.Laws.Walk.{at_inside, nothing_behind, found_out_of_range, one_left, found_on, found_in_range}
+use Rattle.tcd_states.proofs.Laws.Walk.{one_out_of_range, all_counted}
+use Rattle.tcd_states.proofs.count_states.Given as goal
+
+abbrev pub invariant-loop-at : goal.invariant-loop-at
+invariant-loop-at l = (l.at ≡ start_of (states_in l.states) l.count) × (l.count ≤ l.at) × (l.count ≤ length (states_in l.states))
+    × (any_out_of_range (drop l.count (states_in l.states)) ≡ any_out_of_range (states_in l.states))
+
+abbrev pub decreases-loop-at : goal.decreases-loop-at
+decreases-loop-at l = length l.states - l.at

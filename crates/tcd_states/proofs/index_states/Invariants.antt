@@ -1,0 +1,16 @@
+use Prim.Native.Nat.{◌+◌, ◌-◌, ◌*◌, ◌≤◌, ℕ}
+use lib.ListN.{length, length-set}
+use mathlib.Core.Path.{◌∙◌, ◌≡◌, ap}
+use native.Mathlib.Omega.{arith}
+use Rattle.t800.specs.Gathered.{states_in}
+use Rattle.tcd_states.specs.States.{start_of}
+use Rattle.tcd_states.proofs.Laws.Index.{FilledTo, none_filled, first_entry, one_filled, all_filled}
+use Rattle.tcd_states.proofs.Laws.Walk.{at_inside, valid_behind, so_many_on}
+use Rattle.tcd_states.proofs.index_states.Given as goal
+
+abbrev pub invariant-loop-i : goal.invariant-loop-i
+invariant-loop-i l = (l.i ≤ 256) × (length l.starts ≡ 256)
+    × (l.at ≡ start_of (states_in l.states) (l.i * l.stride)) × FilledTo (states_in l.states) l.stride l.i l.starts
+
+abbrev pub decreases-loop-i : goal.decreases-loop-i
+decreases-loop-i l = 256 - l.i
