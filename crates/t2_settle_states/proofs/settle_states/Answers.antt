@@ -53,7 +53,7 @@ words-there c =
       s.requires.2,
     )
 
-wait-after : (c : Joined-passes-i-eq0) → c.if-passes-i-eq0.wait ≤ c.loop-i.at + words_of c.before.before.before
+wait-after : (c : Joined-passes-i-eq0) → c.if-passes-i-eq0.wait ≤ c.loop-i.at + words_of (goal.at.Joined-passes-i-eq0 c).In-loop-i
 wait-after c =
     let l = c.loop-i in
     ⊎_elim (λ w. omega (arith, w.6)) (λ w. omega (arith, w.2, l.invariant.1)) c.if-passes-i-eq0.branch
@@ -63,11 +63,11 @@ states-after : (c : Joined-passes-i-eq0) → c.if-passes-i-eq0.states
 states-after c =
     let s = c in
     let l = c.loop-i in
-    let z = can-be-settled c.before.before.before in
+    let z = can-be-settled (goal.at.Joined-passes-i-eq0 c).In-loop-i in
     ⊎_elim
     (λ w. w.5 ∙ w.2.ensures
     ∙ settle_layer_settles s.args.scratch.now s.args.states.now s.requires.2 l.states l.wait l.at
-    (words_of c.before.before.before) l.invariant.4 l.invariant.1 z.0 z.1 (z.2 w.0.taken)
+    (words_of (goal.at.Joined-passes-i-eq0 c).In-loop-i) l.invariant.4 l.invariant.1 z.0 z.1 (z.2 w.0.taken)
     ∙ ap (λ (n : ℕ). settled_to n s.args.scratch.now s.args.states.now) (sym w.6))
     (λ w. w.1 ∙ l.invariant.4 ∙ ap (λ (n : ℕ). settled_to n s.args.scratch.now s.args.states.now) (sym w.2))
     c.if-passes-i-eq0.branch
@@ -100,12 +100,12 @@ settle_layer-requires c =
 pub overflow_add-wait : goal.overflow_add-wait
 overflow_add-wait c =
     let s = c in
-    omega (arith, words-there (goal.at.overflow_add-wait c).In-loop-i, s.well-formed.1.0)
+    omega (arith, words-there (goal.at.overflow_add-wait c).In-loop-i, s.well_formed.1.0)
 
 pub overflow_add-at : goal.overflow_add-at
 overflow_add-at c =
     let s = c in
-    omega (arith, words-there (goal.at.overflow_add-at c).In-loop-i, s.well-formed.1.0)
+    omega (arith, words-there (goal.at.overflow_add-at c).In-loop-i, s.well_formed.1.0)
 
 pub loop-i-preserved : goal.loop-i-preserved
 loop-i-preserved c =

@@ -1,14 +1,12 @@
-use mathlib.Core.Path.{◌≡◌, refl, sym, ap, ◌∙◌, subst}
-use mathlib.Core.Bool.{false}
+use mathlib.Core.Path.{refl, sym, ap, ◌∙◌, subst}
 use mathlib.Core.List.{List}
-use Prim.Native.Nat.{ℕ, ◌-◌, ◌≤◌}
+use Prim.Native.Nat.{ℕ, ◌≤◌}
 use native.Mathlib.Omega.{arith}
-use lib.ListN.{length, drop}
 use Rattle.t800.specs.Bits.{bits_of}
-use Rattle.t800.specs.Segments.{Segment, segments_of, length_fields}
+use Rattle.t800.specs.Segments.{Segment, length_fields}
 use Rattle.bio_bytes.specs.Writing.{Output, output, put_bits, FreeBitsClear}
 use Rattle.bio_write.proofs.Laws.FreeBits.{put_bits-clear}
-use Rattle.t2_segments.specs.Segments.{any_too_long, any_too_wide, segment}
+use Rattle.t2_segments.specs.Segments.{segment}
 use Rattle.t2_segments.proofs.Laws.Segments.{Next, next_segment_lem, no_segment_left, first_not_long, first_not_wide}
 use Rattle.t2_write_lengths.proofs.Laws.Fields.{fields_turn}
 use Rattle.t2_write_lengths.proofs.code_lengths.Goals as goal
@@ -26,7 +24,7 @@ narrow : (c : After-field_width-bits) → c.field_width-bits.result ≤ 32
 narrow c =
     let l = c.loop-i in
     let s = c in
-    omega (arith, c.field_width-bits.ensures, (first_not_wide s.args.lenbits _ _ _ (next c.before.before).is l.invariant.4).0)
+    omega (arith, c.field_width-bits.ensures, (first_not_wide s.args.lenbits _ _ _ (next (goal.at.After-field_width-bits c).After-segment_at-s).is l.invariant.4).0)
 
 pub loop-i-init : goal.loop-i-init
 loop-i-init c = let p = c.requires in (p.0, refl, omega arith, p.1.short, p.2, refl)

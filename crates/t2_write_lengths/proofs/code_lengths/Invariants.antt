@@ -1,16 +1,10 @@
-use mathlib.Core.Path.{◌≡◌, refl, sym, ap, ◌∙◌, subst}
+use mathlib.Core.Path.{◌≡◌}
 use mathlib.Core.Bool.{false}
-use mathlib.Core.List.{List}
-use Prim.Native.Nat.{ℕ, ◌-◌, ◌≤◌}
-use native.Mathlib.Omega.{arith}
+use Prim.Native.Nat.{◌-◌, ◌≤◌}
 use lib.ListN.{length, drop}
-use Rattle.t800.specs.Bits.{bits_of}
-use Rattle.t800.specs.Segments.{Segment, segments_of, length_fields}
-use Rattle.bio_bytes.specs.Writing.{Output, output, put_bits, FreeBitsClear}
-use Rattle.bio_write.proofs.Laws.FreeBits.{put_bits-clear}
-use Rattle.t2_segments.specs.Segments.{any_too_long, any_too_wide, segment}
-use Rattle.t2_segments.proofs.Laws.Segments.{Next, next_segment_lem, no_segment_left, first_not_long, first_not_wide}
-use Rattle.t2_write_lengths.proofs.Laws.Fields.{fields_turn}
+use Rattle.t800.specs.Segments.{segments_of, length_fields}
+use Rattle.bio_bytes.specs.Writing.{output, put_bits, FreeBitsClear}
+use Rattle.t2_segments.specs.Segments.{any_too_long, any_too_wide}
 use Rattle.t2_write_lengths.proofs.code_lengths.Given as goal
 
 abbrev pub invariant-loop-i : goal.invariant-loop-i
