@@ -1,0 +1,40 @@
+use Rattle.std.proofs.Common.{◌+◌, ap, ◌∙◌, arith, rules}
+use Rattle.bio_read.specs.Reading.{decoded}
+use Rattle.t2_within_segments.specs.declared.Run.{Run}
+use Rattle.t2_within_segments.specs.Reading.{reading}
+use Rattle.t2_within_segments.proofs.Laws.OneSegment.{segment-wide, segment-past_records, segment-read}
+use Rattle.t2_within_segments.proofs.read_segment.Goals as goal
+
+pub overflow_cast-words : goal.overflow_cast-words
+overflow_cast-words c = omega (arith, c.slice_known-3-1.given (c.args.at + 1))
+
+pub field_width-width-requires : goal.field_width-width-requires
+field_width-width-requires c = omega (arith, c.slice_known-3-1.given (c.args.at + 1))
+
+pub returns-then-width-gt32 : goal.returns-then-width-gt32
+returns-then-width-gt32 c =
+    let s = c in
+    λ reports. ap (λ (o : Run). reading s.args.words.now reports s.args.records.now o) c.refuse.ensures
+    ∙ segment-wide s.args.src.now s.args.block s.args.at s.args.n
+    (reading s.args.words.now reports s.args.records.now s.args.r) _ c.field_width-width.ensures
+    c.if-width-gt32.true
+
+pub returns-then-room-count : goal.returns-then-room-count
+returns-then-room-count c =
+    let s = c in
+    λ reports. ap (λ (o : Run). reading s.args.words.now reports s.args.records.now o) c.refuse-then-room-count.ensures
+    ∙ segment-past_records s.args.src.now s.args.block s.args.at s.args.n
+    (reading s.args.words.now reports s.args.records.now s.args.r) _ c.field_width-width.ensures
+    c.if-width-gt32.false c.if-room-count.true
+
+pub returns : goal.returns
+returns c =
+    let s = c in
+    λ reports. segment-read s.args.src.now s.args.block s.args.at s.args.n
+    (reading s.args.words.now reports s.args.records.now s.args.r) _
+    c.field_width-width.ensures s.args.s
+    (decoded c.opj_bio_read-len.result) _ _
+    c.if-width-gt32.false
+    c.if-room-count.false s.requires.3
+    c.opj_bio_read-len.ensures
+    c.put_record.ensures c.wrapping_add_u64-bytes.ensures
