@@ -1,7 +1,6 @@
 use lib.ListN.{drop, get_or, length, length-drop, length-take, take}
 use lib.Seq.{get_or-take}
 use mathlib.Core.List.{List, ◌∷◌, ◌++◌}
-use mathlib.Core.Logic.{⊎_elim}
 use mathlib.Core.Path.{◌∙◌, ◌≡◌, ap, refl, subst, sym}
 use native.Mathlib.Omega.{arith}
 use Prim.Native.Nat.{◌+◌, ◌-◌, ◌≤◌, ℕ}
@@ -11,7 +10,7 @@ use Rattle.t2_settle_states.specs.Settle.{Settles}
 use Rattle.t2_settle_states.proofs.Laws.{next_one, settled_to, length-settled, waiting_copied}
 use Rattle.t2_settle_states.proofs.Laws.{settle_layer_settles, settles_behind}
 use Rattle.t2_settle_states.proofs.settle_states.Goals as goal
-use Rattle.t2_settle_states.proofs.settle_states.Goals.{At-loop-i, In-loop-i, Joined-passes-i-eq0, After-copy}
+use Rattle.t2_settle_states.proofs.settle_states.Goals.{At-loop-i, In-loop-i, Joined-passes-i-eq0, After-copy, then-passes-i-eq0, else-passes-i-eq0}
 
 as_long : (c : At-loop-i) → length c.loop-i.states ≡ length c.args.states.now
 as_long c =
@@ -56,7 +55,10 @@ words-there c =
 wait-after : (c : Joined-passes-i-eq0) → c.if-passes-i-eq0.wait ≤ c.loop-i.at + words_of (goal.at.Joined-passes-i-eq0 c).In-loop-i
 wait-after c =
     let l = c.loop-i in
-    ⊎_elim (λ w. omega (arith, w.6)) (λ w. omega (arith, w.2, l.invariant.1)) c.if-passes-i-eq0.branch
+    elim c.if-passes-i-eq0.branch [
+      | then-passes-i-eq0 w ↦ omega (arith, w.wait-is)
+      | else-passes-i-eq0 w ↦ omega (arith, w.wait-is, l.invariant.1)
+    ]
 
 states-after : (c : Joined-passes-i-eq0) → c.if-passes-i-eq0.states
     ≡ settled_to c.if-passes-i-eq0.wait c.args.scratch.now c.args.states.now
@@ -64,13 +66,13 @@ states-after c =
     let s = c in
     let l = c.loop-i in
     let z = can-be-settled (goal.at.Joined-passes-i-eq0 c).In-loop-i in
-    ⊎_elim
-    (λ w. w.5 ∙ w.2.ensures
-    ∙ settle_layer_settles s.args.scratch.now s.args.states.now s.requires.2 l.states l.wait l.at
-    (words_of (goal.at.Joined-passes-i-eq0 c).In-loop-i) l.invariant.4 l.invariant.1 z.0 z.1 (z.2 w.0.taken)
-    ∙ ap (λ (n : ℕ). settled_to n s.args.scratch.now s.args.states.now) (sym w.6))
-    (λ w. w.1 ∙ l.invariant.4 ∙ ap (λ (n : ℕ). settled_to n s.args.scratch.now s.args.states.now) (sym w.2))
-    c.if-passes-i-eq0.branch
+    elim c.if-passes-i-eq0.branch [
+      | then-passes-i-eq0 w ↦ w.states-is ∙ w.settle_layer.ensures
+          ∙ settle_layer_settles s.args.scratch.now s.args.states.now s.requires.2 l.states l.wait l.at
+          (words_of (goal.at.Joined-passes-i-eq0 c).In-loop-i) l.invariant.4 l.invariant.1 z.0 z.1 (z.2 w.if-passes-i-eq0.true)
+          ∙ ap (λ (n : ℕ). settled_to n s.args.scratch.now s.args.states.now) (sym w.wait-is)
+      | else-passes-i-eq0 w ↦ w.states-is ∙ l.invariant.4 ∙ ap (λ (n : ℕ). settled_to n s.args.scratch.now s.args.states.now) (sym w.wait-is)
+    ]
 
 last-copied : (c : After-copy) →
     let a = c.args in

@@ -1,15 +1,9 @@
-use lib.ListN.{drop, get_or, length, length-drop, length-take, take}
-use lib.Seq.{get_or-take}
-use mathlib.Core.List.{List, ◌∷◌, ◌++◌}
-use mathlib.Core.Logic.{⊎_elim}
-use mathlib.Core.Path.{◌∙◌, ◌≡◌, ap, refl, subst, sym}
-use native.Mathlib.Omega.{arith}
-use Prim.Native.Nat.{◌+◌, ◌-◌, ◌≤◌, ℕ}
+use lib.ListN.{drop, length, take}
+use mathlib.Core.Path.{◌≡◌}
+use Prim.Native.Nat.{◌+◌, ◌-◌, ◌≤◌}
 use Rattle.t800.specs.Base.{sum}
-use Rattle.t800_laws.proofs.Laws.Sums.{sum-turn, sum-end}
 use Rattle.t2_settle_states.specs.Settle.{Settles}
-use Rattle.t2_settle_states.proofs.Laws.{next_one, settled_to, length-settled, waiting_copied}
-use Rattle.t2_settle_states.proofs.Laws.{settle_layer_settles, settles_behind}
+use Rattle.t2_settle_states.proofs.Laws.{settled_to}
 use Rattle.t2_settle_states.proofs.settle_states.Given as goal
 
 abbrev pub invariant-loop-i : goal.invariant-loop-i
