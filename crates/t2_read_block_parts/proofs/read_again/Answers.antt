@@ -33,6 +33,6 @@ returns c =
     let g = c.put_report in
     again_is s.args.src.now s.args.block
     (reading s.args.words.now s.args.reports.now s.args.records.now s.args.r)
-    (value_after n.last.words n.result) c.moved.result
+    (value_after n.new.words n.result) c.moved.result
     c.moved.ensures g.new.reports _ s.args.at n.ensures g.ensures
     (c.read_segments.ensures g.new.reports)

@@ -42,7 +42,7 @@ read_segments-requires c =
     let n = c.read_passes-n in
     let k = leaf_of p.zero s.args.row.now p.depth p.x in
     let few = raising_ct s.args.src.now k (not_yet_planes + 2) 0 s.args.words.now s.args.r.bio s.requires.0 in
-    let ps = passes_are s.args.src.now p.at 0 3 z.last.words z.result.bio (value_after n.new.words n.result)
+    let ps = passes_are s.args.src.now p.at 0 3 z.new.words z.result.bio (value_after n.new.words n.result)
     n.ensures (omega (arith, ap (λ (v : ValueAfter). v.bio.ct) z.ensures, few)) in
     let same = ap (λ (v : ValueAfter). drop p.at v.words) z.ensures
     ∙ raising_keeps s.args.src.now p.at k (not_yet_planes + 2) 0 s.args.words.now s.args.r.bio
@@ -51,8 +51,8 @@ read_segments-requires c =
       omega (arith, n.auto.words, z.kept.0, s.requires.1.inside),
       s.requires.2,
       ps.most,
-      fits_same (p.at + 2) p.at n.new.words z.last.words ps.after (omega arith)
-          (fits_same p.at p.at z.last.words s.args.words.now same (omega arith) s.requires.3),
+      fits_same (p.at + 2) p.at n.new.words z.new.words ps.after (omega arith)
+          (fits_same p.at p.at z.new.words s.args.words.now same (omega arith) s.requires.3),
       ap (λ (r : Run). r.refusal) c.moved.ensures,
     )
 
@@ -69,9 +69,9 @@ returns c =
     let g = c.put_report in
     first-is s.args.src.now s.args.block
     (reading s.args.words.now s.args.reports.now s.args.records.now s.args.r)
-    (value_after n.last.words n.result) c.moved.result
+    (value_after n.new.words n.result) c.moved.result
     c.moved.ensures g.new.reports _ s.args.p s.args.row.now s.args.planes
-    (value_after z.last.words z.result)
+    (value_after z.new.words z.result)
     c.block_planes-left.result
     z.ensures n.ensures
     c.block_planes-left.ensures

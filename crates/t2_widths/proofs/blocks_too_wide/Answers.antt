@@ -179,6 +179,18 @@ slice_bounds-block_too_wide-count-in-loop-i c =
     let l = c.loop-i in
     after l.from (get_or s.args.counts.now l.i 0)
 
+pub slice_bounds-block_too_wide-start-in-loop-i : goal.slice_bounds-block_too_wide-start-in-loop-i
+slice_bounds-block_too_wide-start-in-loop-i c =
+    let s = c in
+    let l = c.loop-i in
+    after l.from (get_or s.args.counts.now l.i 0)
+
+pub slice_bounds-block_too_wide-end-in-loop-i : goal.slice_bounds-block_too_wide-end-in-loop-i
+slice_bounds-block_too_wide-end-in-loop-i c =
+    let s = c in
+    let l = c.loop-i in
+    (here (goal.at.slice_bounds-block_too_wide-end-in-loop-i c).In-loop-i).3
+
 pub block_too_wide-requires : goal.block_too_wide-requires
 block_too_wide-requires c =
     let s = c in

@@ -1,4 +1,5 @@
 use Prim.Native.Nat.{◌+◌, ◌-◌, ◌*◌, ◌≤◌, ◌<◌, ℕ}
+use borrow.Author.Rules.{rules}
 use lib.ListN.{length, take, drop, get_or, drop_of_length-le, length-take, length-drop}
 use mathlib.Core.Bool.{true, false}
 use mathlib.Core.List.{List, map}
@@ -58,7 +59,7 @@ here c =
     let s = c in
     let l = c.loop-i in
     inside s.args.bands s.args.n l.i s.args.state.now s.args.counts.now s.args.lengths.now
-    s.args.marks.now l.at l.first l.from (all_three c.before.before.before.before.before.before) c.loop-i-test.true l.invariant.1 l.invariant.2 l.invariant.3
+    s.args.marks.now l.at l.first l.from (all_three (goal.at.In-loop-i c).Start) c.loop-i-test.true l.invariant.1 l.invariant.2 l.invariant.3
     s.requires.4
 
 index-fits : (a b : ℕ) → a ≤ b → Fits w64 (b * 4) → Fits w64 (a * 4)
@@ -160,11 +161,35 @@ slice_bounds-band_too_wide-count-in-loop-i c =
     let l = c.loop-i in
     (here (goal.at.slice_bounds-band_too_wide-count-in-loop-i c).In-loop-i).2
 
+pub slice_bounds-band_too_wide-start-in-loop-i : goal.slice_bounds-band_too_wide-start-in-loop-i
+slice_bounds-band_too_wide-start-in-loop-i c =
+    let s = c in
+    let l = c.loop-i in
+    (here (goal.at.slice_bounds-band_too_wide-start-in-loop-i c).In-loop-i).2
+
+pub slice_bounds-band_too_wide-end-in-loop-i : goal.slice_bounds-band_too_wide-end-in-loop-i
+slice_bounds-band_too_wide-end-in-loop-i c =
+    let s = c in
+    let l = c.loop-i in
+    le_refl (length s.args.lengths.now)
+
 pub slice_bounds-band_too_wide-count-in-loop-i-2 : goal.slice_bounds-band_too_wide-count-in-loop-i-2
 slice_bounds-band_too_wide-count-in-loop-i-2 c =
     let s = c in
     let l = c.loop-i in
     (here (goal.at.slice_bounds-band_too_wide-count-in-loop-i-2 c).In-loop-i).3
+
+pub slice_bounds-band_too_wide-start-in-loop-i-2 : goal.slice_bounds-band_too_wide-start-in-loop-i-2
+slice_bounds-band_too_wide-start-in-loop-i-2 c =
+    let s = c in
+    let l = c.loop-i in
+    (here (goal.at.slice_bounds-band_too_wide-start-in-loop-i-2 c).In-loop-i).3
+
+pub slice_bounds-band_too_wide-end-in-loop-i-2 : goal.slice_bounds-band_too_wide-end-in-loop-i-2
+slice_bounds-band_too_wide-end-in-loop-i-2 c =
+    let s = c in
+    let l = c.loop-i in
+    le_refl (length s.args.marks.now)
 
 pub band_too_wide-requires : goal.band_too_wide-requires
 band_too_wide-requires c =

@@ -1,4 +1,5 @@
 use Prim.Native.Nat.{◌+◌, ◌-◌, ◌*◌, ◌≤◌, ◌<◌, ℕ}
+use borrow.Author.Rules.{rules}
 use lib.ListN.{length, take, drop, get_or, drop_of_length-le, length-take, length-drop}
 use mathlib.Core.Bool.{true, false}
 use mathlib.Core.List.{List, map}

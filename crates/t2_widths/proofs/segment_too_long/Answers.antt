@@ -58,6 +58,20 @@ slice_bounds-any_segment_too_long-count-in-loop-i c =
     let k = sum-turn s.args.counts.now l.i (omega arith) in
     omega (arith, k, l.invariant.1, s.requires.0, s.requires.1)
 
+pub slice_bounds-any_segment_too_long-start-in-loop-i : goal.slice_bounds-any_segment_too_long-start-in-loop-i
+slice_bounds-any_segment_too_long-start-in-loop-i c =
+    let s = c in
+    let l = c.loop-i in
+    let k = sum-turn s.args.counts.now l.i (omega arith) in
+    omega (arith, k, l.invariant.1, s.requires.0, s.requires.1)
+
+pub slice_bounds-any_segment_too_long-end-in-loop-i : goal.slice_bounds-any_segment_too_long-end-in-loop-i
+slice_bounds-any_segment_too_long-end-in-loop-i c =
+    let s = c in
+    let l = c.loop-i in
+    let k = sum-turn s.args.counts.now l.i (omega arith) in
+    omega (arith, k, l.invariant.1, s.requires.0, s.requires.1)
+
 pub any_segment_too_long-requires : goal.any_segment_too_long-requires
 any_segment_too_long-requires c =
     let s = c in

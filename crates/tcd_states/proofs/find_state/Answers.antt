@@ -31,7 +31,7 @@ start c =
     let a = s.args in
     let ws = a.states.now in
     ap (λ (n : ℕ). get_or a.starts.now (a.place / a.stride) 0 + n) c.length_of_first.ensures
-    ∙ so_many_on ws (a.place / a.stride * a.stride) _ (entry c.before.before.before.before.before) (a.place % a.stride)
+    ∙ so_many_on ws (a.place / a.stride * a.stride) _ (entry (goal.at.After-length_of_first c).Start) (a.place % a.stride)
     ∙ ap (start_of (states_in ws)) (div-add-mod' a.place a.stride)
 
 start_left : (c : After-length_of_first) →

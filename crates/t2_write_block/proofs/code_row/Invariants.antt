@@ -1,0 +1,26 @@
+use mathlib.Core.Path.{◌≡◌, refl, sym, ap, ◌∙◌, subst}
+use mathlib.Core.List.{List}
+use Prim.Native.Nat.{ℕ, ◌-◌, ◌≤◌}
+use native.Mathlib.Omega.{arith}
+use lib.ListN.{length}
+use Rattle.t800.specs.State.{Block}
+use Rattle.bio_bytes.specs.Writing.{FreeBitsClear}
+use Rattle.tcd_places.specs.declared.Place.{Place}
+use Rattle.tcd_places.specs.Places.{BlockIn, RowIn, block_in, row_blocks}
+use Rattle.tcd_places.proofs.Laws.Rows.{block_in-inside, row_end}
+use Rattle.t2_write_block.specs.Runs.{Running, running, code_next, code_all, NextFits, AllFit}
+use Rattle.t2_write_block.proofs.Laws.Rows.{next_clear, fits_now, fits_then, codes_then}
+use Rattle.t2_write_block.proofs.code_row.Given as goal
+
+abbrev pub invariant-loop-i : goal.invariant-loop-i
+invariant-loop-i l =
+    (FreeBitsClear l.run.bio)
+    × (length l.words ≡ length l.initial.words)
+    × (length l.out ≡ length l.initial.out)
+    × (l.i ≤ l.n)
+    × (AllFit l.counts l.lengths l.marks l.words (row_blocks l.p l.row 0 (l.n - l.i) l.i) l.run.block l.run.pass)
+    × (code_all l.layer l.counts l.lengths l.marks (row_blocks l.p l.row 0 (l.n - l.i) l.i) (running l.words l.out l.run)
+    ≡ code_all l.layer l.counts l.lengths l.marks (row_blocks l.p l.row 0 l.n 0) (running l.initial.words l.initial.out l.initial.run))
+
+abbrev pub decreases-loop-i : goal.decreases-loop-i
+decreases-loop-i l = l.n - l.i
