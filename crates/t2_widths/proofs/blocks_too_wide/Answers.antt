@@ -7,7 +7,6 @@ use mir.Syntax.{w32, w64}
 use mir.Val.{Fits}
 use native.Mathlib.Omega.{arith}
 use Rattle.t800.specs.Base.{sum}
-use Rattle.t800.specs.WriteHeader.{segment_too_long}
 use Rattle.t2_widths.specs.Widths.{PassesLeft, wide_from}
 use Rattle.t800_laws.proofs.Laws.Sums.{sum-turn}
 use Rattle.t2_widths.proofs.Laws.Lists.{part_lists}

@@ -1,17 +1,10 @@
-use Prim.Native.Nat.{◌+◌, ◌-◌, ◌*◌, ◌≤◌, ◌<◌, ℕ}
-use lib.ListN.{length, drop, get_or}
-use mathlib.Core.Bool.{true, false}
-use mathlib.Core.List.{List}
-use mathlib.Core.Path.{◌≡◌, ◌∙◌, ap, refl, sym}
-use mir.Syntax.{w32, w64}
-use mir.Val.{Fits}
-use native.Mathlib.Omega.{arith}
+use Prim.Native.Nat.{◌+◌, ◌-◌, ◌*◌, ◌≤◌}
+use lib.ListN.{drop}
+use mathlib.Core.Bool.{false}
+use mathlib.Core.Path.{◌≡◌}
 use Rattle.t800.specs.Base.{sum}
 use Rattle.t800.specs.WriteHeader.{segment_too_long}
-use Rattle.t2_widths.specs.Widths.{PassesLeft, wide_from}
-use Rattle.t800_laws.proofs.Laws.Sums.{sum-turn}
-use Rattle.t2_widths.proofs.Laws.Lists.{part_lists}
-use Rattle.t2_widths.proofs.Laws.BlocksLeft.{none_long_here, wide_turn, wide_end}
+use Rattle.t2_widths.specs.Widths.{wide_from}
 use Rattle.t2_widths.proofs.blocks_too_wide.Given as goal
 
 abbrev pub invariant-loop-i : goal.invariant-loop-i

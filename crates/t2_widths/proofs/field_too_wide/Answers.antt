@@ -12,7 +12,7 @@ use Rattle.t800.specs.Base.{sum}
 use Rattle.t800.specs.State.{blocks, blocks_at, blocks_from, blocks_in, band_length, state_length, end_of}
 use Rattle.t800.specs.WriteHeader.{segment_too_long, field_too_wide}
 use Rattle.t800.specs.declared.Band.{Band}
-use Rattle.t800_laws.proofs.Laws.Layout.{band_length_lem, end_after}
+use Rattle.t800_laws.proofs.Laws.Layout.{end_after}
 use Rattle.tcd_laws.specs.Geometry.{no_band}
 use Rattle.tcd_laws.proofs.Laws.Bands.{next_band, sides_of_first, blocks-turn, end_turn, length-blocks, blocks-up_to_12288}
 use Rattle.t2_widths.specs.Widths.{PassesLeft}
@@ -289,13 +289,6 @@ overflow_add-at c =
     place_fits _ (length s.args.state.now)
     (with-length l.at _ _ _ c.band_length-words.ensures
     (here (goal.at.overflow_add-at c).In-loop-i).1) (rooms (goal.at.overflow_add-at c).Start).0
-
-pub overflow_add-i : goal.overflow_add-i
-overflow_add-i c =
-    let s = c in
-    let l = c.loop-i in
-    counted l.i s.args.n
-    c.loop-i-test.true s.fits.n
 
 pub loop-i-smaller : goal.loop-i-smaller
 loop-i-smaller c =

@@ -1,10 +1,8 @@
-use Prim.Native.Nat.{◌+◌, ◌-◌, ◌≤◌}
-use lib.ListN.{length, drop, get_or}
+use Prim.Native.Nat.{◌+◌}
+use lib.ListN.{get_or}
 use mathlib.Core.Bool.{true, false}
-use mathlib.Core.Path.{◌≡◌, ◌∙◌, refl, sym}
+use mathlib.Core.Path.{◌∙◌, refl, sym}
 use native.Mathlib.Omega.{arith}
-use Rattle.t800.specs.Base.{sum}
-use Rattle.t800.specs.WriteHeader.{segment_too_long}
 use Rattle.t800_laws.proofs.Laws.Sums.{sum-turn}
 use Rattle.t2_widths.proofs.Laws.Lists.{part_lists}
 use Rattle.t2_widths.proofs.Laws.BlocksLeft.{long_turn, long_end}

@@ -1,13 +1,8 @@
 use Prim.Native.Nat.{◌+◌, ◌-◌, ◌≤◌}
-use lib.ListN.{length, drop, get_or}
-use mathlib.Core.Bool.{true, false}
-use mathlib.Core.Path.{◌≡◌, ◌∙◌, refl, sym}
-use native.Mathlib.Omega.{arith}
+use lib.ListN.{length, drop}
+use mathlib.Core.Path.{◌≡◌}
 use Rattle.t800.specs.Base.{sum}
 use Rattle.t800.specs.WriteHeader.{segment_too_long}
-use Rattle.t800_laws.proofs.Laws.Sums.{sum-turn}
-use Rattle.t2_widths.proofs.Laws.Lists.{part_lists}
-use Rattle.t2_widths.proofs.Laws.BlocksLeft.{long_turn, long_end}
 use Rattle.t2_widths.proofs.segment_too_long.Given as goal
 
 abbrev pub invariant-loop-i : goal.invariant-loop-i

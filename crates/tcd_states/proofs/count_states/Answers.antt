@@ -1,4 +1,4 @@
-use Prim.Native.Nat.{◌+◌, ◌-◌, ◌≤◌, ◌<◌}
+use Prim.Native.Nat.{◌+◌, ◌≤◌, ◌<◌}
 use lib.ListN.{drop, length}
 use mathlib.Core.Path.{◌∙◌, ◌≡◌, refl, sym}
 use native.Mathlib.Omega.{arith}
@@ -19,7 +19,6 @@ step : (c : Else-words-eq0) →
     (l.count < length (states_in ws))
     × (l.at + c.state_in_front-words.result ≡ start_of (states_in ws) (l.count + 1))
     × (any_out_of_range (drop (l.count + 1) (states_in ws)) ≡ any_out_of_range (drop l.count (states_in ws)))
-
 unfolding reader
 step c =
     let ws = c.args.states.now in

@@ -1,13 +1,8 @@
-use Prim.Native.Nat.{◌+◌, ◌-◌, ◌≤◌, ◌<◌}
+use Prim.Native.Nat.{◌-◌, ◌≤◌}
 use lib.ListN.{drop, length}
-use mathlib.Core.Path.{◌∙◌, ◌≡◌, refl, sym}
-use native.Mathlib.Omega.{arith}
-use Rattle.t800.specs.Base.{sum}
-use Rattle.t800.specs.State.{reader}
+use mathlib.Core.Path.{◌≡◌}
 use Rattle.t800.specs.Gathered.{states_in}
 use Rattle.tcd_states.specs.States.{start_of, any_out_of_range}
-use Rattle.tcd_states.proofs.Laws.Walk.{at_inside, nothing_behind, found_out_of_range, one_left, found_on, found_in_range}
-use Rattle.tcd_states.proofs.Laws.Walk.{one_out_of_range, all_counted}
 use Rattle.tcd_states.proofs.count_states.Given as goal
 
 abbrev pub invariant-loop-at : goal.invariant-loop-at

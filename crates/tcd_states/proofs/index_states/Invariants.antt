@@ -1,11 +1,9 @@
-use Prim.Native.Nat.{◌+◌, ◌-◌, ◌*◌, ◌≤◌, ℕ}
-use lib.ListN.{length, length-set}
-use mathlib.Core.Path.{◌∙◌, ◌≡◌, ap}
-use native.Mathlib.Omega.{arith}
+use Prim.Native.Nat.{◌-◌, ◌*◌, ◌≤◌}
+use lib.ListN.{length}
+use mathlib.Core.Path.{◌≡◌}
 use Rattle.t800.specs.Gathered.{states_in}
 use Rattle.tcd_states.specs.States.{start_of}
-use Rattle.tcd_states.proofs.Laws.Index.{FilledTo, none_filled, first_entry, one_filled, all_filled}
-use Rattle.tcd_states.proofs.Laws.Walk.{at_inside, valid_behind, so_many_on}
+use Rattle.tcd_states.proofs.Laws.Index.{FilledTo}
 use Rattle.tcd_states.proofs.index_states.Given as goal
 
 abbrev pub invariant-loop-i : goal.invariant-loop-i

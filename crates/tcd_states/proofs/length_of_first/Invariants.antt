@@ -1,12 +1,7 @@
-use Prim.Native.Nat.{◌+◌, ◌-◌, ◌≤◌}
-use lib.ListN.{length, length-take, length-drop, drop}
-use mathlib.Core.Path.{◌∙◌, ◌≡◌, ap, refl}
-use native.Mathlib.Omega.{arith}
-use Rattle.t800.specs.Base.{sum}
+use Prim.Native.Nat.{◌-◌, ◌≤◌}
+use mathlib.Core.Path.{◌≡◌}
 use Rattle.t800.specs.Gathered.{states_in}
 use Rattle.tcd_states.specs.States.{start_of}
-use Rattle.tcd_states.proofs.Laws.Walk.{at_inside, valid_behind, one_on}
-use Rattle.tcd_states.proofs.Laws.Starts.{start-rises}
 use Rattle.tcd_states.proofs.length_of_first.Given as goal
 
 abbrev pub invariant-loop-i : goal.invariant-loop-i

@@ -16,14 +16,14 @@ returns-then-not-counted c =
     let a = c.args in
     let ws = a.states.now in
     some_out_of_range ws a.scratch_len a.places.now (omega (arith, c.if-scratch_len-states.false))
-    (counted-out_of_range (states_in ws) _ c.count_states-counted.ensures c.if-not-counted.true)
+    (counted-out_of_range (states_in ws) _ c.count_states-counted.ensures (not-true _ c.if-not-counted.true))
 
 pub returns : goal.returns
 returns c =
     let a = c.args in
     let ws = a.states.now in
     let is = c.count_states-counted.ensures in
-    let ok = c.if-not-counted.false in
+    let ok = not-false _ c.if-not-counted.false in
     c.places_in.ensures
     ∙ fit_by_places ws a.scratch_len a.places.now (omega (arith, c.if-scratch_len-states.false))
     (counted-in_range (states_in ws) _ is ok) _ (counted-all (states_in ws) _ is ok)
