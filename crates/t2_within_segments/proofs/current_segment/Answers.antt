@@ -1,5 +1,4 @@
 use Rattle.t2_within_segments.proofs.Laws.OneSegment.{segment-opens, segment-open}
-use Rattle.std.proofs.Common.{rules}
 use Rattle.t2_within_segments.proofs.current_segment.Goals as goal
 
 pub returns-then-limit-used : goal.returns-then-limit-used

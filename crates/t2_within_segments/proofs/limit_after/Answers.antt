@@ -1,4 +1,4 @@
-use Rattle.std.proofs.Common.{sym, ◌∙◌, rules}
+use Rattle.std.proofs.Common.{sym, ◌∙◌}
 use Rattle.t800_laws.proofs.Laws.Tests.{if-eq, if-ne}
 use Rattle.t2_within_segments.specs.Segments.{limit_after}
 use Rattle.t2_within_segments.proofs.limit_after.Goals as goal

@@ -1,4 +1,4 @@
-use Rattle.std.proofs.Common.{◌+◌, ap, ◌∙◌, arith, rules}
+use Rattle.std.proofs.Common.{◌+◌, ap, ◌∙◌, arith}
 use Rattle.bio_read.specs.Reading.{decoded}
 use Rattle.t2_within_segments.specs.declared.Run.{Run}
 use Rattle.t2_within_segments.specs.Reading.{reading}
@@ -37,4 +37,4 @@ returns c =
     c.if-width-gt32.false
     c.if-room-count.false s.requires.3
     c.opj_bio_read-len.ensures
-    c.put_record.ensures c.wrapping_add_u64-bytes.ensures
+    c.put_record.ensures c.wrapping_add_u64-bytes.ensures.value

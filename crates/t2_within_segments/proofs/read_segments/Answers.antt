@@ -1,6 +1,6 @@
-use Rattle.std.proofs.Common.{◌≡◌, ℕ, ◌-◌, ◌≤◌, [], length, sym, refl, ◌∙◌, arith, rules}
+use Rattle.std.proofs.Common.{◌-◌, [], sym, refl, ◌∙◌, arith}
 use Rattle.tcd_places.specs.Places.{block_at}
-use Rattle.t2_within_segments.specs.Reading.{reading, WithAnyReports, next_segments, SegmentFits}
+use Rattle.t2_within_segments.specs.Reading.{reading}
 use Rattle.t2_within_segments.proofs.Laws.ManySegments.{has_room, taken_is, segment-leaves, segments_turn, segments_stop, no_segments}
 use Rattle.t2_within_segments.proofs.read_segments.Goals as goal
 

@@ -50,7 +50,7 @@ code_passes-requires c =
     (path_before p.at p.incl row p.depth p.x s.requires.2.incl) in (
       s.requires.0,
       coded-clear _ _ _ z.ensures (coded-clear _ _ _ i.ensures s.requires.1),
-      subst (λ (n : ℕ). p.at + 3 < n) (sym (z.auto.words ∙ i.kept.0)) s.requires.2.inside,
+      subst (λ (n : ℕ). p.at + 3 < n) (sym (z.auto.words ∙ i.auto.words)) s.requires.2.inside,
       omega (arith, c.if-count-eq0.false),
       still_fit p.at p.at s.args.count z.new.words s.args.words.now _ _ e (omega arith) s.requires.4,
     )

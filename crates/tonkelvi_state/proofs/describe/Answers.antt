@@ -1,5 +1,4 @@
 use mathlib.Core.Path.{sym, ◌∙◌}
-use borrow.Author.Tests.{not-true, not-false}
 use Rattle.tonkelvi_state.proofs.Laws.States.{describe_unlisted, out_of_range, described}
 use Rattle.tonkelvi_state.proofs.describe.Goals as goal
 
@@ -21,7 +20,6 @@ returns c =
     let a = c.args in
     described a.state.now a.answer.now
     c.if-answer-ne3.false _ _ _ _
-    (sym c.any_state.ensures ∙ not-false _
-    c.if-not-any_state.false)
+    (sym c.any_state.ensures ∙ c.if-not-any_state.false)
     c.word-role.ensures c.word-layer.ensures
     c.num_blocks-blocks.ensures c.put_three-2.ensures
