@@ -1,13 +1,13 @@
 use mathlib.Core.Path.{◌≡◌, refl, sym, ap, ◌∙◌, subst}
 use mathlib.Core.List.{List}
-use Prim.Native.Nat.{ℕ, ◌-◌, ◌≤◌}
+use Prim.Native.Nat.{ℕ, ◌-◌}
 use native.Mathlib.Omega.{arith}
 use lib.ListN.{length}
 use Rattle.t800.specs.State.{Block}
 use Rattle.bio_bytes.specs.Writing.{FreeBitsClear}
 use Rattle.tcd_places.specs.declared.Place.{Place}
 use Rattle.tcd_places.specs.Places.{BlockIn, RowIn, block_in, row_blocks}
-use Rattle.tcd_places.proofs.Laws.Rows.{block_in, row_end}
+use Rattle.tcd_places.proofs.Laws.Rows.{block_in-inside, row_end}
 use Rattle.t2_write_block.specs.Runs.{Running, running, code_next, code_all, NextFits, AllFit}
 use Rattle.t2_write_block.proofs.Laws.Rows.{next_clear, fits_now, fits_then, codes_then}
 use Rattle.t2_write_block.proofs.code_row.Goals as goal
@@ -44,7 +44,7 @@ code_next-run-requires c =
       s.requires.0,
       l.invariant.0,
       subst (λ (k : Place). BlockIn (length l.words) k a.row.now) (sym e)
-          (block_in (length l.words) a.n l.i a.p a.row.now c.loop-i-test.true r),
+          (block_in-inside (length l.words) a.n l.i a.p a.row.now c.loop-i-test.true r),
       s.requires.3,
       subst (λ (k : Place). NextFits a.counts.now a.lengths.now a.marks.now l.words k.at l.run.block
           l.run.pass) (sym e) f,

@@ -1,15 +1,9 @@
-use mathlib.Core.Path.{◌≡◌, refl, sym, ap, ◌∙◌, subst}
-use mathlib.Core.List.{List}
-use Prim.Native.Nat.{ℕ, ◌-◌, ◌≤◌}
-use native.Mathlib.Omega.{arith}
+use mathlib.Core.Path.{◌≡◌}
+use Prim.Native.Nat.{◌-◌, ◌≤◌}
 use lib.ListN.{length}
-use Rattle.t800.specs.State.{Block}
 use Rattle.bio_bytes.specs.Writing.{FreeBitsClear}
-use Rattle.tcd_places.specs.declared.Place.{Place}
-use Rattle.tcd_places.specs.Places.{BlockIn, RowIn, block_in, row_blocks}
-use Rattle.tcd_places.proofs.Laws.Rows.{block_in, row_end}
-use Rattle.t2_write_block.specs.Runs.{Running, running, code_next, code_all, NextFits, AllFit}
-use Rattle.t2_write_block.proofs.Laws.Rows.{next_clear, fits_now, fits_then, codes_then}
+use Rattle.tcd_places.specs.Places.{row_blocks}
+use Rattle.t2_write_block.specs.Runs.{running, code_all, AllFit}
 use Rattle.t2_write_block.proofs.code_row.Given as goal
 
 abbrev pub invariant-loop-i : goal.invariant-loop-i
