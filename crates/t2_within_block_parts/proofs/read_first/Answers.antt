@@ -48,7 +48,7 @@ read_segments-requires c =
     ∙ raising_keeps s.args.src.now p.at k (not_yet_planes + 2) 0 s.args.words.now s.args.r.bio
     (path_before p.at p.zero s.args.row.now p.depth p.x s.requires.1.zero) in (
       omega (arith, ap (λ (r : Run). r.bio.ct) c.moved.ensures, ps.few),
-      omega (arith, n.auto.words, z.kept.0, s.requires.1.inside),
+      omega (arith, n.auto.words, z.auto.words, s.requires.1.inside),
       s.requires.2,
       ps.most,
       fits_same (p.at + 2) p.at n.new.words z.new.words ps.after (omega arith)
