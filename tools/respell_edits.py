@@ -288,21 +288,28 @@ def imported(path, file, old, new, words):
         has += [('', w) for w in re.findall(r'[^\s,{};]+', new) if w not in had]
     out = []
     for module, word in has:
-        now = words.now(path, word) if word.strip('_') and re.search(r'\w', word) else '◌' + word.strip('_') + '◌'
+        now = words.now(path, word) if re.search(r'[^\W_]', word) else '◌' + word.strip('_') + '◌'
         if re.search(r'\buse [^\n]*[{ ]' + re.escape(now) + r'[,}]', file):
             continue
-        lines = re.findall(r'^(?:ghost )?use \S+\.\{', file, re.M)
+        lines = [(m.group(1), m.group(2).split(', ')) for m in re.finditer(r'^((?:ghost )?use \S+\.\{)(.*)\}', file, re.M)]
         if module.startswith(('mathlib.', 'lib.', 'Prim.')):
-            there = [l for l in lines if 'std.specs.Prelude' in l]
+            there = [l for l in lines if 'std.specs.Prelude' in l[0]]
         elif module:
-            there = [l for l in lines if module.split('.')[-1] + '.{' in l]
+            there = [l for l in lines if l[0].endswith('.' + module.split('.')[-1] + '.{')]
         else:
-            there = [m.group(1) for m in re.finditer(r'^((?:ghost )?use \S+\.\{)(.*)\}', file, re.M)
-                     if any(words.now(path, w) in m.group(2).split(', ') for w in had)]
+            there = [l for l in lines if any(words.now(path, w) in l[1] for w in had)]
         if not there:
             return None, f'no import of {module} for {now}'
-        out.append((there[0], there[0] + now + ', '))
-        file = file.replace(there[0], out[-1][1], 1)
+        # as little of the line as stands once
+        old = there[0][0]
+        for w in there[0][1]:
+            if file.count(old) == 1:
+                break
+            old += w + ', '
+        if out and out[-1][0] == old:
+            out[-1] = (old, out[-1][1] + now + ', ')
+        else:
+            out.append((old, old + now + ', '))
     return out, None
 
 
@@ -330,7 +337,7 @@ def brought(edit, words):
         if file.startswith('src/') and m and m.group(1) != '_':
             result = m.group(1)
         pairs, why = None, ''
-        if old.lstrip().startswith(('use ', 'ghost use ')) or re.match(r'^\S+\.\{.*\}$', old) or (file.startswith('src/') and old.rstrip().endswith('};') and ', ' in old):
+        if re.match(r'(ghost )?use |\S+\.\{.*\}$|[\w, ]+\};$', old):
             pairs, why = imported(path, files[path], old, new, words)
         else:
             for entry in ('now', 'old'):
@@ -411,7 +418,7 @@ def checked(edit, known):
             for c, n in balance(text).items():
                 opened[c] += sign * n
         bound = set(re.findall(r"λ \(?([\w']+)", new)) | set(re.findall(r"\blet (?:mut )?([\w']+)", new))
-        lacking = [w for w in re.findall(r"[^\W\d][\w']*", new) if w not in known and w not in bound]
+        lacking = [w for w in re.findall(r"[\w']+", new) if not re.match(r'\d', w) and w not in known and w not in bound]
         if lacking:
             return f'a word that stands nowhere: {lacking[0]}'
     if any(opened[a] != opened[b] for a, b in ('()', '{}', '[]', '⌜⌝')):
