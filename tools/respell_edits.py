@@ -300,16 +300,16 @@ def imported(path, file, old, new, words):
             there = [l for l in lines if any(words.now(path, w) in l[1] for w in had)]
         if not there:
             return None, f'no import of {module} for {now}'
-        # as little of the line as stands once
-        old = there[0][0]
-        for w in there[0][1]:
+        head, old = there[0][0], there[0][0]
+        # as much of the line as stands once
+        for at, w in enumerate(there[0][1]):
+            old += (', ' if at else '') + w
             if file.count(old) == 1:
                 break
-            old += w + ', '
         if out and out[-1][0] == old:
-            out[-1] = (old, out[-1][1] + now + ', ')
+            out[-1] = (old, out[-1][1].replace(head, head + now + ', '))
         else:
-            out.append((old, old + now + ', '))
+            out.append((old, head + now + ', ' + old[len(head):]))
     return out, None
 
 
@@ -354,6 +354,9 @@ def brought(edit, words):
                     for name in set(re.findall(r'(\w+)\.old', o)):
                         n = n.replace(f'{name}.now', f'{name}.old')
                     pairs, _ = placed(files[path], o, n)
+            # a list that the text writes is lent for writing
+            if pairs and file.startswith('src/'):
+                pairs = [(o, written(o, n)) for o, n in pairs]
             # a text that stands as it did
             if not pairs and files[path].count(old) == 1:
                 pairs = [(old, new)]
@@ -369,6 +372,12 @@ def brought(edit, words):
                 last = file
             out += [f'old: {o}', f'new: {n}' if n else 'new:']
     return '\n'.join(out) + '\n', None
+
+
+def written(old, new):
+    for name in set(re.findall(r'(\w+)\.(?:new|old)\b', old)):
+        new = re.sub(rf'\b{name}\.now\b', f'{name}.old', new)
+    return new
 
 
 def mixed(old, file):
