@@ -24,7 +24,7 @@ frame() {
 if [ $# = 0 ]; then
     need libopenjp2-tools command -v opj_compress
     cd "$root"
-    folder=target/drawings
+    folder=rust/target/drawings
     mkdir -p "$folder"
     frame 900 640 > "$folder/frame.pgm"
     opj_compress -i "$folder/frame.pgm" -o "$folder/layers.jp2" -r 40,10,1 -n 5 -SOP -EPH > /dev/null

@@ -1,4 +1,4 @@
-/* Tonkelvi: JPEG 2000 packet headers, layer by layer. Link with libtonkelvi.a, which `rt staticlib tonkelvi` makes. */
+/* Tonkelvi: JPEG 2000 packet headers, layer by layer. Link with libtonkelvi.a, which tools/library.sh makes. */
 #ifndef TONKELVI_H
 #define TONKELVI_H
 

@@ -1,5 +1,6 @@
 #!/bin/sh
-# What must be believed, with its lines counted: the rows of the table in docs/PROOFS.md. With --check: whether that paper has these rows.
+# What must be believed, with its lines counted: the rows of the table in docs/PROOFS.md. With --write: puts them there. With --check:
+# whether that paper has these rows.
 set -eu
 cd "$(dirname "$0")/.."
 
@@ -35,19 +36,34 @@ rows() {
     row "the statements of headers gathered in front" "gathered_headers/specs/Gathered.antt" crates/gathered_headers/specs/Gathered.antt
     row "the statement of the walk down" "tgt/specs/Walk.antt, and Path.antt for what contracts call a path" \
         crates/tgt/specs/Walk.antt crates/tgt/specs/Path.antt
-    row "what the calls and the exported calls are as interfaces" "theorems/specs/; the records \`exports\` and \`layerExports\` of theorems/proofs/Exports.antt put it together" \
+    row "what the calls and the exported calls are as interfaces" "theorems/specs/; the records \`exports\` and \`layer_exports\` of theorems/proofs/Exports.antt put it together" \
         crates/theorems/specs/Calls.antt crates/theorems/specs/Exports.antt crates/theorems/specs/Gathered.antt
     row "one layer of one precinct" "t2_layer/specs/" crates/t2_layer/specs/Layer.antt
     row "the declarations for C and Rust" "include/tonkelvi.h, rust/tonkelvi/src/words.rs; the tests call through both" \
         include/tonkelvi.h rust/tonkelvi/src/words.rs
 }
 
-if [ "${1:-}" != --check ]; then
-    rows
-    exit
-fi
+case "${1:-}" in
+    --check) ;;
+    --write)
+        new=$(mktemp)
+        # The table's rows are the lines from the one under its head to the first that is none.
+        rows | awk 'NR == FNR { rows = rows $0 "\n"; next }
+            inside && /^\|/ { next }
+            { inside = 0; print }
+            /^\| what \| where \| lines, with comments \|$/ { head = NR }
+            head && NR == head + 1 { printf "%s", rows; inside = 1; head = 0 }' - docs/PROOFS.md > "$new"
+        cat "$new" > docs/PROOFS.md
+        rm "$new"
+        exit
+        ;;
+    *)
+        rows
+        exit
+        ;;
+esac
 rows | while IFS= read -r line; do
-    grep -qxF -- "$line" docs/PROOFS.md || { echo "docs/PROOFS.md lacks this row of tools/believed.sh: $line" >&2; exit 1; }
+    grep -qxF -- "$line" docs/PROOFS.md || { echo "docs/PROOFS.md lacks this row (tools/believed.sh --write): $line" >&2; exit 1; }
 done
 # Each module of the definitions is in one of the rows.
 for file in crates/t800/specs/*.antt crates/tgt/specs/*.antt crates/theorems/specs/*.antt crates/t2_layer/specs/*.antt \

@@ -13,8 +13,8 @@ from there: with every number that such calls give on small lists, from lists th
 below 999, and every answer, and the whole state after every call, comes from the crate; scope.py is asked beside it and must agree. Packets
 without passes, which the crate writes otherwise, are written by scope.py alone; the crate's writer goes on from the words after them, and
 its reader reads them. A run becomes one row of crates/t800/proofs/Table.antt. Rows stand in chunks, each a crate of a temporary repository
-beside a copy of crates/t800, outside the project and no part of its tests; `rt check` computes the definitions on them and proves `failing
-0 rows ≡ []`.
+beside a copy of crates/t800, outside the project and no part of its tests; `rt all check` computes the definitions on them and proves
+`failing 0 rows ≡ []`.
 
 The bits that a read takes past the input's end, which the crate doesn't count, are scope.py's in every run.
 
@@ -129,6 +129,11 @@ def markers(sop, eph):
 
 # ---- one run
 
+# As Table names them.
+LOADS = {"writer": "loads_writer", "reader": "loads-reader"}
+HOLDS = {"writer": "holds-writer", "reader": "holds-reader"}
+
+
 class Run:
     """A precinct, the steps of its row, and what was asked of the crate for them."""
 
@@ -183,14 +188,14 @@ class Run:
 
     def load(self, side, words):
         self.tell(side, "load %d %s" % (self.empty, spaced(words)))
-        self.steps.append("loads-%s %s" % (side, nats(words)))
+        self.steps.append("%s %s" % (LOADS[side], nats(words)))
         self.layer = words[3]
         self.holds(side)
         self.calls.append((side, "load", dict(words=words)))
 
     def holds(self, side):
         words = (self.writer if side == "writer" else self.reader).words()
-        self.steps.append("holds-%s %s" % (side, nats(words)))
+        self.steps.append("%s %s" % (HOLDS[side], nats(words)))
         return words
 
     def on_probe(self, words, line):
@@ -304,7 +309,7 @@ class Run:
     def write_layer(self, call):
         told = layer_calls.told(call, 0, 0)
         refusal, place, size = told.answer
-        self.steps.append("writes-layer (record { states = %s; contribution = record { counts = %s; lengths = %s; marks = %s }; "
+        self.steps.append("writes_layer (record { states = %s; contribution = record { counts = %s; lengths = %s; marks = %s }; "
             "bodies = %s; markers = %s; numbers = %s; scratch = %d; output = %d }) %s %s %s" % (nats(call.states), nats(call.counts),
             nats(call.lengths), nats(call.marks), nats(call.bodies), markers(call.sop, call.eph), nats(call.numbers), call.scratch,
             call.output, nats(told.answer), nats(told.output[:size]), nats(told.states)))
@@ -331,10 +336,10 @@ class Run:
         accepted, segments = told.answer[0] == 0, told.answer[4]
         beside = "record { markers = %s; input = %s; scratch = %d; reports = %d; records = %d }" % (
             markers(call.sop, call.eph), nats(call.src), call.scratch, call.reports, call.records)
-        self.steps.append("loads-reader %s" % nats(call.state))
-        self.steps.append("reads-gathered (record { headers = %s; beside = %s }) %s %s %s" % (nats(call.headers), beside,
+        self.steps.append("%s %s" % (LOADS["reader"], nats(call.state)))
+        self.steps.append("reads_gathered (record { headers = %s; beside = %s }) %s %s %s" % (nats(call.headers), beside,
             nats(told.answer), nats(told.reports if accepted else []), nats(told.records[:4 * segments])))
-        self.steps.append("holds-reader %s" % nats(told.state))
+        self.steps.append("%s %s" % (HOLDS["reader"], nats(told.state)))
         self.tally["reads gathered with bits past the end"] += told.answer[7] > 0
 
     @staticmethod
@@ -866,16 +871,16 @@ def make_run(seed, i, oracles, tally, only=None):
 
 # ---- the temporary repository
 
-HEAD = """use mathlib.Core.Path.{_≡_, refl}
+HEAD = """use mathlib.Core.Path.{◌≡◌, refl}
 use Prim.Native.Nat.{ℕ}
 use mathlib.Core.Bool.{true, false}
-use mathlib.Core.List.{List, [], _∷_}
-use Rattle·t800.specs.declared.Band.{Band}
-use Rattle·t800.specs.declared.Markers.{Markers}
-use Rattle·t800.specs.WriteHeader.{Contribution}
-use Rattle·t800.proofs.Table.{Writing, Reading, Step, loads-writer, loads-reader, holds-writer, holds-reader, writes, heads, reads}
-use Rattle·t800.proofs.Table.{LayerWriting, writes-layer, Row, rowHolds, failing}
-use Rattle·t800.proofs.Table.{GatheredReading, Moving, ToGather, ToSpread, reads-gathered, gathers, spreads}
+use mathlib.Core.List.{List, [], ◌∷◌}
+use Rattle.t800.specs.declared.Band.{Band}
+use Rattle.t800.specs.declared.Markers.{Markers}
+use Rattle.t800.specs.WriteHeader.{Contribution}
+use Rattle.t800.proofs.Table.{Writing, Reading, Step, loads_writer, loads-reader, holds-writer, holds-reader, writes, heads, reads}
+use Rattle.t800.proofs.Table.{LayerWriting, writes_layer, Row, row_holds, failing}
+use Rattle.t800.proofs.Table.{GatheredReading, Moving, ToGather, ToSpread, reads_gathered, gathers, spreads}
 
 """
 
@@ -884,9 +889,9 @@ pub rows{0} : List Row
 rows{0} =
 {1}    []
 
-pub all-rows-hold{0} : failing 0 rows{0} ≡ []
-unfolding rows{0} failing rowHolds
-all-rows-hold{0} = refl
+pub all_rows_hold{0} : failing 0 rows{0} ≡ []
+unfolding rows{0} failing row_holds
+all_rows_hold{0} = refl
 """
 
 
@@ -894,7 +899,7 @@ class Repository:
     def __init__(self, where, jobs):
         self.where, self.jobs = where, jobs
         here = os.path.dirname(os.path.abspath(__file__))
-        shutil.copytree(os.path.join(here, "..", "crates", "t800"), os.path.join(where, "crates", "t800"))
+        shutil.copytree(os.path.join(here, "..", "crates", "t800"), os.path.join(where, "crates", "t800"), ignore=shutil.ignore_patterns("out"))
         # the table of packets made by hand is proved in the project
         self.drop("Packets")
         self.names = []
@@ -913,7 +918,7 @@ class Repository:
         os.makedirs(os.path.join(base, "src"))
         os.makedirs(os.path.join(base, "proofs"))
         texts = [STATEMENT.format("" if len(lists) == 1 else k, "".join("    %s ∷\n" % r for r in rows)) for k, rows in enumerate(lists)]
-        self.put(os.path.join(base, "src", "lib.rt"), "// Rows alone.\n")
+        self.put(os.path.join(base, "src", "lib.rt"), "// Rows alone.\n#![tactic(auto)]\n")
         self.put(os.path.join(base, "proofs", "Lib.antt"), "pub mod Rows\n")
         self.put(os.path.join(base, "proofs", "Rows.antt"), HEAD + "".join(texts))
         self.names.append(name)
@@ -926,10 +931,14 @@ class Repository:
             f.write(text)
 
     def check(self, names):
-        """The names that are proved, and what the check wrote."""
-        env = dict(os.environ, RT_JOBS=str(self.jobs), RT_CUT="0")
-        done = subprocess.run(["rt", "check"] + names, cwd=self.where, env=env, stdout=subprocess.PIPE, stderr=subprocess.STDOUT, text=True)
-        return {n for n in names if re.search(r"^rt: %s proved" % n, done.stdout, re.M)}, done.stdout
+        """The names that are proved, and what the check wrote: of one crate its own check, of several that of all."""
+        alone = len(names) == 1
+        words = ["check", "--jobs", "1"] if alone else ["all", "check", "--jobs", str(self.jobs)]
+        where = os.path.join(self.where, "crates", names[0]) if alone else self.where
+        done = subprocess.run(["rt"] + words, cwd=where, stdout=subprocess.PIPE, stderr=subprocess.STDOUT, text=True)
+        if alone:
+            return set() if done.returncode else set(names), done.stdout
+        return {n for n in names if re.search(r"^%s: ok$" % n, done.stdout, re.M)}, done.stdout
 
     def each(self, rows):
         """Rows with a statement each: the numbers of those that fail, of those that the check can't tell, and what it wrote."""
@@ -937,8 +946,8 @@ class Repository:
         proved, text = self.check([name])
         if proved:
             return [], [], text
-        fail = [k for k in range(len(rows)) if "`all-rows-hold%d`: expected type" % k in text]
-        unknown = [k for k in range(len(rows)) if k not in fail and "`all-rows-hold%d`" % k in text]
+        fail = [k for k in range(len(rows)) if "`all_rows_hold%d`: expected type" % k in text]
+        unknown = [k for k in range(len(rows)) if k not in fail and "`all_rows_hold%d`" % k in text]
         return fail, unknown if fail or unknown else list(range(len(rows))), text
 
 

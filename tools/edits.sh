@@ -1,6 +1,6 @@
 #!/bin/sh
-# Whether each must-fail edit fits its crate: every old text stands once in its file. `rt ci` finds the others too, but only when all crates
-# are proved. Names those that don't fit, and gives 1 if there are any.
+# Whether each must-fail edit fits its crate: every old text stands once in its file. `rt ci` tells of the others too, but only when all
+# crates are proved. Names those that don't fit, and gives 1 if there are any.
 set -eu
 cd "$(dirname "$0")/.."
 bad=0

@@ -1,4 +1,4 @@
-# Sourced by sheet.sh, .ci/run and tools/costs.sh.
+# Sourced by sheet.sh and .ci/run.
 
 # need PACKAGE COMMAND..: installs Debian's PACKAGE where COMMAND fails; first from what is on the machine, then from the network.
 need() {
@@ -26,10 +26,4 @@ need_rustfmt() {
 # is_new COMMAND VERSION: whether the second word of COMMAND --version is VERSION or later.
 is_new() {
     version=$("$1" --version | cut -d ' ' -f 2) && [ "$(printf '%s\n' "$2" "$version" | sort -V | head -n 1)" = "$2" ]
-}
-
-# TMPDIR in memory where there is room: each check copies the libraries that its crate stands on, some hundreds of megabytes, there.
-tmp_in_memory() {
-    room=$(df --output=avail -m /dev/shm 2> /dev/null | tail -n 1 || true)
-    [ "${room:-0}" -lt 4096 ] || export TMPDIR=/dev/shm
 }

@@ -21,7 +21,7 @@
 //! ```
 //!
 //! The static library is linked by build.rs: from the folder that the environment variable `TONKELVI_LIB` names, or else it is built by
-//! `rt staticlib tonkelvi`.
+//! tools/library.sh, which proves it.
 
 mod layer;
 mod moves;
