@@ -1,4 +1,4 @@
--- A run of ones that isn't read beyond a limit: `Laws.CommaCode` says that below the limit it is `readComma`'s, and else `readComma`'s is
+-- A run of ones that isn't read beyond a limit: `Laws.CommaCode` says that below the limit it is `read_comma`'s, and else `read_comma`'s is
 -- no shorter than the limit.
 use Rattle.std.specs.Prelude.{ℕ, ◌+◌, ◌*◌, min, List, length}
 use Rattle.t800.specs.declared.Bio.{Bio}

@@ -1,4 +1,4 @@
--- `readPasses` from the third bit on: `Laws.PassCount` says that it ends in this after two ones.
+-- `read_passes` from the third bit on: `Laws.PassCount` says that it ends in this after two ones.
 use Rattle.std.specs.Prelude.{cond, List, ℕ, leb}
 use Rattle.t800.specs.declared.Bio.{Bio}
 use Rattle.t800.specs.Bits.{Decoded, read_bits}

@@ -10,6 +10,6 @@ use Rattle.t800.specs.Packet.{state_checks, contribution_checks}
 unfoldable pub contribution_refusal : (state : Words) → Contribution → ℕ
 contribution_refusal state p = first_of (contribution_checks state p)
 
--- `measureRefusal` of any scratch of n words
+-- `measure_refusal` of any scratch of n words
 unfoldable pub measure_refusal_for : (state : Words) (n : ℕ) → Contribution → ℕ
 measure_refusal_for state n p = first_of (state_checks writer state n ++ contribution_checks state p)

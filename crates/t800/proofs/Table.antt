@@ -364,7 +364,7 @@ steps_hold style (gathers c why segments bodies after ∷ rest) book es w r =
     gather_holds c why segments bodies after && steps_hold style rest book es w r
 steps_hold style (spreads c why row after ∷ rest) book es w r = spread_holds c why row after && steps_hold style rest book es w r
 
--- `unfolding rowHolds` computes a row: it opens every definition of the base
+-- `unfolding row_holds` computes a row: it opens every definition of the base
 unfoldable pub row_holds : Row → Bool
 unfolding same sums_from records_with fields start_holds measure_holds write_holds layer_holds lists_hold words_hold structs_hold as_owed
     steps_hold every any sum halvings floor_log2 overwrite bits_of bits_after last_bytes pack_from pack byte_in held_bit get_bit

@@ -153,7 +153,7 @@ read_call state scratch markers input reports work records answer =
 abbrev pub gathered_words : (answer : ReadGatheredAnswer) → Words
 gathered_words a = a.present ∷ a.headers ∷ a.taken ∷ a.segments ∷ a.sop ∷ a.eph ∷ a.past ∷ []
 
--- as `readCall`
+-- as `read_call`
 unfoldable pub read_gathered_call : (state scratch : Words) (markers : Markers) (headers input : Bytes) (reports work : Words)
     (records : List SegmentRecord) (answer : Words) → ReadExit
 read_gathered_call state scratch markers headers input reports work records answer =

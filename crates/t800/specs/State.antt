@@ -42,7 +42,7 @@ pub record Block : Type 0 where
   pub at : ℕ
   pub planes : ℕ
 
--- the block at this leaf of a band whose words begin at `bandStart`
+-- the block at this leaf of a band whose words begin at `band_start`
 abbrev pub block_of : (band_start : ℕ) → Band → (leaf : ℕ) → Block
 block_of band_start b leaf = record {
   incl_tree = band_start;

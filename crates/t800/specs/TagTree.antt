@@ -60,7 +60,7 @@ climb_from (suc bound) w h n =
 unfoldable pub path_to_root : (w h leaf : ℕ) → List ℕ
 path_to_root w h leaf = climb_from 7 w h leaf
 
--- ---- a node's words, the first at `nodeAt`
+-- ---- a node's words, the first at `node_at`
 
 abbrev pub value : Words → (node_at : ℕ) → ℕ
 value ws node_at = get_or ws node_at 0

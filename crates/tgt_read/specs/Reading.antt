@@ -61,7 +61,7 @@ pub record NodeAfter : Type 0 where
 abbrev pub node_after : List ℕ → AfterNode → NodeAfter
 node_after ws r = record { words = ws; bio = r.bio; low = r.low }
 
--- the node at `at` with the threshold t, l being the parent's low; `readPath` does this at each node
+-- the node at `at` with the threshold t, l being the parent's low; `read_path` does this at each node
 unfoldable pub read_at : List ℕ → ℕ → ℕ → ℕ → List ℕ → Bio → NodeAfter
 read_at src t at l ws b =
     let from = max l (low ws at) in

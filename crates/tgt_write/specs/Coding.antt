@@ -30,7 +30,7 @@ pub record NodeCoded : Type 0 where
 abbrev pub node_coded : List ℕ → List ℕ → AfterNode → NodeCoded
 node_coded ws bytes r = record { words = ws; output = output bytes r.bio; low = r.low }
 
--- the node at `at`, with the threshold t, where its low is at least `from`; `codePath` does this at each node
+-- the node at `at`, with the threshold t, where its low is at least `from`; `code_path` does this at each node
 unfoldable pub code_from : ℕ → ℕ → ℕ → List ℕ → Output → NodeCoded
 code_from t at from ws o =
     let v = value ws at in

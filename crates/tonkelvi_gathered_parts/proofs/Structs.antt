@@ -1,4 +1,4 @@
--- The records that are stored from the work list are those that t800's `readGathered` leaves in the structs.
+-- The records that are stored from the work list are those that t800's `read_gathered` leaves in the structs.
 use mathlib.Core.Path.{◌≡◌, refl, sym, ap, ◌∙◌}
 use mathlib.Core.Logic.{◌≢◌}
 use mathlib.Core.Bool.{Bool, true, false, cond, not}

@@ -101,7 +101,7 @@ first_bit : (t : Bool) (u x : ℕ) → x < 2 → (u * 256 % 65536 + x * 2 ^ (con
 first_bit true u x h = omega arith
 first_bit false u x h = omega arith
 
--- all that is put and flushed is what `packFrom` makes of the held byte and the bits
+-- all that is put and flushed is what `pack_from` makes of the held byte and the bits
 stores_packed : (bits o : List ℕ) (p u c : ℕ) → FreeBitsClear (bio_of p u c) → AreBits bits → length o ≤ last_place
     → Stores (flush (put_bits (output o (bio_of p u c)) bits)) o p (pack_from (u % 256) c bits)
 unfolding put_bits pack_from bits_after

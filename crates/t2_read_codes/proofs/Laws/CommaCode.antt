@@ -124,12 +124,12 @@ limited_by src b bound false e =
     (subst (λ (z : ℕ). Limited src b most_ones z) s
     ((λ h. sym (ones_more src most_ones (bound - most_ones) 0 b h)), ones_min src most_ones (bound - most_ones) b))
 
--- a run below the limit is `readComma`'s, with the bits' place
+-- a run below the limit is `read_comma`'s, with the bits' place
 pub comma_below : (src : List ℕ) (b : Bio) → (read_comma_limited src b).value < most_ones → read_comma_limited src b ≡ read_comma src b
 unfolding read_comma_limited ones_limit read_comma
 comma_below src b h = (limited_by src b (8 * length src + 8) (leb (8 * length src + 8) most_ones) refl).0 h
 
--- and in any case the count is `readComma`'s or the limit
+-- and in any case the count is `read_comma`'s or the limit
 pub comma_value : (src : List ℕ) (b : Bio) → (read_comma_limited src b).value ≡ min (read_comma src b).value most_ones
 unfolding read_comma_limited ones_limit read_comma
 comma_value src b = (limited_by src b (8 * length src + 8) (leb (8 * length src + 8) most_ones) refl).1

@@ -1,4 +1,4 @@
--- `readPasses` by the bits that were read, one after another; and what it keeps.
+-- `read_passes` by the bits that were read, one after another; and what it keeps.
 use mathlib.Core.Path.{◌≡◌, sym, ap, ◌∙◌}
 use mathlib.Core.Bool.{Bool, true, false, cond}
 use mathlib.Core.List.{List}
