@@ -1,0 +1,28 @@
+use mathlib.Core.Path.{◌≡◌, refl, sym, ap, ◌∙◌, subst}
+use mathlib.Core.List.{List}
+use Prim.Native.Nat.{ℕ, ◌+◌, ◌-◌, ◌*◌, ◌≤◌}
+use native.Mathlib.Omega.{arith}
+use lib.ListN.{length}
+use Rattle.t800.specs.State.{Block}
+use Rattle.tcd_places.specs.declared.Place.{Place}
+use Rattle.t2_within_segments.specs.Reading.{reading, BlockFits}
+use Rattle.t2_within_block_parts.specs.Blocks.{next_block, next_blocks}
+use Rattle.tcd_places.specs.Places.{BlockIn, RowIn, block_in, row_blocks}
+use Rattle.tcd_places.proofs.Laws.Rows.{block_in, row_end}
+use Rattle.t2_within_block_parts.proofs.Laws.Kept.{Keeps}
+use Rattle.t2_within_block.proofs.Laws.Rows.{block_fits, reads_then, reads_no_more, keeps_then}
+use Rattle.t2_within_block.proofs.read_row.Given as goal
+
+abbrev pub invariant-loop-i : goal.invariant-loop-i
+invariant-loop-i l =
+    (Keeps l.src (l.p.at + 4 * l.i) l.initial.words (reading l.words l.reports l.records l.run))
+    × (length l.words ≡ length l.initial.words)
+    × (length l.reports ≡ length l.initial.reports)
+    × (length l.records ≡ length l.initial.records)
+    × (l.i ≤ l.n)
+    × (l.run.refusal ≡ 0)
+    × (next_blocks l.src l.layer (l.block + l.i) (row_blocks l.p l.row l.planes (l.n - l.i) l.i) (reading l.words l.reports l.records l.run)
+    ≡ next_blocks l.src l.layer l.block (row_blocks l.p l.row l.planes l.n 0) (reading l.initial.words l.initial.reports l.initial.records l.initial.run))
+
+abbrev pub decreases-loop-i : goal.decreases-loop-i
+decreases-loop-i l = l.n - l.i
