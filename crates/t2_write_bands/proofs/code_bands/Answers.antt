@@ -1,4 +1,3 @@
--- `t2_write_bands::code_bands` meets its contract.
 use mathlib.Core.Path.{◌≡◌, refl, sym, ap, ◌∙◌, subst}
 use mathlib.Core.List.{List, [], ◌∷◌}
 use Prim.Native.Nat.{ℕ, ◌+◌, ◌-◌, ◌*◌, ◌≤◌, ◌<◌, ◌^◌}
@@ -18,47 +17,30 @@ use Rattle.t2_write_bands.specs.Bands.{code_band, code_bands}
 use Rattle.tcd_places.specs.Places.{BandIn, band_blocks, grid_of}
 use Rattle.t2_write_bands.proofs.Laws.AllBands.{first_band_fits, other_bands_fit, blocks-of_first, band_clear, band_blocks_lem}
 use Rattle.t2_write_bands.proofs.Laws.AllBands.{bands-turn, bands-coded}
-use Rattle.t2_write_bands.proofs.code_bands.Statement.{statement}
-use Rattle.t2_write_bands.proofs.code_bands.Tie as tie
+use Rattle.t2_write_bands.proofs.code_bands.Goals as goal
 
-abbrev invariant-loop : tie.invariant-loop
-invariant-loop codes words₀ out₀ n layer counts lengths marks bands trees run₀ start₀ i₀ words out run start i =
-    (i ≤ n)
-    × (FreeBitsClear run.bio)
-    × (length words ≡ length words₀)
-    × (length out ≡ length out₀)
-    × (end_of start (drop i (take n bands)) ≡ length words₀)
-    × (run.block + length (blocks_at start (drop i (take n bands))) ≡ length counts)
-    × (AllFit counts lengths marks words (blocks_at start (drop i (take n bands))) run.block run.pass)
-    × (code_bands layer counts lengths marks start (drop i (take n bands)) (running words out run)
-    ≡ code_bands layer counts lengths marks 13 (take n bands) (running words₀ out₀ run₀))
-    × (length bands ≡ 3)
-
-abbrev decreases-loop : tie.decreases-loop
-decreases-loop codes words₀ out₀ n layer counts lengths marks bands trees run₀ start₀ i₀ words out run start i = n - i
-
-loop-holds : tie.Need-loop-init invariant-loop decreases-loop
+pub loop-i-init : goal.loop-i-init
 unfolding blocks state_length
-loop-holds c =
-    let s = c.before.before.before.before.before.before in
+loop-i-init c =
+    let s = c in
     (omega arith, s.requires.1, refl, refl, sym s.requires.4, omega (arith, s.requires.6), s.requires.7, refl, search rules)
 
-grid-of-requires : tie.Need-grid-of-requires invariant-loop decreases-loop
-grid-of-requires c κs =
-    let s = c.before.before.before.before.before.before.before.before.before in
-    let l = c.before.before.loop in
-    let g : length s.args.t5 ≡ 3 = search rules in
-    sides_of_first s.args.t5 s.args.n l.i (omega arith) (omega arith) s.requires.3
+pub grid_of-g-requires : goal.grid_of-g-requires
+grid_of-g-requires c =
+    let s = c in
+    let l = c.loop-i in
+    let g : length s.args.bands ≡ 3 = search rules in
+    sides_of_first s.args.bands s.args.n l.i (omega arith) (omega arith) s.requires.3
 
-code-band-requires : tie.Need-code-band-requires invariant-loop decreases-loop
-code-band-requires c κs =
-    let s = c.before.before.before.before.before.before.before.before.before.before.before.before.before in
+pub code_band-run-requires : goal.code_band-run-requires
+code_band-run-requires c =
+    let s = c in
     let a = s.args in
-    let l = c.before.before.before.before.before.before.loop in
+    let l = c.loop-i in
     let g : length a.t5 ≡ 3 = search rules in
     let band : Band = get_or a.t5 l.i no_band in
     let rest : List Band = drop (l.i + 1) (take a.n a.t5) in
-    let ge = c.before.before.before.grid-of.ensures in
+    let ge = c.grid_of-g.ensures in
     let e = next_band a.t5 a.n l.i (omega arith) (omega arith) in
     let m : l.run.block + length (blocks_at l.start (band ∷ rest))
     ≡ length a.counts.now =
@@ -79,7 +61,7 @@ code-band-requires c κs =
       }),
       subst (λ (k : Grid). k ≡ grid_of k.start band) (sym ge) refl,
       ap (λ (z : List (List Level)). get_or z l.i [])
-          c.before.before.before.before.before.before.before.band-levels.ensures
+          c.band_levels-trees.ensures
           ∙ band_levels_at a.t5 l.i (omega arith),
       s.requires.5,
       omega (arith, blocks-of_first l.start band rest, m),
@@ -89,33 +71,33 @@ code-band-requires c κs =
           (running l.words l.out l.run) f),
     )
 
-grid-end-requires : tie.Need-grid-end-requires invariant-loop decreases-loop
-grid-end-requires c κs =
-    let s = c.before.before.before.before.before.before.before.before.before.before.before.before.before.before.before.before.before.before in
+pub grid_end-start-requires : goal.grid_end-start-requires
+grid_end-start-requires c =
+    let s = c in
     let a = s.args in
-    let l = c.before.before.before.before.before.before.before.before.before.before.before.loop in
-    let ge = c.before.before.before.before.before.before.before.before.grid-of.ensures in
+    let l = c.loop-i in
+    let ge = c.grid_of-g.ensures in
     let g : length a.t5 ≡ 3 = search rules in
-    let h : l.i < a.n = c.before.before.before.before.before.before.before.before.before.before.loop-test.true in
-    let three : a.n ≤ 3 = s.pre.2 in
+    let h : l.i < a.n = c.loop-i-test.true in
+    let three : a.n ≤ 3 = s.requires.2 in
     let w : length a.words.now * 4 < 2 ^ 64 = search rules in
     let band : Band = get_or a.t5 l.i no_band in
     subst (λ (k : Grid). SidesUpTo64 band × (k ≡ grid_of k.start band) × (k.start < 2 ^ 63)) (sym ge) (
-      sides_of_first a.t5 a.n l.i (omega arith) (omega arith) s.pre.3,
+      sides_of_first a.t5 a.n l.i (omega arith) (omega arith) s.requires.3,
       refl,
       omega (arith, l.invariant.4, end_after l.start (drop l.i (take a.n a.t5))),
     )
 
-loop-again : tie.Need-loop-preserved invariant-loop decreases-loop
-loop-again c =
-    let s = c.before.before.before.before.before.before.before.before.before.before.before.before.before.before.before.before.before.before.before in
+pub loop-i-preserved : goal.loop-i-preserved
+loop-i-preserved c =
+    let s = c in
     let a = s.args in
-    let l = c.before.before.before.before.before.before.before.before.before.before.before.before.loop in
-    let k = c.before.before.before.before.before.code-band in
-    let ge = c.before.before.before.before.before.before.before.before.before.grid-of.ensures in
+    let l = c.loop-i in
+    let k = c.code_band-run in
+    let ge = c.grid_of-g.ensures in
     let g = l.invariant.8 in
-    let h : l.i < a.n = c.before.before.before.before.before.before.before.before.before.before.before.loop-test.true in
-    let three : a.n ≤ 3 = s.pre.2 in
+    let h : l.i < a.n = c.loop-i-test.true in
+    let three : a.n ≤ 3 = s.requires.2 in
     let band : Band = get_or a.t5 l.i no_band in
     let rest : List Band = drop (l.i + 1) (take a.n a.t5) in
     let e = next_band a.t5 a.n l.i (omega arith) (omega arith) in
@@ -127,11 +109,11 @@ loop-again c =
     let u = running l.words l.out l.run in
     let st : ℕ = l.start + band_length band in
     let ke = k.ensures ∙ ap (λ (z : Grid). code_band a.layer a.counts.now a.lengths.now a.marks.now z.start band u) ge in
-    let p : c.grid-end.result ≡ st = c.grid-end.ensures ∙ ap (λ (z : Grid). z.start + band_length band) ge in (
+    let p : c.grid_end-start.result ≡ st = c.grid_end-start.ensures ∙ ap (λ (z : Grid). z.start + band_length band) ge in (
       omega arith,
       band_clear a.layer a.counts.now a.lengths.now a.marks.now l.start band u _ ke l.invariant.1,
-      k.auto.1.0 ∙ l.invariant.2,
-      k.auto.1.1.0 ∙ l.invariant.3,
+      k.auto.words ∙ l.invariant.2,
+      k.auto.out ∙ l.invariant.3,
       ap (λ (z : ℕ). end_of z rest) p ∙ end_turn a.t5 a.n l.i l.start (omega arith) (omega arith) ∙ l.invariant.4,
       ap (λ (z : ℕ). k.result.block + length (blocks_at z rest)) p
           ∙ omega (
@@ -145,18 +127,18 @@ loop-again c =
       g,
     )
 
-same_length : tie.Need-same-length invariant-loop decreases-loop
-same_length c = c.before.before.loop.invariant.2
+pub shape_of-words : goal.shape_of-words
+shape_of-words c = c.loop-i.invariant.2
 
-same-length-2 : tie.Need-same-length-2 invariant-loop decreases-loop
-same-length-2 c = c.before.before.loop.invariant.3
+pub shape_of-out : goal.shape_of-out
+shape_of-out c = c.loop-i.invariant.3
 
-returns : tie.Need-returns invariant-loop decreases-loop
+pub returns : goal.returns
 unfolding code_bands state_length
 returns c =
-    let s = c.before.before.before.before.before.before.before.before.before in
+    let s = c in
     let a = s.args in
-    let l = c.before.before.loop in
+    let l = c.loop-i in
     let u = running l.words l.out l.run in
     let e : code_bands a.layer a.counts.now a.lengths.now a.marks.now l.start (drop l.i (take a.n a.t5)) u
     ≡ u = ap (λ (z : List Band). code_bands a.layer a.counts.now a.lengths.now a.marks.now l.start z u)
@@ -164,24 +146,20 @@ returns c =
     bands-coded a.layer a.counts.now a.lengths.now a.marks.now a.words.now a.out.now a.b
     (take a.n a.t5) u (sym e ∙ l.invariant.7) (omega (arith, s.requires.4)) (omega (arith, s.requires.6))
 
-pub code-bands-spec : {M : Type 1} → statement M
-code-bands-spec =
-    tie.close
-    (tie.spec
-    invariant-loop
-    decreases-loop
-    (λ c κs. search rules)
-    loop-holds
-    (λ c. omega arith)
-    (λ c. omega arith)
-    grid-of-requires
-    (λ c. omega arith)
-    (λ c. omega arith)
-    code-band-requires
-    grid-end-requires
-    (λ c. omega arith)
-    (λ c. omega arith)
-    loop-again
-    same_length
-    same-length-2
-    returns)
+pub offset_bounds-bands-i : goal.offset_bounds-bands-i
+offset_bounds-bands-i c = omega arith
+
+pub bounds-bands-i : goal.bounds-bands-i
+bounds-bands-i c = omega arith
+
+pub offset_bounds-trees-i : goal.offset_bounds-trees-i
+offset_bounds-trees-i c = omega arith
+
+pub bounds-trees-i : goal.bounds-trees-i
+bounds-trees-i c = omega arith
+
+pub overflow_add-i : goal.overflow_add-i
+overflow_add-i c = omega arith
+
+pub loop-i-smaller : goal.loop-i-smaller
+loop-i-smaller c = omega arith
