@@ -1,6 +1,6 @@
 use mathlib.Core.Path.{◌≡◌, refl, sym, ap, ◌∙◌, subst}
 use mathlib.Core.List.{List, [], ◌∷◌}
-use Prim.Native.Nat.{ℕ, ◌+◌, ◌-◌, ◌*◌, ◌≤◌, ◌<◌, ◌^◌}
+use Prim.Native.Nat.{ℕ, ◌+◌, ◌*◌, ◌≤◌, ◌<◌, ◌^◌}
 use native.Mathlib.Omega.{arith}
 use lib.ListN.{length, get_or, take, drop}
 use borrow.Author.Rules.{rules}
@@ -8,7 +8,6 @@ use Rattle.t800.specs.declared.Band.{Band}
 use Rattle.t800.specs.declared.Level.{Level}
 use Rattle.t800.specs.State.{band_length, blocks_at, blocks, end_of, state_length}
 use Rattle.t800_laws.proofs.Laws.Layout.{end_after}
-use Rattle.bio_bytes.specs.Writing.{FreeBitsClear}
 use Rattle.tcd_laws.specs.Geometry.{no_band, SidesUpTo64}
 use Rattle.tcd_laws.proofs.Laws.Bands.{next_band, no_more_bands, sides_of_first, end_turn, band_levels_at}
 use Rattle.t2_write_block.specs.Runs.{running, AllFit}
@@ -37,11 +36,11 @@ code_band-run-requires c =
     let s = c in
     let a = s.args in
     let l = c.loop-i in
-    let g : length a.t5 ≡ 3 = search rules in
-    let band : Band = get_or a.t5 l.i no_band in
-    let rest : List Band = drop (l.i + 1) (take a.n a.t5) in
+    let g : length a.bands ≡ 3 = search rules in
+    let band : Band = get_or a.bands l.i no_band in
+    let rest : List Band = drop (l.i + 1) (take a.n a.bands) in
     let ge = c.grid_of-g.ensures in
-    let e = next_band a.t5 a.n l.i (omega arith) (omega arith) in
+    let e = next_band a.bands a.n l.i (omega arith) (omega arith) in
     let m : l.run.block + length (blocks_at l.start (band ∷ rest))
     ≡ length a.counts.now =
     subst (λ (z : List Band). l.run.block + length (blocks_at l.start z) ≡ length a.counts.now) e l.invariant.5 in
@@ -50,19 +49,19 @@ code_band-run-requires c =
       s.requires.0,
       l.invariant.1,
       subst (λ (k : Grid). BandIn (length l.words) k.start band) (sym ge) (record {
-        sides = sides_of_first a.t5 a.n l.i (omega arith) (omega arith) s.requires.3;
+        sides = sides_of_first a.bands a.n l.i (omega arith) (omega arith) s.requires.3;
         inside = omega (
           arith,
           l.invariant.2,
           l.invariant.4,
-          end_turn a.t5 a.n l.i l.start (omega arith) (omega arith),
+          end_turn a.bands a.n l.i l.start (omega arith) (omega arith),
           end_after (l.start + band_length band) rest,
         );
       }),
       subst (λ (k : Grid). k ≡ grid_of k.start band) (sym ge) refl,
       ap (λ (z : List (List Level)). get_or z l.i [])
           c.band_levels-trees.ensures
-          ∙ band_levels_at a.t5 l.i (omega arith),
+          ∙ band_levels_at a.bands l.i (omega arith),
       s.requires.5,
       omega (arith, blocks-of_first l.start band rest, m),
       subst (λ (k : Grid). AllFit a.counts.now a.lengths.now a.marks.now l.words (band_blocks k.start band)
@@ -77,15 +76,15 @@ grid_end-start-requires c =
     let a = s.args in
     let l = c.loop-i in
     let ge = c.grid_of-g.ensures in
-    let g : length a.t5 ≡ 3 = search rules in
+    let g : length a.bands ≡ 3 = search rules in
     let h : l.i < a.n = c.loop-i-test.true in
     let three : a.n ≤ 3 = s.requires.2 in
     let w : length a.words.now * 4 < 2 ^ 64 = search rules in
-    let band : Band = get_or a.t5 l.i no_band in
+    let band : Band = get_or a.bands l.i no_band in
     subst (λ (k : Grid). SidesUpTo64 band × (k ≡ grid_of k.start band) × (k.start < 2 ^ 63)) (sym ge) (
-      sides_of_first a.t5 a.n l.i (omega arith) (omega arith) s.requires.3,
+      sides_of_first a.bands a.n l.i (omega arith) (omega arith) s.requires.3,
       refl,
-      omega (arith, l.invariant.4, end_after l.start (drop l.i (take a.n a.t5))),
+      omega (arith, l.invariant.4, end_after l.start (drop l.i (take a.n a.bands))),
     )
 
 pub loop-i-preserved : goal.loop-i-preserved
@@ -98,9 +97,9 @@ loop-i-preserved c =
     let g = l.invariant.8 in
     let h : l.i < a.n = c.loop-i-test.true in
     let three : a.n ≤ 3 = s.requires.2 in
-    let band : Band = get_or a.t5 l.i no_band in
-    let rest : List Band = drop (l.i + 1) (take a.n a.t5) in
-    let e = next_band a.t5 a.n l.i (omega arith) (omega arith) in
+    let band : Band = get_or a.bands l.i no_band in
+    let rest : List Band = drop (l.i + 1) (take a.n a.bands) in
+    let e = next_band a.bands a.n l.i (omega arith) (omega arith) in
     let m : l.run.block + length (blocks_at l.start (band ∷ rest))
     ≡ length a.counts.now =
     subst (λ (z : List Band). l.run.block + length (blocks_at l.start z) ≡ length a.counts.now) e l.invariant.5 in
@@ -114,7 +113,7 @@ loop-i-preserved c =
       band_clear a.layer a.counts.now a.lengths.now a.marks.now l.start band u _ ke l.invariant.1,
       k.auto.words ∙ l.invariant.2,
       k.auto.out ∙ l.invariant.3,
-      ap (λ (z : ℕ). end_of z rest) p ∙ end_turn a.t5 a.n l.i l.start (omega arith) (omega arith) ∙ l.invariant.4,
+      ap (λ (z : ℕ). end_of z rest) p ∙ end_turn a.bands a.n l.i l.start (omega arith) (omega arith) ∙ l.invariant.4,
       ap (λ (z : ℕ). k.result.block + length (blocks_at z rest)) p
           ∙ omega (
             arith,
@@ -140,11 +139,11 @@ returns c =
     let a = s.args in
     let l = c.loop-i in
     let u = running l.words l.out l.run in
-    let e : code_bands a.layer a.counts.now a.lengths.now a.marks.now l.start (drop l.i (take a.n a.t5)) u
+    let e : code_bands a.layer a.counts.now a.lengths.now a.marks.now l.start (drop l.i (take a.n a.bands)) u
     ≡ u = ap (λ (z : List Band). code_bands a.layer a.counts.now a.lengths.now a.marks.now l.start z u)
-    (no_more_bands a.t5 a.n l.i (omega arith)) in
+    (no_more_bands a.bands a.n l.i (omega arith)) in
     bands-coded a.layer a.counts.now a.lengths.now a.marks.now a.words.now a.out.now a.b
-    (take a.n a.t5) u (sym e ∙ l.invariant.7) (omega (arith, s.requires.4)) (omega (arith, s.requires.6))
+    (take a.n a.bands) u (sym e ∙ l.invariant.7) (omega (arith, s.requires.4)) (omega (arith, s.requires.6))
 
 pub offset_bounds-bands-i : goal.offset_bounds-bands-i
 offset_bounds-bands-i c = omega arith

@@ -1,10 +1,10 @@
-use mathlib.Core.Path.{◌≡◌, refl, sym, ap, ◌∙◌, subst}
+use mathlib.Core.Path.{refl, sym, ap, ◌∙◌, subst}
 use mathlib.Core.List.{List}
-use Prim.Native.Nat.{ℕ, ◌+◌, ◌-◌, ◌*◌, ◌<◌, ◌≤◌}
+use Prim.Native.Nat.{ℕ, ◌+◌, ◌*◌, ◌<◌, ◌≤◌}
 use native.Mathlib.Omega.{arith}
 use lib.ListN.{length}
 use Rattle.t800.specs.declared.Level.{Level}
-use Rattle.t800.specs.State.{Block, blocks_from}
+use Rattle.t800.specs.State.{Block}
 use Rattle.t800.specs.TagTree.{levels}
 use Rattle.tcd_laws.specs.Geometry.{padded}
 use Rattle.tgt.specs.Path.{row_over, SmallLevels}
@@ -12,7 +12,7 @@ use Rattle.tcd_places.specs.declared.Grid.{Grid}
 use Rattle.bio_bytes.specs.Writing.{FreeBitsClear}
 use Rattle.t2_write_block.specs.Runs.{Running, running, code_all, AllFit}
 use Rattle.t2_write_bands.proofs.Laws.BandRows.{all_clear, row_fits, left_fit, left_coded}
-use Rattle.tcd_places.specs.Places.{BandIn, RowIn, band_blocks, row_blocks, row_place}
+use Rattle.tcd_places.specs.Places.{BandIn, RowIn, row_blocks, row_place}
 use Rattle.tcd_places.proofs.Laws.BandRows.{all_left, at_row, none_left, row_ends, row_in, small}
 use Rattle.t2_write_bands.proofs.code_blocks.Goals as goal
 
