@@ -1,6 +1,6 @@
 use mathlib.Core.Path.{◌≡◌, refl, sym, ap, ◌∙◌, subst}
 use mathlib.Core.List.{List}
-use Prim.Native.Nat.{ℕ, ◌+◌, ◌-◌, ◌*◌, ◌≤◌}
+use Prim.Native.Nat.{ℕ, ◌+◌, ◌-◌, ◌*◌}
 use native.Mathlib.Omega.{arith}
 use lib.ListN.{length}
 use Rattle.t800.specs.State.{Block}
@@ -8,8 +8,7 @@ use Rattle.tcd_places.specs.declared.Place.{Place}
 use Rattle.t2_within_segments.specs.Reading.{reading, BlockFits}
 use Rattle.t2_within_block_parts.specs.Blocks.{next_block, next_blocks}
 use Rattle.tcd_places.specs.Places.{BlockIn, RowIn, block_in, row_blocks}
-use Rattle.tcd_places.proofs.Laws.Rows.{block_in, row_end}
-use Rattle.t2_within_block_parts.proofs.Laws.Kept.{Keeps}
+use Rattle.tcd_places.proofs.Laws.Rows.{block_in-inside, row_end}
 use Rattle.t2_within_block.proofs.Laws.Rows.{block_fits, reads_then, reads_no_more, keeps_then}
 use Rattle.t2_within_block.proofs.read_row.Goals as goal
 
@@ -47,7 +46,7 @@ read_block-run-requires c =
     let r = subst (λ (m : ℕ). RowIn m a.p a.row.now a.n) (sym l.invariant.1) s.requires.2 in (
       l.invariant.0.bits.few,
       subst (λ (k : Place). BlockIn (length l.words) k a.row.now) (sym e)
-          (block_in (length l.words) a.n l.i a.p a.row.now t r),
+          (block_in-inside (length l.words) a.n l.i a.p a.row.now t r),
       s.requires.3,
       omega (arith, s.requires.4, t),
       subst (λ (k : Place). BlockFits l.words k.at) (sym e)

@@ -1,16 +1,10 @@
-use mathlib.Core.Path.{◌≡◌, refl, sym, ap, ◌∙◌, subst}
-use mathlib.Core.List.{List}
-use Prim.Native.Nat.{ℕ, ◌+◌, ◌-◌, ◌*◌, ◌≤◌}
-use native.Mathlib.Omega.{arith}
+use mathlib.Core.Path.{◌≡◌}
+use Prim.Native.Nat.{◌+◌, ◌-◌, ◌*◌, ◌≤◌}
 use lib.ListN.{length}
-use Rattle.t800.specs.State.{Block}
-use Rattle.tcd_places.specs.declared.Place.{Place}
-use Rattle.t2_within_segments.specs.Reading.{reading, BlockFits}
-use Rattle.t2_within_block_parts.specs.Blocks.{next_block, next_blocks}
-use Rattle.tcd_places.specs.Places.{BlockIn, RowIn, block_in, row_blocks}
-use Rattle.tcd_places.proofs.Laws.Rows.{block_in, row_end}
+use Rattle.t2_within_segments.specs.Reading.{reading}
+use Rattle.t2_within_block_parts.specs.Blocks.{next_blocks}
+use Rattle.tcd_places.specs.Places.{row_blocks}
 use Rattle.t2_within_block_parts.proofs.Laws.Kept.{Keeps}
-use Rattle.t2_within_block.proofs.Laws.Rows.{block_fits, reads_then, reads_no_more, keeps_then}
 use Rattle.t2_within_block.proofs.read_row.Given as goal
 
 abbrev pub invariant-loop-i : goal.invariant-loop-i
