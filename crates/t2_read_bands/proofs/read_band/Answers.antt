@@ -1,10 +1,10 @@
 use mathlib.Core.Path.{◌≡◌, refl, sym, ap, ◌∙◌, subst}
 use mathlib.Core.List.{List}
-use Prim.Native.Nat.{ℕ, ◌+◌, ◌-◌, ◌*◌, ◌^◌, ◌<◌, ◌≤◌}
+use Prim.Native.Nat.{ℕ, ◌+◌, ◌*◌, ◌^◌, ◌<◌, ◌≤◌}
 use native.Mathlib.Omega.{arith}
 use lib.ListN.{length}
 use Rattle.t800.specs.declared.Level.{Level}
-use Rattle.t800.specs.State.{Block, band_nodes, blocks_from}
+use Rattle.t800.specs.State.{Block}
 use Rattle.t800.specs.TagTree.{levels}
 use Rattle.tcd_laws.specs.Geometry.{padded}
 use Rattle.tcd_laws.proofs.Laws.Bands.{blocks-up_to_4096}
@@ -12,8 +12,7 @@ use Rattle.tgt.specs.Path.{row_over, SmallLevels}
 use Rattle.tcd_places.specs.declared.Grid.{Grid}
 use Rattle.t2_read_segments.specs.Reading.{reading, BlocksFit}
 use Rattle.t2_read_block_parts.specs.Blocks.{next_blocks}
-use Rattle.t2_read_block_parts.proofs.Laws.Kept.{Keeps}
-use Rattle.tcd_places.specs.Places.{BandIn, RowIn, band_blocks, row_blocks, row_place}
+use Rattle.tcd_places.specs.Places.{BandIn, RowIn, row_blocks, row_place}
 use Rattle.tcd_places.proofs.Laws.BandRows.{all_left, at_row, none_left, row_counts, row_ends, row_in, small}
 use Rattle.t2_read_bands.proofs.Laws.ReadRows.{row_number, row_fits, rows_then, rows_refused, rows_keep}
 use Rattle.t2_read_bands.proofs.read_band.Goals as goal
@@ -135,13 +134,13 @@ returns-then-run-ne0 c =
     let ep = c.row_place-place.ensures ∙ ap (λ (k : Grid). row_place k l.y) ge in
     let er = c.opj_tgt_row.ensures ∙ (λ i. row_over (s.requires.4 i) (ge i).depth l.y) in
     let ew = ap (λ (k : Grid). k.w) ge in
-    let b = subst (λ (k : ℕ). BandIn k a.g.start a.band) (sym l.inv.1) s.requires.2 in
+    let b = subst (λ (k : ℕ). BandIn k a.g.start a.band) (sym l.invariant.1) s.requires.2 in
     let u = reading l.words l.reports l.records l.run in
     let g = c.read_row-run in
     let e = g.ensures ∙
     (λ i. next_blocks a.src.now a.layer (a.block + l.y * ew i) (row_blocks (ep i) (er i) a.band.planes (ew i) 0) u) in
-    rows_refused (length l.words) a.g.start a.band b l.y t a.src.now a.layer a.block u _ e l.inv.5
-    c.if-run-ne0.true ∙ l.inv.6
+    rows_refused (length l.words) a.g.start a.band b l.y t a.src.now a.layer a.block u _ e l.invariant.5
+    c.if-run-ne0.true ∙ l.invariant.6
 
 pub overflow_add-y : goal.overflow_add-y
 overflow_add-y c = omega (
@@ -170,19 +169,19 @@ loop-y-preserved c =
     let ep = c.row_place-place.ensures ∙ ap (λ (k : Grid). row_place k l.y) ge in
     let er = c.opj_tgt_row.ensures ∙ (λ i. row_over (s.requires.4 i) (ge i).depth l.y) in
     let ew = ap (λ (k : Grid). k.w) ge in
-    let b = subst (λ (k : ℕ). BandIn k a.g.start a.band) (sym l.inv.1) s.requires.2 in
+    let b = subst (λ (k : ℕ). BandIn k a.g.start a.band) (sym l.invariant.1) s.requires.2 in
     let u = reading l.words l.reports l.records l.run in
     let g = c.read_row-run in
     let e = g.ensures ∙
     (λ i. next_blocks a.src.now a.layer (a.block + l.y * ew i) (row_blocks (ep i) (er i) a.band.planes (ew i) 0) u) in (
       rows_keep (length l.words) a.g.start a.band b l.y t a.src.now a.layer a.block u _ e a.words.now
-          l.inv.0,
-      g.auto.words ∙ l.inv.1,
-      g.auto.reports ∙ l.inv.2,
-      g.auto.records ∙ l.inv.3,
+          l.invariant.0,
+      g.auto.words ∙ l.invariant.1,
+      g.auto.reports ∙ l.invariant.2,
+      g.auto.records ∙ l.invariant.3,
       omega (arith, t),
       c.if-run-ne0.false,
-      rows_then (length l.words) a.g.start a.band b l.y t a.src.now a.layer a.block u _ e c.if-run-ne0.false ∙ l.inv.6,
+      rows_then (length l.words) a.g.start a.band b l.y t a.src.now a.layer a.block u _ e c.if-run-ne0.false ∙ l.invariant.6,
     )
 
 pub shape_of-words : goal.shape_of-words

@@ -1,21 +1,11 @@
-use mathlib.Core.Path.{◌≡◌, refl, sym, ap, ◌∙◌, subst}
-use mathlib.Core.List.{List}
-use Prim.Native.Nat.{ℕ, ◌+◌, ◌-◌, ◌*◌, ◌^◌, ◌<◌, ◌≤◌}
-use native.Mathlib.Omega.{arith}
+use mathlib.Core.Path.{◌≡◌}
+use Prim.Native.Nat.{◌+◌, ◌-◌, ◌*◌, ◌≤◌}
 use lib.ListN.{length}
-use Rattle.t800.specs.declared.Level.{Level}
-use Rattle.t800.specs.State.{Block, band_nodes, blocks_from}
-use Rattle.t800.specs.TagTree.{levels}
-use Rattle.tcd_laws.specs.Geometry.{padded}
-use Rattle.tcd_laws.proofs.Laws.Bands.{blocks-up_to_4096}
-use Rattle.tgt.specs.Path.{row_over, SmallLevels}
-use Rattle.tcd_places.specs.declared.Grid.{Grid}
-use Rattle.t2_read_segments.specs.Reading.{reading, BlocksFit}
+use Rattle.t800.specs.State.{band_nodes, blocks_from}
+use Rattle.t2_read_segments.specs.Reading.{reading}
 use Rattle.t2_read_block_parts.specs.Blocks.{next_blocks}
 use Rattle.t2_read_block_parts.proofs.Laws.Kept.{Keeps}
-use Rattle.tcd_places.specs.Places.{BandIn, RowIn, band_blocks, row_blocks, row_place}
-use Rattle.tcd_places.proofs.Laws.BandRows.{all_left, at_row, none_left, row_counts, row_ends, row_in, small}
-use Rattle.t2_read_bands.proofs.Laws.ReadRows.{row_number, row_fits, rows_then, rows_refused, rows_keep}
+use Rattle.tcd_places.specs.Places.{band_blocks}
 use Rattle.t2_read_bands.proofs.read_band.Given as goal
 
 abbrev pub invariant-loop-y : goal.invariant-loop-y
