@@ -1,4 +1,3 @@
--- `t2_within_bands::read_band` meets its contract.
 use mathlib.Core.Path.{◌≡◌, ap, ◌∙◌, subst}
 use mathlib.Core.List.{List}
 use Prim.Native.Nat.{ℕ, ◌+◌, ◌-◌, ◌*◌, ◌<◌}
@@ -9,8 +8,7 @@ use Rattle.t2_within_segments.specs.Reading.{reading, BlockFits, BlocksFit}
 use Rattle.t2_within_block_parts.specs.Blocks.{next_blocks}
 use Rattle.t2_within_bands.specs.Bands.{BandFits}
 use Rattle.t2_within_bands.proofs.Laws.ReadBlocks.{some_column}
-use Rattle.t2_within_bands.proofs.read_band.Statement.{statement}
-use Rattle.t2_within_bands.proofs.read_band.Tie as tie
+use Rattle.t2_within_bands.proofs.read_band.Goals as goal
 
 all_fit : (ws : List ℕ) (start : ℕ) (b : Band) (end : ℕ) → end ≡ blocks_in b → BandFits ws start b
     → BlocksFit ws (start + 6 * band_nodes b + 4 * 0) (end - 0)
@@ -18,10 +16,10 @@ all_fit ws start b end e f j l =
     let a : start + 6 * band_nodes b + 4 * j ≡ start + 6 * band_nodes b + 4 * 0 + 4 * j = omega arith in
     subst (BlockFits ws) a (f j (omega arith))
 
-read-blocks-requires : tie.Need-read-blocks-requires
-read-blocks-requires c κs =
-    let s = c.before.before.before.before.before.before.before.before in
-    let k = c.before.before.before.band_blocks_lem in (
+pub read_blocks-requires : goal.read_blocks-requires
+read_blocks-requires c =
+    let s = c in
+    let k = c.band_blocks-end in (
       s.requires.0,
       s.requires.1,
       s.requires.2,
@@ -34,23 +32,24 @@ read-blocks-requires c κs =
       λ h. (omega arith, some_column s.args.band (omega (arith, k.ensures, h))),
     )
 
-returns : tie.Need-returns
+pub returns : goal.returns
 returns c =
-    let a = c.before.before.before.before.before.before.before.before.before.before.before.before.before.before.before.args in
-    let k = c.before.before.before.before.before.before.before.before.before.before.band_blocks_lem in
+    let a = c.args in
+    let k = c.band_blocks-end in
     let z : a.block + 0 ≡ a.block = omega arith in
     let e : k.result - 0 ≡ blocks_in a.band = omega (arith, k.ensures) in
-    c.before.before.before.before.before.before.read-blocks.ensures
+    c.read_blocks.ensures
     ∙ (λ j. next_blocks a.src.now a.layer (z j) (blocks_from a.g.start a.band (e j) 0)
     (reading a.words.now a.reports.now a.records.now a.r))
 
-pub read-band-spec : {M : Type 1} → statement M
-read-band-spec =
-    tie.close
-    (tie.spec
-    (λ c κs. tt)
-    read-blocks-requires
-    (λ c. c.before.before.before.before.before.before.read-blocks.auto.0)
-    (λ c. c.before.before.before.before.before.before.read-blocks.auto.1.0)
-    (λ c. c.before.before.before.before.before.before.read-blocks.auto.1.1.0)
-    returns)
+pub band_blocks-end-requires : goal.band_blocks-end-requires
+band_blocks-end-requires c = tt
+
+pub shape_of-words : goal.shape_of-words
+shape_of-words c = c.read_blocks.auto.words
+
+pub shape_of-reports : goal.shape_of-reports
+shape_of-reports c = c.read_blocks.auto.reports
+
+pub shape_of-records : goal.shape_of-records
+shape_of-records c = c.read_blocks.auto.records
