@@ -12,13 +12,11 @@ use Rattle.math.proofs.opj_uint_floorlog2.Goals as goal
 -- the halvings of a number that isn't 0, its top bit and the zeros above make the width.
 
 leading-half : (k n : ℕ) → 0 < n → count_leading_zeros (suc k) n ≡ count_leading_zeros k (n / 2)
-
 unfolding count_leading_zeros
 leading-half k zero h = absurd (omega arith)
 leading-half k (suc n) h = refl
 
 leading-halvings : (k f n : ℕ) → 0 < n → n < 2 ^ k → n ≤ f → halvings f n + suc (count_leading_zeros k n) ≡ k
-
 unfolding halvings
 leading-halvings zero f n pos h l = absurd (omega arith)
 leading-halvings (suc k) zero n pos h l = absurd (omega arith)
@@ -46,7 +44,6 @@ module _ (a : ℕ) where
   odd_pos = omega (arith, or_step a 1)
 
 floorLog2-is : (a : ℕ) → a < 2 ^ 32 → floor_log2 a + suc (count_leading_zeros 32 (bit_or a 1)) ≡ 32
-
 unfolding floor_log2 halvings count_leading_zeros
 floorLog2-is zero h = refl
 floorLog2-is (suc n) h =

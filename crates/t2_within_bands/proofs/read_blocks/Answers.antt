@@ -40,7 +40,6 @@ at_part : (P : Place → List ℕ → Type 0) (p q : Place) (r v : List ℕ) →
 at_part P p q r v e f k = subst (λ (z : Place). P z r) (sym e) (subst (P q) (sym f) k)
 
 none_left : (start : ℕ) (b : Band) (end at : ℕ) → end ≤ at → blocks_from start b (end - at) at ≡ []
-
 unfolding blocks_from
 none_left start b end at h = let z : end - at ≡ 0 = omega arith in ap (λ (n : ℕ). blocks_from start b n at) z
 
