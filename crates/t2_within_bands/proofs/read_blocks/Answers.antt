@@ -14,7 +14,6 @@ use Rattle.tcd_places.specs.declared.Grid.{Grid}
 use Rattle.tcd_places.specs.declared.Place.{Place}
 use Rattle.t2_within_segments.specs.Reading.{reading, BlocksFit}
 use Rattle.t2_within_block_parts.specs.Blocks.{next_blocks}
-use Rattle.t2_within_block_parts.proofs.Laws.Kept.{Keeps}
 use Rattle.tcd_places.specs.Places.{BandIn, RowIn, row_blocks, place_at, row_place}
 use Rattle.tcd_places.proofs.Laws.BandRows.{row_ends, small}
 use Rattle.t2_within_bands.proofs.Laws.ReadBlocks.{row_there, part_number, part_in, part_fits, blocks-on, blocks-stop, blocks-kept}
@@ -40,7 +39,6 @@ at_part : (P : Place → List ℕ → Type 0) (p q : Place) (r v : List ℕ) →
 at_part P p q r v e f k = subst (λ (z : Place). P z r) (sym e) (subst (P q) (sym f) k)
 
 none_left : (start : ℕ) (b : Band) (end at : ℕ) → end ≤ at → blocks_from start b (end - at) at ≡ []
-
 unfolding blocks_from
 none_left start b end at h = let z : end - at ≡ 0 = omega arith in ap (λ (n : ℕ). blocks_from start b n at) z
 
