@@ -142,8 +142,8 @@ returns-then-run-ne0 c =
     let u = reading l.words l.reports l.records l.run in
     let e = c.read_band-run.ensures
     ∙ ap (λ (k : Grid). next_blocks a.src.now a.layer l.block (band_blocks k.start b) u) ge in
-    bands-refused a.src.now a.layer l.start l.block _ b (drop (l.i + 1) (take a.n a.bands)) nb u _ e l.inv.5
-    c.if-run-ne0.true ∙ l.inv.9
+    bands-refused a.src.now a.layer l.start l.block _ b (drop (l.i + 1) (take a.n a.bands)) nb u _ e l.invariant.5
+    c.if-run-ne0.true ∙ l.invariant.9
 
 pub grid_end-start-requires : goal.grid_end-start-requires
 grid_end-start-requires c =
@@ -156,7 +156,7 @@ grid_end-start-requires c =
     subst (λ (k : Grid). SidesUpTo64 b × (k ≡ grid_of k.start b) × (k.start < 2 ^ 63)) (sym ge) (
       sides_of_first a.bands a.n l.i (all_three (goal.at.grid_end-start-requires c).Start) t s.requires.3,
       refl,
-      starts-below l.start _ _ (end_after l.start (drop l.i (take a.n a.bands))) l.inv.7 (room (goal.at.grid_end-start-requires c).Start),
+      starts-below l.start _ _ (end_after l.start (drop l.i (take a.n a.bands))) l.invariant.7 (room (goal.at.grid_end-start-requires c).Start),
     )
 
 pub overflow_add-block : goal.overflow_add-block
@@ -167,7 +167,7 @@ overflow_add-block c =
     let t = c.loop-i-test.true in
     let b : Band = get_or a.bands l.i no_band in
     let m = sides_of_first a.bands a.n l.i (all_three (goal.at.overflow_add-block c).Start) t s.requires.3 in
-    blocks-fit l.block l.i a.n _ _ c.band_blocks-block.ensures (blocks-up_to_4096 b m) l.inv.6 t s.requires.2
+    blocks-fit l.block l.i a.n _ _ c.band_blocks-block.ensures (blocks-up_to_4096 b m) l.invariant.6 t s.requires.2
 
 pub overflow_add-i : goal.overflow_add-i
 overflow_add-i c =
@@ -203,19 +203,19 @@ loop-i-preserved c =
     let u = reading f.new.words f.new.reports f.new.records f.result in (
       subst (λ (z : ℕ). Keeps a.src.now z a.words.now u) (sym el)
           (bands-keep a.src.now a.layer l.start l.block _ b (drop (l.i + 1) (take a.n a.bands)) nb before _ e
-          a.words.now l.inv.0),
-      f.auto.words ∙ l.inv.1,
-      f.auto.reports ∙ l.inv.2,
-      f.auto.records ∙ l.inv.3,
+          a.words.now l.invariant.0),
+      f.auto.words ∙ l.invariant.1,
+      f.auto.reports ∙ l.invariant.2,
+      f.auto.records ∙ l.invariant.3,
       next l.i a.n t,
       c.if-run-ne0.false,
-      blocks-then l.block l.i _ _ eb (blocks-up_to_4096 b m) l.inv.6,
-      subst (λ (z : ℕ). end_of z (drop (l.i + 1) (take a.n a.bands)) ≤ length a.words.now) (sym el) (ends-then _ _ _ v l.inv.7),
+      blocks-then l.block l.i _ _ eb (blocks-up_to_4096 b m) l.invariant.6,
+      subst (λ (z : ℕ). end_of z (drop (l.i + 1) (take a.n a.bands)) ≤ length a.words.now) (sym el) (ends-then _ _ _ v l.invariant.7),
       subst (λ (z : ℕ). BandsFit a.words.now z (drop (l.i + 1) (take a.n a.bands))) (sym el)
-          (subst (BandsFit a.words.now l.start) nb l.inv.8).1,
+          (subst (BandsFit a.words.now l.start) nb l.invariant.8).1,
       (λ j. next_blocks a.src.now a.layer (l.block + eb j) (blocks_at (el j) (drop (l.i + 1) (take a.n a.bands))) u)
           ∙ bands-then a.src.now a.layer l.start l.block _ b (drop (l.i + 1) (take a.n a.bands)) nb before _ e
-          c.if-run-ne0.false ∙ l.inv.9,
+          c.if-run-ne0.false ∙ l.invariant.9,
     )
 
 pub shape_of-words : goal.shape_of-words

@@ -14,7 +14,6 @@ use Rattle.tcd_places.specs.declared.Grid.{Grid}
 use Rattle.tcd_places.specs.declared.Place.{Place}
 use Rattle.t2_within_segments.specs.Reading.{reading, BlocksFit}
 use Rattle.t2_within_block_parts.specs.Blocks.{next_blocks}
-use Rattle.t2_within_block_parts.proofs.Laws.Kept.{Keeps}
 use Rattle.tcd_places.specs.Places.{BandIn, RowIn, row_blocks, place_at, row_place}
 use Rattle.tcd_places.proofs.Laws.BandRows.{row_ends, small}
 use Rattle.t2_within_bands.proofs.Laws.ReadBlocks.{row_there, part_number, part_in, part_fits, blocks-on, blocks-stop, blocks-kept}

@@ -1,23 +1,10 @@
-use mathlib.Core.Path.{◌≡◌, refl, sym, ap, ◌∙◌, subst}
-use mathlib.Core.List.{List, []}
-use Prim.Native.Nat.{ℕ, ◌+◌, ◌-◌, ◌*◌, ◌<◌, ◌≤◌, min}
-use native.Mathlib.Omega.{arith}
-use lib.ListN.{length, drop}
-use Rattle.t800.specs.declared.Band.{Band}
-use Rattle.t800.specs.declared.Level.{Level}
-use Rattle.t800.specs.State.{Block, band_nodes, blocks_from}
-use Rattle.t800.specs.TagTree.{levels}
-use Rattle.tcd_laws.specs.Geometry.{padded}
-use Rattle.tcd_laws.proofs.Laws.Bands.{blocks-up_to_4096}
-use Rattle.tgt.specs.Path.{row_over, SmallLevels}
-use Rattle.tcd_places.specs.declared.Grid.{Grid}
-use Rattle.tcd_places.specs.declared.Place.{Place}
-use Rattle.t2_within_segments.specs.Reading.{reading, BlocksFit}
+use mathlib.Core.Path.{◌≡◌}
+use Prim.Native.Nat.{◌+◌, ◌-◌, ◌*◌, ◌<◌, ◌≤◌}
+use lib.ListN.{length}
+use Rattle.t800.specs.State.{band_nodes, blocks_from}
+use Rattle.t2_within_segments.specs.Reading.{reading}
 use Rattle.t2_within_block_parts.specs.Blocks.{next_blocks}
 use Rattle.t2_within_block_parts.proofs.Laws.Kept.{Keeps}
-use Rattle.tcd_places.specs.Places.{BandIn, RowIn, row_blocks, place_at, row_place}
-use Rattle.tcd_places.proofs.Laws.BandRows.{row_ends, small}
-use Rattle.t2_within_bands.proofs.Laws.ReadBlocks.{row_there, part_number, part_in, part_fits, blocks-on, blocks-stop, blocks-kept}
 use Rattle.t2_within_bands.proofs.read_blocks.Given as goal
 
 abbrev pub invariant-loop-at : goal.invariant-loop-at
