@@ -1,6 +1,6 @@
 -- Bytes put one run after another, and the parts of a packet less its body.
 use mathlib.Core.Path.{◌≡◌, sym, ap, ◌∙◌}
-use mathlib.Core.Bool.{Bool, true, false, cond, not, true≢false}
+use mathlib.Core.Bool.{Bool, true, false, cond, true≢false}
 use mathlib.Core.List.{List, [], ◌∷◌, ◌++◌, append_assoc}
 use Prim.Native.Nat.{ℕ, suc, ◌+◌, ◌-◌, ◌≤◌}
 use native.Mathlib.Omega.{arith}
@@ -46,16 +46,16 @@ room_after bytes front body h =
     (λ k. lt-leb body (bytes - front) k ∙ sym (lt-leb (front + body) bytes (omega arith)))
 
 -- a marker that isn't used, and one that is
-pub not_used : (used : Bool) (bytes : List ℕ) (at : ℕ) (xs : List ℕ) → not used ≡ true → bytes_put bytes at
+pub not_used : (used : Bool) (bytes : List ℕ) (at : ℕ) (xs : List ℕ) → used ≡ false → bytes_put bytes at
     ≡ put_bytes (bytes_put bytes at) (cond used xs [])
-not_used true bytes at xs h = absurd (true≢false (sym h))
+not_used true bytes at xs h = absurd (true≢false h)
 not_used false bytes at xs h = let e : at ≡ at + 0 = omega arith in λ i. bytes_put bytes (e i)
 
-pub used_bytes : (used : Bool) (bytes : List ℕ) (at : ℕ) (after : List ℕ) (end : ℕ) (xs : List ℕ) → not used ≡ false → end
+pub used_bytes : (used : Bool) (bytes : List ℕ) (at : ℕ) (after : List ℕ) (end : ℕ) (xs : List ℕ) → used ≡ true → end
     ≡ at + length xs → after ≡ sets bytes at xs
     → bytes_put after end ≡ put_bytes (bytes_put bytes at) (cond used xs [])
 used_bytes true bytes at after end xs h e s = λ i. bytes_put (s i) (e i)
-used_bytes false bytes at after end xs h e s = absurd (true≢false h)
+used_bytes false bytes at after end xs h e s = absurd (true≢false (sym h))
 
 -- SOP is put or not, and so is EPH
 marker_up_to : (used : Bool) (xs : List ℕ) → length xs ≤ 6 → length (cond used xs []) ≤ 6
