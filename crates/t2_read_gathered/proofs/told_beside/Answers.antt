@@ -1,4 +1,3 @@
--- `t2_read_gathered::told_beside` meets its contract.
 use mathlib.Core.Path.{◌≡◌, sym, ap, ◌∙◌}
 use mathlib.Core.Bool.{Bool, false, cond}
 use mathlib.Core.List.{List}
@@ -9,11 +8,10 @@ use Rattle.t800.specs.declared.ReadAnswer.{ReadAnswer}
 use Rattle.t800.specs.declared.ReadGatheredAnswer.{ReadGatheredAnswer}
 use Rattle.t800.specs.MarkerSegments.{MarkerRead, read_marker, read_sop}
 use Rattle.t800.specs.Gathered.{told_beside}
-use borrow.Author.Rules.{rules}
-use Rattle.t2_read_gathered.proofs.told_beside.Statement.{statement}
-use Rattle.t2_read_gathered.proofs.told_beside.Tie as tie
+use Rattle.t2_read_gathered.proofs.told_beside.Goals as goal
 
 -- with these bytes and this mark
+
 abbrev told : ReadAnswer → ℕ → ℕ → ReadGatheredAnswer
 told a taken mark = record {
   refusal = a.refusal;
@@ -36,17 +34,14 @@ sop_is : (a : ReadAnswer) (used : Bool) (src : List ℕ) (s : MarkerRead) → s 
 unfolding read_sop
 sop_is a used src s e = ap (λ (x : MarkerRead). told a (cond (eqb a.refusal 0) x.skip 0) (cond (eqb a.refusal 0) x.mark 0)) e
 
-returns : tie.Need-returns
-returns c =
-    let a = c.before.before.before.before.args in
-    let s = c.before.before.read-marker.ensures in
-    by_refusal a.a _ false (ne_eqb a.a.refusal 0 c.if1.true) ∙ sop_is a.a a.sop a.src.now _ s
+pub returns-then-a-ne0 : goal.returns-then-a-ne0
+returns-then-a-ne0 c =
+    let a = c.args in
+    let s = c.read_marker-s.ensures in
+    by_refusal a.a _ false (ne_eqb a.a.refusal 0 c.if-a-ne0.true) ∙ sop_is a.a a.sop a.src.now _ s
 
-returns-2 : tie.Need-returns-2
-returns-2 c =
-    let a = c.before.before.before.before.args in
-    let s = c.before.before.read-marker.ensures in
-    by_refusal a.a _ _ (eq-eqb a.a.refusal 0 c.if1.false) ∙ sop_is a.a a.sop a.src.now _ s
-
-pub told-beside-spec : {M : Type 1} → statement M
-told-beside-spec = tie.close (tie.spec (λ c κs. search rules) returns returns-2)
+pub returns-else-a-ne0 : goal.returns-else-a-ne0
+returns-else-a-ne0 c =
+    let a = c.args in
+    let s = c.read_marker-s.ensures in
+    by_refusal a.a _ _ (eq-eqb a.a.refusal 0 c.if-a-ne0.false) ∙ sop_is a.a a.sop a.src.now _ s
