@@ -25,8 +25,8 @@ pub record PartsFit (p : Skipped) (g : Moved) (left headers_room bodies_room : �
   pub accepted : p.refusal ≡ 0
   pub in_row : p.sop + p.header + p.body ≤ left
   pub few_headers : g.headers + p.header ≤ most_segments * most_bytes
-  pub headers-room : packed_length (g.headers + p.header) ≤ headers_room
-  pub bodies_room_lem : g.bodies + p.sop + p.body ≤ bodies_room
+  pub headers_fit : packed_length (g.headers + p.header) ≤ headers_room
+  pub bodies_fit : g.bodies + p.sop + p.body ≤ bodies_room
 
 -- the header's bytes, and the others, of the packet in front of a row
 abbrev pub header_part : Skipped → (row : Bytes) → Bytes

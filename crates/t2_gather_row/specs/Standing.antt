@@ -34,10 +34,10 @@ pub record Stands (ss : List Words) (row hs bs : Bytes) (gs : Gathering) (ws : W
   pub headers-put : hs' ≡ put_header hs 0 gs.headers
   pub header_bytes_lem : g.headers ≡ length gs.headers
   pub few_headers : g.headers ≤ most_segments * most_bytes
-  pub headers-room : packed_length g.headers ≤ length hs
+  pub headers_room : packed_length g.headers ≤ length hs
   pub bodies_put : bs' ≡ sets bs 0 gs.bodies
   pub body_bytes : g.bodies ≡ length gs.bodies
-  pub bodies_room_lem : g.bodies ≤ length bs
+  pub bodies_room : g.bodies ≤ length bs
 
 abbrev pub from_start : (row : Bytes) (states : Words) → Gathering
 from_start row states = record { refusal = 0; states = states_in states; row = row; headers = []; bodies = [] }

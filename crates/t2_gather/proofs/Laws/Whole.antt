@@ -97,7 +97,7 @@ module _ (row : Bytes) (states scratch places : Words) (m : Markers) (hs bs : By
         pub room_to_close : (packed_length g.headers ≤ length hs') × (g.headers ≤ most_segments * most_bytes)
         room_to_close =
             let l = ap length stands.headers-put ∙ put_keeps_length hs 0 all.headers in
-            (subst (λ (n : ℕ). packed_length g.headers ≤ n) (sym l) stands.headers-room, stands.few_headers)
+            (subst (λ (n : ℕ). packed_length g.headers ≤ n) (sym l) stands.headers_room, stands.few_headers)
 
         abbrev made : Bytes
         made = packed all.headers
@@ -108,14 +108,14 @@ module _ (row : Bytes) (states scratch places : Words) (m : Markers) (hs bs : By
         headers-are : closed hs' g.headers ≡ overwrite hs made
         headers-are =
             (λ i. closed (stands.headers-put i) (stands.header_bytes_lem i))
-            ∙ closed-is_packed hs all.headers (subst (λ (n : ℕ). n ≤ length hs) made_long stands.headers-room)
+            ∙ closed-is_packed hs all.headers (subst (λ (n : ℕ). n ≤ length hs) made_long stands.headers_room)
 
         bodies_are : bs' ≡ overwrite bs all.bodies
         unfolding overwrite
         bodies_are =
             let n : 0 + length all.bodies ≡ length all.bodies = omega arith in
             stands.bodies_put
-            ∙ sets-eq all.bodies bs 0 (omega (arith, stands.body_bytes, stands.bodies_room_lem))
+            ∙ sets-eq all.bodies bs 0 (omega (arith, stands.body_bytes, stands.bodies_room))
             ∙ ap (λ (j : ℕ). all.bodies ++ drop j bs) n
 
         pub all_moved : (hs'' : Bytes) (r : GatherAnswer) → hs'' ≡ closed hs' g.headers

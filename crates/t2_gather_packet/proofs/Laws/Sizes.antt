@@ -44,11 +44,11 @@ room_of_both room bytes bodies at sop body h k =
     (λ l. lt-leb (sop + body) (bodies - at) l ∙ sym (ap not (lt-ltb bodies (at + sop + body) (omega arith)))))
 
 -- what a test of the code says of the definition's
-pub found : (test result : Bool) → result ≡ not test → not result ≡ true → test ≡ true
-found test result e t = not-false test (sym e ∙ not-true result t)
+pub found : (test result : Bool) → result ≡ not test → result ≡ false → test ≡ true
+found test result e t = not-false test (sym e ∙ t)
 
-pub not_found : (test result : Bool) → result ≡ not test → not result ≡ false → test ≡ false
-not_found test result e t = not-true test (sym e ∙ not-false result t)
+pub not_found : (test result : Bool) → result ≡ not test → result ≡ true → test ≡ false
+not_found test result e t = not-true test (sym e ∙ t)
 
 -- ---- in order
 
@@ -106,7 +106,7 @@ module _ (p : Skipped) (g : Moved) (left headers_room bodies_room : ℕ) where
         accepted = z;
         in_row = ltb-false left (p.sop + p.header + p.body) a.0;
         few_headers = up_to_all b.0;
-        headers-room = ltb-false headers_room (packed_length (g.headers + p.header)) (or_left no_headers no_bodies d.0);
-        bodies_room_lem = ltb-false bodies_room (g.bodies + p.sop + p.body) (or_right no_headers no_bodies d.0);
+        headers_fit = ltb-false headers_room (packed_length (g.headers + p.header)) (or_left no_headers no_bodies d.0);
+        bodies_fit = ltb-false bodies_room (g.bodies + p.sop + p.body) (or_right no_headers no_bodies d.0);
       })
       (λ n. absurd (n (by_reader n ∙ e)))

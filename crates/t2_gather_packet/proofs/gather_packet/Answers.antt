@@ -49,13 +49,13 @@ put_header-requires c =
     let p = r.opj_t2_skip_packet-p.result in
     subst (λ (k : ℕ). (packed_length (n + k) ≤ length a.headers.now) × (n + k ≤ most_segments * most_bytes))
     (sym (header_length a.row.now p.sop p.header (omega arith)))
-    (f.headers-room, f.few_headers)
+    (f.headers_fit, f.few_headers)
 
 pub put_bodies-requires : goal.put_bodies-requires
 put_bodies-requires c =
     let r = c in
     let f = fit (goal.at.put_bodies-requires c).After-struct_known-1 in
-    (f.in_row, f.bodies_room_lem)
+    (f.in_row, f.bodies_fit)
 
 pub overflow_add-result : goal.overflow_add-result
 overflow_add-result c =

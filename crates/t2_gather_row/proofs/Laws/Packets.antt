@@ -150,12 +150,12 @@ module _ (ss : List Words) (row hs bs : Bytes) (gs : Gathering) (ws : Words) (hs
                 header_bytes_lem = headers-is
                     ∙ omega (arith, k.header_bytes_lem, headers-long parts gs.row gs.headers gs.bodies fit.in_row);
                 few_headers = omega (arith, headers-is, fit.few_headers);
-                headers-room = subst (λ (n : ℕ). packed_length n ≤ length hs) (sym headers-is)
-                    (subst (λ (n : ℕ). packed_length (g.headers + parts.header) ≤ n) headers-as_long fit.headers-room);
+                headers_room = subst (λ (n : ℕ). packed_length n ≤ length hs) (sym headers-is)
+                    (subst (λ (n : ℕ). packed_length (g.headers + parts.header) ≤ n) headers-as_long fit.headers_fit);
                 bodies_put = bodies_behind;
                 body_bytes = bodies_is
                     ∙ omega (arith, k.body_bytes, bodies_long parts gs.row gs.headers gs.bodies fit.in_row);
-                bodies_room_lem = omega (arith, bodies_is, fit.bodies_room_lem, bodies_as_long);
+                bodies_room = omega (arith, bodies_is, fit.bodies_fit, bodies_as_long);
               }
 
 -- ---- one packet after another
@@ -192,8 +192,8 @@ stands_first row states hs bs ws g v e t n d =
       headers-put = refl;
       header_bytes_lem = n;
       few_headers = omega arith;
-      headers-room = omega arith;
+      headers_room = omega arith;
       bodies_put = refl;
       body_bytes = d;
-      bodies_room_lem = omega arith;
+      bodies_room = omega arith;
     }

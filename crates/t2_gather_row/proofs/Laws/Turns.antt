@@ -70,7 +70,7 @@ module _ (row : Bytes) (m : Markers) (states places : Words) (hs bs : Bytes) (n 
                 state_in_range (states_in states) row hs bs u.so_far ws hs₁ bs₁ g s place place_there f found.0 found.1,
                 s.in_row,
                 s.few_headers,
-                omega (arith, s.bodies_room_lem, bodies_as_long (states_in states) row hs bs u.so_far ws hs₁ bs₁ g s),
+                omega (arith, s.bodies_room, bodies_as_long (states_in states) row hs bs u.so_far ws hs₁ bs₁ g s),
               )
 
           module _ (ws' : Words) (hs' bs' : Bytes) (o : Moved) (p : GathersAt (drop g.taken row) m f ws hs₁ bs₁ g ws' hs' bs' o) where
