@@ -1,19 +1,16 @@
--- `t2_skip_windows::skip_block` meets its contract.
 use mathlib.Core.Path.{◌≡◌, refl, ap, ◌∙◌, subst}
 use mathlib.Core.Bool.{Bool, true, false, cond}
-use mathlib.Core.List.{List, [], ◌∷◌}
-use Prim.Native.Nat.{ℕ, ◌+◌, ◌-◌, ◌*◌, ◌<◌}
+use mathlib.Core.List.{List, []}
+use Prim.Native.Nat.{ℕ, ◌+◌, ◌-◌, ◌*◌}
 use native.Mathlib.Omega.{arith}
 use lib.Dec.{eqb}
 use Rattle.t800.specs.declared.Band.{Band}
-use Rattle.t800.specs.State.{Block, band_nodes, block_of, blocks_from}
+use Rattle.t800.specs.State.{band_nodes, block_of, blocks_from}
 use Rattle.tcd_laws.proofs.Laws.Bands.{blocks-up_to_4096}
 use Rattle.t2_within_segments.specs.Reading.{Reading, reading, BlockFits, BlocksFit}
 use Rattle.t2_within_block_parts.specs.Blocks.{next_block, next_blocks}
 use Rattle.t2_skip_header.proofs.Laws.Bare.{bare, block_bare}
-use borrow.Author.Rules.{rules}
-use Rattle.t2_skip_windows.proofs.skip_block.Statement.{statement}
-use Rattle.t2_skip_windows.proofs.skip_block.Tie as tie
+use Rattle.t2_skip_windows.proofs.skip_block.Goals as goal
 
 either_way : (c : Bool) (a : Reading) → cond c a a ≡ a
 either_way true a = refl
@@ -30,14 +27,14 @@ one_block src t n start b i a =
 one-fits : (ws : List ℕ) (at i : ℕ) → BlockFits ws at → BlocksFit ws at (i + 1 - i)
 one-fits ws at i f j l = let e : at ≡ at + 4 * j = omega arith in subst (BlockFits ws) e f
 
-add-end : tie.Need-overflow-add-end
-add-end c =
-    let s = c.before.before in
+pub overflow_add-end : goal.overflow_add-end
+overflow_add-end c =
+    let s = c in
     omega (arith, s.requires.8, blocks-up_to_4096 s.args.band s.requires.2.sides)
 
-read-blocks-requires : tie.Need-read-blocks-requires
-read-blocks-requires c κs =
-    let s = c.before.before.before.before.before in
+pub read_blocks-requires : goal.read_blocks-requires
+read_blocks-requires c =
+    let s = c in
     let a = s.args in (
       s.requires.0,
       s.requires.1,
@@ -51,20 +48,9 @@ read-blocks-requires c κs =
       λ _. (s.requires.9, s.requires.10),
     )
 
-returns : tie.Need-returns
+pub returns : goal.returns
 returns c =
-    let a = c.before.before.before.before.before.before.before.before.before.before.args in
+    let a = c.args in
     let from = reading a.words.now [] [] a.r in
-    ap bare (c.before.before.before.before.read-blocks.ensures ∙ one_block a.window.now a.layer (a.block + a.i) a.g.start a.band a.i _)
+    ap bare (c.read_blocks.ensures ∙ one_block a.window.now a.layer (a.block + a.i) a.g.start a.band a.i _)
     ∙ block_bare a.window.now a.layer (a.block + a.i) (block_of a.g.start a.band a.i) from
-
-pub skip-block-spec : {M : Type 1} → statement M
-skip-block-spec =
-    tie.close
-    (tie.spec
-    add-end
-    (λ c. search rules)
-    (λ c. search rules)
-    read-blocks-requires
-    (λ c. search rules)
-    returns)
