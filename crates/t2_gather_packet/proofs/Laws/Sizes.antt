@@ -1,10 +1,10 @@
 -- The tests of a packet's parts against what is left and what has room, in the code's own numbers.
 use Prim.Native.Nat.{ℕ, ◌+◌, ◌-◌, ◌*◌, ◌<◌, ◌≤◌}
-use mathlib.Core.Path.{◌≡◌, refl, sym, ap, ◌∙◌}
+use mathlib.Core.Path.{◌≡◌, sym, ap, ◌∙◌}
 use mathlib.Core.Logic.{◌≢◌}
 use mathlib.Core.Bool.{Bool, true, false, not, ◌||◌}
 use native.Mathlib.Omega.{arith}
-use borrow.Author.Tests.{lt-ltb, le-ltb, le-leb, lt-leb, eq-eqb, ne_eqb, ltb-true, ltb-false, not-true, not-false}
+use borrow.Author.Tests.{lt-ltb, le-ltb, le-leb, lt-leb, eq-eqb, ne_eqb, ltb-false, not-true, not-false}
 use lib.Dec.{ltb, leb}
 use Rattle.t800.specs.Refusals.{body_refusal, space_refusal, segments_refusal}
 use Rattle.t800.specs.PackedHeaders.{most_bytes, most_segments, segments_for}

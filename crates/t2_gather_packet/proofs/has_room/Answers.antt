@@ -1,6 +1,4 @@
-use mathlib.Core.Path.{sym}
 use native.Mathlib.Omega.{arith}
-use Rattle.t2_pack_headers.specs.Packing.{packed_length}
 use Rattle.t2_gather_packet.proofs.Laws.Sizes.{no_header_room, room_of_both}
 use Rattle.t2_gather_packet.proofs.has_room.Goals as goal
 

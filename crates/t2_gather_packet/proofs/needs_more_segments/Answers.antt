@@ -1,4 +1,3 @@
-use native.Mathlib.Omega.{arith}
 use Rattle.t2_gather_packet.proofs.Laws.Sizes.{header_too_long}
 use Rattle.t2_gather_packet.proofs.needs_more_segments.Goals as goal
 

@@ -1,13 +1,13 @@
 -- What a packet that is put leaves, with room for it and without; and the state that becomes the scratch.
 use mathlib.Core.Path.{◌≡◌, sym, ap, ◌∙◌}
-use mathlib.Core.Bool.{Bool, true, false, not}
+use mathlib.Core.Bool.{Bool, true, not}
 use mathlib.Core.List.{List, ◌++◌}
 use Prim.Native.Nat.{ℕ, ◌+◌, ◌≤◌}
 use native.Mathlib.Omega.{arith}
 use lib.ListN.{length, get_or, set, drop, length-append}
 use lib.Seq.{sets, sets-eq, get_or-set_same}
 use lib.Dec.{leb, ltb}
-use borrow.Author.Tests.{lt-ltb, le-ltb, leb-true, leb-false, not-true, not-false}
+use borrow.Author.Tests.{lt-ltb, le-ltb, leb-true, leb-false, not-true}
 use Rattle.t800.specs.declared.Markers.{Markers}
 use Rattle.t800.specs.Base.{overwrite}
 use Rattle.t800.specs.TagTree.{Coded}
@@ -22,8 +22,8 @@ use Rattle.t2_write_packet.specs.Front.{BytesPut, bytes_put, put_bytes, put_fron
 use Rattle.t2_write_packet.proofs.Laws.Front.{put_append}
 use Rattle.t2_put_packet.specs.Put.{PacketPut}
 
-pub room_left : (t : Bool) (m n : ℕ) → t ≡ leb m n → not t ≡ false → m ≤ n
-room_left t m n c k = leb-true m n (sym c ∙ not-false t k)
+pub room_left : (t : Bool) (m n : ℕ) → t ≡ leb m n → t ≡ true → m ≤ n
+room_left t m n c k = leb-true m n (sym c ∙ k)
 
 -- ---- put
 

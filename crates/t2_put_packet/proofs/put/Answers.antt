@@ -1,4 +1,6 @@
 use Prim.Native.Nat.{◌+◌, ◌≤◌}
+use mathlib.Core.Bool.{not}
+use mathlib.Core.Path.{ap}
 use native.Mathlib.Omega.{arith}
 use lib.ListN.{length}
 use Rattle.t800.specs.WriteHeader.{contribution}
@@ -11,7 +13,7 @@ returns-then-not-has_room c =
     let p = contribution a.counts.now a.lengths.now a.marks.now in
     let k = c.put_front-end in
     put_without_room a.state.now p a.body.now a.markers a.number a.output.now _ k.ensures _
-    c.has_room.ensures c.if-not-has_room.true k.auto.output
+    c.has_room.ensures (ap not c.if-not-has_room.true) k.auto.output
 
 pub put_body-bytes-requires : goal.put_body-bytes-requires
 put_body-bytes-requires c = room_left _ _ _ c.has_room.ensures c.if-not-has_room.false
