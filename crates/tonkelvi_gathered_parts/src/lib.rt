@@ -21,13 +21,12 @@ pub fn gathered_words(
     room: usize,
     answer: &mut [u64],
 ) -> ReadAnswer
-    ensures* { λ r.
-        ⌜ record {
-          result = read_result as_words state.new scratch.new reports.new work.new r;
-          answer = answer.new;
-        }
+    ensures { record {
+      result = read_result as_words state.new scratch.new reports.new work.new result;
+      answer = answer.new;
+    }
         ≡ gathered_numbers state.old scratch.old (record { sop = sop; eph = eph }) headers.now
-        src.now reports.old work.old room answer.old ⌝ }
+        src.now reports.old work.old room answer.old }
 {
     if answer.len() != 7 {
         return t2_read_refusals::refused(Refusal::LIST);

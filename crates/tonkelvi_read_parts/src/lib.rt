@@ -20,13 +20,12 @@ pub fn read_words(
     room: usize,
     answer: &mut [u64],
 ) -> ReadAnswer
-    ensures* { λ r.
-        ⌜ record {
-          result = read_result as_words state.new scratch.new reports.new work.new r;
-          answer = answer.new;
-        }
+    ensures { record {
+      result = read_result as_words state.new scratch.new reports.new work.new result;
+      answer = answer.new;
+    }
         ≡ numbers_call state.old scratch.old (record { sop = sop; eph = eph }) src.now
-        reports.old work.old room answer.old ⌝ }
+        reports.old work.old room answer.old }
 {
     if answer.len() != 6 {
         return ReadAnswer {

@@ -11,7 +11,6 @@ abbrev found : (run : Run) (base : ℕ) → Decoded → FirstBit
 found run base d = record {
   value = d.value;
   stand = record { run = record { bio = d.bio; count = run.count; room = run.room; bytes = run.bytes; refusal = 0 }; base = base };
-
 }
 
 pub returns : goal.returns

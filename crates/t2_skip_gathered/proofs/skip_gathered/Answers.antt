@@ -111,7 +111,7 @@ returns-then-not-end c =
       subst (λ (x : SkippedGathered). SkipsPacket (parts a.words.now a.m (drop a.at bytes) a.bodies.now) k.new.words
           x.parts) (sym e)
           (end_refused a.words.now a.m bytes a.bodies.now a.at s.requires.0 c.if-layer-eq-NOT_YET_INCLUDED.false k.new.words k.result
-          k.ensures.arrives c.if-run-ne0.false h.result (h.ensures bytes k.ensures.window_on.holds s.requires.2) c.if-not-end.true
+          k.ensures.arrives c.if-run-ne0.false h.result (h.ensures bytes k.ensures.window_on.holds s.requires.2) (not-true _ c.if-not-end.true)
           k.new.words),
       subst (λ (x : SkippedGathered). WindowOn a.segments.now k.new.window x.base) (sym e) k.ensures.window_on,
     )
@@ -137,7 +137,7 @@ returns c =
     let k = c.skip_header-o in
     let h = c.header_end-end in (
       all_gathered_lem a.words.now a.m bytes a.bodies.now a.at s.requires.0 c.if-layer-eq-NOT_YET_INCLUDED.false k.new.words k.result
-          k.ensures.arrives c.if-run-ne0.false h.result (h.ensures bytes k.ensures.window_on.holds s.requires.2) c.if-not-end.false
+          k.ensures.arrives c.if-run-ne0.false h.result (h.ensures bytes k.ensures.window_on.holds s.requires.2) (not-false _ c.if-not-end.false)
           _ (marker_read c.read_marker-sop.result) refl c.read_marker-sop.ensures,
       k.ensures.window_on,
     )
