@@ -1,0 +1,93 @@
+use lib.ListN.{length}
+use mathlib.Core.Path.{◌∙◌, ◌≡◌, ap, sym}
+use native.Mathlib.Omega.{arith}
+use Rattle.t800.specs.State.{writer}
+use Rattle.t800.specs.WriteHeader.{contribution}
+use Rattle.tcd_state.proofs.Laws.Front.{valid_in_front}
+use Rattle.t2_layer_parts.specs.declared.Lists.{Lists}
+use Rattle.t2_layer_parts.proofs.Laws.Front.{valid_part, counts_add_up, why_is, front-state_refused}
+use Rattle.t2_layer_parts.proofs.Laws.Front.{front-refused, refused-front, body_refused_front, accepted_front, lengths_few}
+use Rattle.t2_layer_parts.proofs.in_front.Goals as goal
+
+pub returns-then-words-eq0 : goal.returns-then-words-eq0
+unfolding writer
+returns-then-words-eq0 c =
+    let a = c.args in
+    let p = contribution a.counts.now a.lengths.now a.marks.now in
+    refused-front a.states.now p a.bodies _ 5 c.refused.ensures (omega arith)
+    (front-state_refused a.states.now p a.bodies (sym c.state_in_front-words.ensures ∙ c.if-words-eq0.true))
+
+pub lists_of-lists-requires : goal.lists_of-lists-requires
+unfolding writer
+lists_of-lists-requires c = omega (arith, c.state_in_front-words.ensures, c.if-words-eq0.false)
+
+pub slice_bounds-refusal_of_valid-end : goal.slice_bounds-refusal_of_valid-end
+unfolding writer
+slice_bounds-refusal_of_valid-end c =
+    let a = c.args in
+    let v = valid_in_front writer a.states.now (omega (arith, c.state_in_front-words.ensures, c.if-words-eq0.false)) in
+    omega (arith, c.state_in_front-words.ensures, v.words_are, v.there)
+
+pub slice_bounds-refusal_of_valid-end-2 : goal.slice_bounds-refusal_of_valid-end-2
+slice_bounds-refusal_of_valid-end-2 c = let e : _ ≡ _ = ap (λ (k : Lists). k.counts) c.lists_of-lists.ensures in omega (arith, e)
+
+pub slice_bounds-refusal_of_valid-end-3 : goal.slice_bounds-refusal_of_valid-end-3
+slice_bounds-refusal_of_valid-end-3 c = let e : _ ≡ _ = ap (λ (k : Lists). k.lengths) c.lists_of-lists.ensures in omega (arith, e)
+
+pub slice_bounds-refusal_of_valid-end-4 : goal.slice_bounds-refusal_of_valid-end-4
+slice_bounds-refusal_of_valid-end-4 c = let e : _ ≡ _ = ap (λ (k : Lists). k.marks) c.lists_of-lists.ensures in omega
+    (arith, e)
+
+pub refusal_of_valid-why-requires : goal.refusal_of_valid-why-requires
+unfolding writer
+refusal_of_valid-why-requires c =
+    let a = c.args in (
+      valid_part a.states.now _ c.state_in_front-words.ensures (omega (
+        arith,
+        c.if-words-eq0.false,
+      )),
+      λ h. counts_add_up a.states.now a.counts.now (length a.lengths.now) (length a.marks.now) _ c.lists_of-lists.ensures,
+    )
+
+pub returns-then-why-ne0 : goal.returns-then-why-ne0
+unfolding writer
+returns-then-why-ne0 c =
+    let a = c.args in
+    let p = contribution a.counts.now a.lengths.now a.marks.now in
+    refused-front a.states.now p a.bodies _ _ c.refused-then-why-ne0.ensures c.if-why-ne0.true
+    (front-refused a.states.now p a.bodies _
+    (why_is a.states.now p _ _ _ c.state_in_front-words.ensures
+    (omega (arith, c.if-words-eq0.false)) c.lists_of-lists.ensures
+    c.refusal_of_valid-why.ensures) c.if-why-ne0.true)
+
+pub slice_bounds-total-end : goal.slice_bounds-total-end
+slice_bounds-total-end c = let e : _ ≡ _ = ap (λ (k : Lists). k.lengths) c.lists_of-lists.ensures in
+    omega (arith, e)
+
+pub total-bytes-requires : goal.total-bytes-requires
+unfolding writer
+total-bytes-requires c =
+    let a = c.args in
+    let p = contribution a.counts.now a.lengths.now a.marks.now in
+    lengths_few a.states.now p _ _ _ c.state_in_front-words.ensures (omega (arith, c.if-words-eq0.false)) c.lists_of-lists.ensures
+    c.refusal_of_valid-why.ensures c.if-why-ne0.false
+
+pub returns-then-bodies-bytes : goal.returns-then-bodies-bytes
+unfolding writer
+returns-then-bodies-bytes c =
+    let a = c.args in
+    let p = contribution a.counts.now a.lengths.now a.marks.now in
+    body_refused_front a.states.now p _ _ _ c.state_in_front-words.ensures (omega (
+      arith,
+      c.if-words-eq0.false,
+    ))
+    c.lists_of-lists.ensures c.refusal_of_valid-why.ensures c.if-why-ne0.false a.bodies _ c.total-bytes.ensures _
+    c.if-bodies-bytes.true c.refused-then-bodies-bytes.ensures
+
+pub returns : goal.returns
+unfolding writer
+returns c =
+    let a = c.args in
+    let p = contribution a.counts.now a.lengths.now a.marks.now in
+    accepted_front a.states.now p _ _ _ c.state_in_front-words.ensures (omega (arith, c.if-words-eq0.false))
+    c.lists_of-lists.ensures c.refusal_of_valid-why.ensures c.if-why-ne0.false a.bodies _ c.total-bytes.ensures c.if-bodies-bytes.false
