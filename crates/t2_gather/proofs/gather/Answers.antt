@@ -43,11 +43,11 @@ returns-then-why-ne0 c =
     let p = i in
     let r = p in
     let a = r.args in
-    let l = p.gather_packets-g.new.1.1 in
-    let k = p.gather_packets-g.auto.1.1 in
+    let l = p.gather_packets-g.new in
+    let k = p.gather_packets-g.auto in
     c.refuse-then-why-ne0.ensures
-    ∙ wiped-alike _ a.scratch.now l.0 a.headers.now l.1.1.1.0 a.bodies.now l.1.1.1.1.0
-    (k.0 ∙ p.copy.auto.to) k.1.1.1.0 k.1.1.1.1.0
+    ∙ wiped-alike _ a.scratch.now l.scratch a.headers.now l.headers a.bodies.now l.bodies
+    (k.scratch ∙ p.copy.auto.to) k.headers k.bodies
     ∙ refused-late a.row.now a.states.now a.scratch.now a.places.now a.m a.headers.now a.bodies.now
     (good (goal.at.returns-then-why-ne0 c).After-copy-arg-1) _ _ _ _ p.gather_packets-g.ensures _ i.row_refusal-why.ensures i.if-why-ne0.true
 
