@@ -128,20 +128,20 @@ module _ (segments : Bytes) (states : Words) (n : ℕ) (places : Words) (u : Pla
     right : (unpacked segments).refusal ≡ 0
     right = sym k.refusal ∙ z
 
-    pub by_states : (fit : Bool) → fit ≡ not (bad_states states n places) → not fit ≡ true
+    pub by_states : (fit : Bool) → fit ≡ not (bad_states states n places) → fit ≡ false
         → LooksFirst segments states n places (record { refusal = state_refusal; bytes = 0 })
     unfolding early_refusal
     by_states fit is t =
-        let bad : bad_states states n places ≡ true = not-false (bad_states states n places) (sym is ∙ not-true fit t) in
+        let bad : bad_states states n places ≡ true = not-false (bad_states states n places) (sym is ∙ t) in
         record {
           refuses = simp (eq-eqb (unpacked segments).refusal 0 right, bad);
           bytes_if = λ e. absurd (omega (arith, e));
         }
 
-    pub by_neither : (fit : Bool) → fit ≡ not (bad_states states n places) → not fit ≡ false → LooksFirst segments states n places u
+    pub by_neither : (fit : Bool) → fit ≡ not (bad_states states n places) → fit ≡ true → LooksFirst segments states n places u
     unfolding early_refusal
     by_neither fit is t =
-        let good : bad_states states n places ≡ false = not-true (bad_states states n places) (sym is ∙ not-false fit t) in
+        let good : bad_states states n places ≡ false = not-true (bad_states states n places) (sym is ∙ t) in
         record {
           refuses = z ∙ simp (eq-eqb (unpacked segments).refusal 0 right, good);
           bytes_if = k.bytes_if;

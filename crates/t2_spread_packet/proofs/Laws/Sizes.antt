@@ -22,11 +22,11 @@ pub not_within : (left n : ℕ) → left < n → false ≡ not (ltb left n)
 not_within left n h = sym (ap not (lt-ltb left n h))
 
 -- what the code's test says of the definition's
-more_than : (left n : ℕ) (result : Bool) → result ≡ not (ltb left n) → not result ≡ true → left < n
-more_than left n result e t = ltb-true left n (not-false (ltb left n) (sym e ∙ not-true result t))
+more_than : (left n : ℕ) (result : Bool) → result ≡ not (ltb left n) → result ≡ false → left < n
+more_than left n result e t = ltb-true left n (not-false (ltb left n) (sym e ∙ t))
 
-up_to : (left n : ℕ) (result : Bool) → result ≡ not (ltb left n) → not result ≡ false → n ≤ left
-up_to left n result e t = ltb-false left n (not-true (ltb left n) (sym e ∙ not-false result t))
+up_to : (left n : ℕ) (result : Bool) → result ≡ not (ltb left n) → result ≡ true → n ≤ left
+up_to left n result e t = ltb-false left n (not-true (ltb left n) (sym e ∙ t))
 
 -- a packet that nothing turns away
 pub record Fits (p : Skipped) (left put room : ℕ) : Type 0 where
@@ -43,15 +43,15 @@ module _ (p : Skipped) (left put room : ℕ) where
   by_reader n = simp (ne_eqb p.refusal 0 n)
 
   module _ (z : p.refusal ≡ 0) (short : Bool) (is : short ≡ not (ltb left (p.sop + 0 + p.body))) where
-    pub by_bodies : not short ≡ true → body_refusal ≡ why
+    pub by_bodies : short ≡ false → body_refusal ≡ why
     unfolding sizes_refusal
     by_bodies t =
         let h = more_than left (p.sop + 0 + p.body) short is t in
         simp (eq-eqb p.refusal 0 z, lt-ltb left (p.sop + p.body) (omega arith))
 
-    module _ (here : not short ≡ false) (low : put ≤ room) (fits : Bool)
+    module _ (here : short ≡ true) (low : put ≤ room) (fits : Bool)
         (says : fits ≡ not (ltb (room - put) (p.sop + p.header + p.body))) where
-      pub by_room : not fits ≡ true → space_refusal ≡ why
+      pub by_room : fits ≡ false → space_refusal ≡ why
       unfolding sizes_refusal
       by_room t =
           let h = up_to left (p.sop + 0 + p.body) short is here in
@@ -62,7 +62,7 @@ module _ (p : Skipped) (left put room : ℕ) where
             lt-ltb room (put + (p.sop + p.header + p.body)) (omega arith),
           )
 
-      pub by_none : not fits ≡ false → 0 ≡ why
+      pub by_none : fits ≡ true → 0 ≡ why
       unfolding sizes_refusal
       by_none t =
           let h = up_to left (p.sop + 0 + p.body) short is here in
