@@ -1,10 +1,7 @@
 use mathlib.Core.Path.{◌≡◌, refl, sym, ◌∙◌, subst}
-use mathlib.Core.List.{List}
-use Prim.Native.Nat.{ℕ, ◌+◌, ◌-◌, ◌≤◌, ◌<◌}
+use Prim.Native.Nat.{ℕ, ◌+◌, ◌-◌, ◌<◌}
 use native.Mathlib.Omega.{arith}
 use lib.ListN.{length, set}
-use Rattle.t800.specs.declared.Markers.{Markers}
-use Rattle.t800.specs.WriteHeader.{contribution}
 use Rattle.t800.specs.Layer.{LayerCall}
 use Rattle.whole_layer.specs.SingleCalls.{LooksAtEach}
 use Rattle.t2_write_precincts.proofs.Laws.Lists.{back}
@@ -14,8 +11,6 @@ use Rattle.t2_write_precincts.proofs.Laws.Lent.{front-written, one_refused, last
 use Rattle.t2_write_precincts.proofs.write_precincts.Invariants.{call}
 use Rattle.t2_write_precincts.proofs.write_precincts.Goals as goal
 use Rattle.t2_write_precincts.proofs.write_precincts.Goals.{Start, Else-front-ne0, After-loop-i}
-
-}
 
 -- ---- the call
 
@@ -257,10 +252,10 @@ overflow_sub-last c = omega (arith, c.requires.0)
 
 pub offset_bounds-states-word : goal.offset_bounds-states-word
 offset_bounds-states-word c = omega (
-      arith,
-      c.loop-i.invariant.2.words_in,
-      c.well_formed.1.0,
-    )
+  arith,
+  c.loop-i.invariant.2.words_in,
+  c.well_formed.1.0,
+)
 
 pub slice_bounds-write_in_front-count : goal.slice_bounds-write_in_front-count
 slice_bounds-write_in_front-count c = omega (arith, c.loop-i.invariant.2.words_in)
@@ -273,11 +268,11 @@ slice_bounds-write_in_front-end c = omega (arith, c.loop-i.invariant.2.words_in)
 
 pub offset_bounds-scratch-word : goal.offset_bounds-scratch-word
 offset_bounds-scratch-word c = omega (
-      arith,
-      c.loop-i.invariant.2.words_in,
-      c.loop-i.invariant.2.as_long,
-      c.well_formed.1.0,
-    )
+  arith,
+  c.loop-i.invariant.2.words_in,
+  c.loop-i.invariant.2.as_long,
+  c.well_formed.1.0,
+)
 
 pub slice_bounds-write_in_front-count-in-loop-i : goal.slice_bounds-write_in_front-count-in-loop-i
 slice_bounds-write_in_front-count-in-loop-i c = omega (arith, c.loop-i.invariant.2.words_in, c.loop-i.invariant.2.as_long)
@@ -290,10 +285,10 @@ slice_bounds-write_in_front-end-in-loop-i c = omega (arith, c.loop-i.invariant.2
 
 pub offset_bounds-counts-block : goal.offset_bounds-counts-block
 offset_bounds-counts-block c = omega (
-      arith,
-      c.loop-i.invariant.2.counts_in,
-      c.well_formed.1.1.1.0,
-    )
+  arith,
+  c.loop-i.invariant.2.counts_in,
+  c.well_formed.1.1.1.0,
+)
 
 pub slice_bounds-write_in_front-count-in-loop-i-2 : goal.slice_bounds-write_in_front-count-in-loop-i-2
 slice_bounds-write_in_front-count-in-loop-i-2 c = omega (arith, c.loop-i.invariant.2.counts_in)
@@ -306,10 +301,10 @@ slice_bounds-write_in_front-end-in-loop-i-2 c = omega (arith, c.loop-i.invariant
 
 pub offset_bounds-lengths-pass : goal.offset_bounds-lengths-pass
 offset_bounds-lengths-pass c = omega (
-      arith,
-      c.loop-i.invariant.2.lengths_in,
-      c.well_formed.1.1.1.1.0,
-    )
+  arith,
+  c.loop-i.invariant.2.lengths_in,
+  c.well_formed.1.1.1.1.0,
+)
 
 pub slice_bounds-write_in_front-count-in-loop-i-3 : goal.slice_bounds-write_in_front-count-in-loop-i-3
 slice_bounds-write_in_front-count-in-loop-i-3 c = omega (arith, c.loop-i.invariant.2.lengths_in)
@@ -340,40 +335,40 @@ slice_bounds-write_in_front-end-in-loop-i-5 c = omega (arith, c.loop-i.invariant
 
 pub offset_bounds-numbers-i : goal.offset_bounds-numbers-i
 offset_bounds-numbers-i c = omega (
-      arith,
-      c.loop-i.invariant.0,
-      c.loop-i.invariant.1,
-      c.requires.1,
-    )
+  arith,
+  c.loop-i.invariant.0,
+  c.loop-i.invariant.1,
+  c.requires.1,
+)
 
 pub bounds-numbers-i : goal.bounds-numbers-i
 bounds-numbers-i c = omega (
-      arith,
-      c.loop-i.invariant.0,
-      c.loop-i.invariant.1,
-      c.loop-i-test.true,
-    )
+  arith,
+  c.loop-i.invariant.0,
+  c.loop-i.invariant.1,
+  c.loop-i-test.true,
+)
 
 pub slice_bounds-write_in_front-count-in-loop-i-6 : goal.slice_bounds-write_in_front-count-in-loop-i-6
 slice_bounds-write_in_front-count-in-loop-i-6 c = omega (
-      arith,
-      c.loop-i.invariant.2.output-in,
-      c.loop-i.invariant.2.output-as_long,
-    )
+  arith,
+  c.loop-i.invariant.2.output-in,
+  c.loop-i.invariant.2.output-as_long,
+)
 
 pub slice_bounds-write_in_front-start-in-loop-i-6 : goal.slice_bounds-write_in_front-start-in-loop-i-6
 slice_bounds-write_in_front-start-in-loop-i-6 c = omega (
-      arith,
-      c.loop-i.invariant.2.output-in,
-      c.loop-i.invariant.2.output-as_long,
-    )
+  arith,
+  c.loop-i.invariant.2.output-in,
+  c.loop-i.invariant.2.output-as_long,
+)
 
 pub slice_bounds-write_in_front-end-in-loop-i-6 : goal.slice_bounds-write_in_front-end-in-loop-i-6
 slice_bounds-write_in_front-end-in-loop-i-6 c = omega (
-      arith,
-      c.loop-i.invariant.2.output-in,
-      c.loop-i.invariant.2.output-as_long,
-    )
+  arith,
+  c.loop-i.invariant.2.output-in,
+  c.loop-i.invariant.2.output-as_long,
+)
 
 pub offset_bounds-words-i : goal.offset_bounds-words-i
 offset_bounds-words-i c = omega (arith, among-sixteen c)
@@ -383,16 +378,16 @@ offset_bounds-passes-i c = omega (arith, among-sixteen c)
 
 pub loop-i-smaller : goal.loop-i-smaller
 loop-i-smaller c = omega (
-      arith,
-      c.loop-i-test.true,
-    )
+  arith,
+  c.loop-i-test.true,
+)
 
 pub offset_bounds-states-word-2 : goal.offset_bounds-states-word-2
 offset_bounds-states-word-2 c = omega (
-      arith,
-      c.loop-i.invariant.2.words_in,
-      c.well_formed.1.0,
-    )
+  arith,
+  c.loop-i.invariant.2.words_in,
+  c.well_formed.1.0,
+)
 
 pub slice_bounds-write-count : goal.slice_bounds-write-count
 slice_bounds-write-count c = omega (arith, c.loop-i.invariant.2.words_in)
@@ -405,11 +400,11 @@ slice_bounds-write-end c = omega (arith, c.loop-i.invariant.2.words_in)
 
 pub offset_bounds-scratch-word-2 : goal.offset_bounds-scratch-word-2
 offset_bounds-scratch-word-2 c = omega (
-      arith,
-      c.loop-i.invariant.2.words_in,
-      c.loop-i.invariant.2.as_long,
-      c.well_formed.1.0,
-    )
+  arith,
+  c.loop-i.invariant.2.words_in,
+  c.loop-i.invariant.2.as_long,
+  c.well_formed.1.0,
+)
 
 pub slice_bounds-write-count-2 : goal.slice_bounds-write-count-2
 slice_bounds-write-count-2 c = omega (arith, c.loop-i.invariant.2.words_in, c.loop-i.invariant.2.as_long)
@@ -422,10 +417,10 @@ slice_bounds-write-end-2 c = omega (arith, c.loop-i.invariant.2.words_in, c.loop
 
 pub offset_bounds-counts-block-2 : goal.offset_bounds-counts-block-2
 offset_bounds-counts-block-2 c = omega (
-      arith,
-      c.loop-i.invariant.2.counts_in,
-      c.well_formed.1.1.1.0,
-    )
+  arith,
+  c.loop-i.invariant.2.counts_in,
+  c.well_formed.1.1.1.0,
+)
 
 pub slice_bounds-write-count-3 : goal.slice_bounds-write-count-3
 slice_bounds-write-count-3 c = omega (arith, c.loop-i.invariant.2.counts_in)
@@ -438,10 +433,10 @@ slice_bounds-write-end-3 c = omega (arith, c.loop-i.invariant.2.counts_in)
 
 pub offset_bounds-lengths-pass-2 : goal.offset_bounds-lengths-pass-2
 offset_bounds-lengths-pass-2 c = omega (
-      arith,
-      c.loop-i.invariant.2.lengths_in,
-      c.well_formed.1.1.1.1.0,
-    )
+  arith,
+  c.loop-i.invariant.2.lengths_in,
+  c.well_formed.1.1.1.1.0,
+)
 
 pub slice_bounds-write-count-4 : goal.slice_bounds-write-count-4
 slice_bounds-write-count-4 c = omega (arith, c.loop-i.invariant.2.lengths_in)
@@ -472,36 +467,45 @@ slice_bounds-write-end-6 c = omega (arith, c.loop-i.invariant.2.bodies_in)
 
 pub offset_bounds-numbers-last : goal.offset_bounds-numbers-last
 offset_bounds-numbers-last c = omega (
-      arith,
-      c.loop-i.invariant.0,
-      c.loop-i.invariant.1,
-      c.requires.1,
-    )
+  arith,
+  c.loop-i.invariant.0,
+  c.loop-i.invariant.1,
+  c.requires.1,
+)
 
 pub bounds-numbers-last : goal.bounds-numbers-last
 bounds-numbers-last c = omega (
-      arith,
-      c.loop-i.invariant.0,
-      c.loop-i.invariant.1,
-    )
+  arith,
+  c.loop-i.invariant.0,
+  c.loop-i.invariant.1,
+)
 
 pub slice_bounds-write-count-7 : goal.slice_bounds-write-count-7
 slice_bounds-write-count-7 c = omega (
-      arith,
-      c.loop-i.invariant.2.output-in,
-      c.loop-i.invariant.2.output-as_long,
-    )
+  arith,
+  c.loop-i.invariant.2.output-in,
+  c.loop-i.invariant.2.output-as_long,
+)
 
 pub slice_bounds-write-start-7 : goal.slice_bounds-write-start-7
 slice_bounds-write-start-7 c = omega (
-      arith,
-      c.loop-i.invariant.2.output-in,
-      c.loop-i.invariant.2.output-as_long,
-    )
+  arith,
+  c.loop-i.invariant.2.output-in,
+  c.loop-i.invariant.2.output-as_long,
+)
 
 pub slice_bounds-write-end-7 : goal.slice_bounds-write-end-7
 slice_bounds-write-end-7 c = omega (
-      arith,
-      c.loop-i.invariant.2.output-in,
-      c.loop-i.invariant.2.output-as_long,
-    )
+  arith,
+  c.loop-i.invariant.2.output-in,
+  c.loop-i.invariant.2.output-as_long,
+)
+
+pub overflow_add-result : goal.overflow_add-result
+overflow_add-result c =
+    let s = c in
+    let a = at_last (goal.at.overflow_add-result c).After-loop-i in
+    let w = c.write-a in
+    let f = last_fits a (looks (goal.at.overflow_add-result c).Start) (omega (arith, s.requires.0)) w.result _ _ _ w.ensures
+    c.if-a-ne0.false w.auto.output in
+    omega (arith, f, s.well_formed.1.1.1.1.1.1.1.1.0)

@@ -1,16 +1,11 @@
-use mathlib.Core.Path.{◌≡◌, refl, sym, ◌∙◌, subst}
+use mathlib.Core.Path.{◌≡◌}
 use mathlib.Core.List.{List}
-use Prim.Native.Nat.{ℕ, ◌+◌, ◌-◌, ◌≤◌, ◌<◌}
-use native.Mathlib.Omega.{arith}
-use lib.ListN.{length, set}
+use Prim.Native.Nat.{ℕ, ◌+◌, ◌-◌, ◌≤◌}
+use lib.ListN.{length}
 use Rattle.t800.specs.declared.Markers.{Markers}
 use Rattle.t800.specs.WriteHeader.{contribution}
 use Rattle.t800.specs.Layer.{LayerCall}
-use Rattle.whole_layer.specs.SingleCalls.{LooksAtEach}
-use Rattle.t2_write_precincts.proofs.Laws.Lists.{back}
-use Rattle.t2_write_precincts.proofs.Laws.Along.{Along, begins}
-use Rattle.t2_write_precincts.proofs.Laws.Lent.{lent-as_long, states_length, scratch_length_lem, output-length, front-refused}
-use Rattle.t2_write_precincts.proofs.Laws.Lent.{front-written, one_refused, last_settles, last_fits, layer-written}
+use Rattle.t2_write_precincts.proofs.Laws.Along.{Along}
 use Rattle.t2_write_precincts.proofs.write_precincts.Given as goal
 
 abbrev pub call : (numbers scratch counts lengths marks bodies : List ℕ) → Markers → (output : List ℕ) → LayerCall
@@ -21,6 +16,7 @@ call numbers scratch counts lengths marks bodies m output = record {
   markers = m;
   numbers = numbers;
   output = output;
+}
 
 abbrev pub invariant-loop-i : goal.invariant-loop-i
 invariant-loop-i l =
