@@ -57,13 +57,13 @@ enum tonkelvi_refusal {
     TONKELVI_STYLE = 2,       /* style bit 0x40 or 0x80 set */
     TONKELVI_LIST = 3,        /* a list of the wrong length */
     TONKELVI_PLANES = 4,      /* a band above 998 bit-planes, or a block above its band */
-    TONKELVI_STATE = 5,       /* wrong role, wrong length of state or scratch, a word out of range, or a place without a state */
+    TONKELVI_STATE = 5,       /* wrong role, wrong length of state or scratch, or a word out of range; in a move, a place without a state */
     TONKELVI_LAYERS = 6,      /* next layer is 65,535 */
     TONKELVI_PASSES = 7,      /* a pass count above 164 */
     TONKELVI_LENGTH = 8,      /* a written segment of 2^31 bytes or more */
     TONKELVI_WIDTH = 9,       /* a length field wider than 32 bits */
-    TONKELVI_BODY = 10,       /* body bytes differ from the sum of lengths, or bytes are left after the last packet of a move */
-    TONKELVI_SPACE = 11,      /* what is to be put in an output is longer than that, which is wiped to 0 */
+    TONKELVI_BODY = 10,       /* body bytes differ from the sum of pass lengths; in a move, a body goes past its list, or bytes are left */
+    TONKELVI_SPACE = 11,      /* the packet is longer than the output, which is wiped to 0; in a move, what is put in an output is longer */
     TONKELVI_HEADER_END = 12, /* the last bit read lies in a byte FF and the input ends with that byte */
     TONKELVI_RECORDS = 13,    /* more segments than records lent */
     TONKELVI_PRECINCTS = 14,  /* more than 16 precincts in one layer */
@@ -80,13 +80,13 @@ static inline const char *tonkelvi_text(uint32_t refusal) {
     case TONKELVI_STYLE: return "The style has a high-throughput bit, 0x40 or 0x80.";
     case TONKELVI_LIST: return "A list has another length than the call asks.";
     case TONKELVI_PLANES: return "A band has more than 998 bit-planes, or a block has more than its band.";
-    case TONKELVI_STATE: return "A state is of the other role, its length or one of its words is out of range, or a place has no state.";
+    case TONKELVI_STATE: return "The state is of the other role, or its length or one of its words is out of range.";
     case TONKELVI_LAYERS: return "All 65,535 layers have been coded.";
     case TONKELVI_PASSES: return "A block has more than 164 passes in one layer.";
     case TONKELVI_LENGTH: return "A segment has 2^31 bytes or more.";
     case TONKELVI_WIDTH: return "A length field is wider than 32 bits.";
-    case TONKELVI_BODY: return "A body has another length than its lengths add up to, or bytes are left after the last packet.";
-    case TONKELVI_SPACE: return "The output is too short for what is to be put in it.";
+    case TONKELVI_BODY: return "The body has another length than the pass lengths add up to.";
+    case TONKELVI_SPACE: return "The packet is longer than the output.";
     case TONKELVI_HEADER_END: return "The input ends with a byte FF that the header ends in.";
     case TONKELVI_RECORDS: return "The packet has more segments than records were lent.";
     case TONKELVI_PRECINCTS: return "More than 16 precincts were given for one layer.";

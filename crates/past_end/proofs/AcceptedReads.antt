@@ -2,10 +2,11 @@
 use mathlib.Core.Path.{◌≡◌, sym, ap, ◌∙◌, subst}
 use mathlib.Core.Logic.{◌≢◌}
 use mathlib.Core.Bool.{false, not}
-use mathlib.Core.List.{List}
-use Prim.Native.Nat.{ℕ, ◌+◌, ◌≤◌, ◌<◌}
+use mathlib.Core.List.{List, ◌++◌}
+use Prim.Native.Nat.{ℕ, ◌+◌, ◌^◌, ◌≤◌, ◌<◌}
+use native.Mathlib.Nat.{add-zero}
 use native.Mathlib.Omega.{arith}
-use lib.ListN.{length}
+use lib.ListN.{length, length-append}
 use lib.Dec.{eqb}
 use borrow.Author.Tests.{eq-eqb, eqb-true, eqb-false, not-true, not-false}
 use Rattle.t800.specs.declared.Bio.{Bio}
@@ -21,12 +22,57 @@ use Rattle.t800_laws.proofs.Laws.StateAfter.{read-in_range}
 use Rattle.tcd_laws.proofs.Laws.ValidStates.{valid_state_lem, bands-inside, blocks-of_valid}
 use Rattle.bits_taken.specs.Taken.{Reached}
 use Rattle.bits_taken.proofs.Laws.Taken.{takes_one}
+use Rattle.bits_taken.proofs.Laws.Inside.{none_past}
 use Rattle.bits_taken.proofs.Laws.Reached.{first_reached, header_reached}
 use Rattle.bits_taken.proofs.Laws.Counting.{header_in_reach, counted}
-use Rattle.past_end.specs.PastEnd.{last_bit, CountOfReads}
+use Rattle.past_end.specs.PastEnd.{last_bit, CountOfReads, eph_again}
 use Rattle.past_end.proofs.SameBits.{Way, Agree, bits_to, of_decoded, of_header, same_bit, bit_stays}
 use Rattle.past_end.proofs.SameHeader.{accepted_end, header_stays}
-use Rattle.past_end.proofs.SameMarkers.{sop_inside}
+use Rattle.past_end.proofs.MoreMarkers.{same_eph}
+use Rattle.past_end.proofs.SameMarkers.{sop_inside, eph_not_skipped, same_taken}
+use Rattle.past_end.proofs.MoreBytes.{staying, with_more_lem}
+use Rattle.past_end.proofs.Flags.{reached_there}
+
+-- r is read over less of the input, longer over all of src
+abbrev pub SameOrAgain : (form : RecordForm) → Markers → (src : List ℕ) (r longer : ReadResult form) → Type 0
+SameOrAgain form m src r longer = (r.answer.eph ≢ 1 → longer ≡ r) × (r.answer.eph ≡ 1 → longer ≡ eph_again form m src r)
+
+-- ---- bits that end inside the input, with more input
+
+module _ (src more : List ℕ) (start : ℕ) (e : Bio) (reached : Reached src start e) (inside : e.bp ≤ length src) where
+  -- by the same bits
+  reached_longer : Reached (src ++ more) start e
+  reached_longer =
+      reached_there src (src ++ more) (staying (length src)) (with_more_lem src more) start e reached (omega arith) inside
+      (omega (arith, reached.inside, length-append src more))
+
+  same_past : bits_past (src ++ more) (bio_at start) e ≡ bits_past src (bio_at start) e
+  same_past =
+      none_past (src ++ more) (2 ^ 39) (bio_at start) e reached_longer.takes (omega (arith, inside, length-append src more))
+      ∙ sym (none_past src (2 ^ 39) (bio_at start) e reached.takes inside)
+
+  module _ (form : RecordForm) (m : Markers) (state scratch reports : List ℕ) (records : form.Lent) (present segments sop : ℕ) where
+    -- what is answered and left where the bits end at e
+    abbrev ended : List ℕ → ReadResult form
+    ended s =
+        let at = bytes_taken s e in
+        let eph = read_eph m s at in
+        read_result form state scratch reports records (record {
+          refusal = 0;
+          present = present;
+          taken = at + eph.skip;
+          segments = segments;
+          sop = sop;
+          eph = eph.mark;
+          past = bits_past s (bio_at start) e;
+        })
+
+    pub same_or_again : SameOrAgain form m (src ++ more) (ended src) (ended (src ++ more))
+    same_or_again =
+        let t = same_taken src more e inside in (
+          (λ h. rw (t, same_eph m src more (bytes_taken src e) h, same_past)),
+          (λ h. rw (t, same_past, eph_not_skipped m src (bytes_taken src e) h, add-zero (bytes_taken src e))),
+        )
 
 -- what r tells and leaves, where its bits end at e of this input
 abbrev pub told_at : (form : RecordForm) → Markers → (src : List ℕ) → Bio → ReadResult form → ReadResult form

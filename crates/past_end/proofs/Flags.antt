@@ -15,8 +15,8 @@ use Rattle.bits_taken.specs.Taken.{after_bits, Reached}
 use Rattle.bits_taken.proofs.Laws.Taken.{after_sum, after_few}
 use Rattle.bits_taken.proofs.Laws.Counting.{bits_up_to, after_rises}
 use Rattle.past_end.specs.PastEnd.{byte_of, FlagOfBit, UnflaggedBitStays, OneNumberOfBits}
-use Rattle.past_end.proofs.SameBits.{Way, Agree, bits_to, itself, of_decoded, Stays, here, then, same_bit, bit_stays}
-use Rattle.past_end.proofs.MoreBytes.{staying, with_more_lem}
+use Rattle.past_end.proofs.SameBits.{Way, Agree, bits_to, itself, of_decoded, Stays, here, then, bit_stays}
+use Rattle.past_end.proofs.MoreBytes.{bit_inside}
 
 -- ---- where a bit is flagged
 
@@ -66,7 +66,7 @@ unflagged_bit_stays src more b e =
     let later : ltb (length (src ++ more)) r.bio.bp ≡ ltb (length src) r.bio.bp = le-ltb (length (src ++ more)) r.bio.bp
     (omega (arith, length-append src more)) ∙ sym e in
     ap (λ (d : Decoded). record { value = d.value; past = ltb (length (src ++ more)) d.bio.bp; bio = d.bio })
-    (same_bit src (src ++ more) (staying (length src)) (with_more_lem src more) b (omega arith) h)
+    (bit_inside src more b h)
     ∙ ap (λ (t : Bool). record { value = r.value; past = t; bio = r.bio }) later
 
 -- ---- bits one after another

@@ -3,7 +3,9 @@ pub mod SameHeader
 pub mod MoreBytes
 pub mod Flags
 pub mod SameMarkers
+pub mod MoreMarkers
 pub mod AcceptedReads
+pub mod ToldWithMore
 pub mod MoreInput
 pub mod Interfaces
 pub mod Examples

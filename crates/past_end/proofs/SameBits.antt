@@ -3,10 +3,10 @@
 use mathlib.Core.Path.{◌≡◌, refl, sym, ap, ◌∙◌, subst}
 use mathlib.Core.Logic.{◌≢◌}
 use mathlib.Core.Bool.{Bool, true, false, cond}
-use mathlib.Core.List.{List, [], ◌∷◌, reverse}
+use mathlib.Core.List.{List, [], ◌∷◌, ◌++◌, reverse}
 use Prim.Native.Nat.{ℕ, zero, suc, ◌+◌, ◌-◌, ◌*◌, ◌/◌, ◌%◌, ◌^◌, ◌≤◌, ◌<◌, min, max}
 use native.Mathlib.Omega.{arith}
-use lib.ListN.{length, get_or, set, get_or-eq_default}
+use lib.ListN.{length, get_or, set, length-append, get_or-append, get_or-eq_default}
 use lib.Dec.{eqb, ltb, leb}
 use borrow.Author.Tests.{eqb-false}
 use Rattle.t800.specs.declared.Bio.{Bio}
@@ -151,9 +151,9 @@ after_first src first =
 module _ (src other : List ℕ) (w : Way) (agree : Agree src other w) where
   -- ---- a bit
 
-  byte_inside : (b : Bio) → w.first ≤ b.bp → (byte_in src b).bp ≤ w.last → byte_in other (bits_to w b) ≡ bits_to w (byte_in src b)
+  byte_there : (b : Bio) → w.first ≤ b.bp → (byte_in src b).bp ≤ w.last → byte_in other (bits_to w b) ≡ bits_to w (byte_in src b)
   unfolding byte_in
-  byte_inside b f h =
+  byte_there b f h =
       let q : ℕ = w.to b.bp in
       let l : b.bp < w.last = omega (arith, agree.in_reach) in
       let e : max q (min (q + 1) (length other + reach)) ≡ q + 1 = omega (arith, agree.to_in_reach b.bp f l) in
@@ -163,7 +163,7 @@ module _ (src other : List ℕ) (w : Way) (agree : Agree src other w) where
   same_by : (b : Bio) (t : Bool) → w.first ≤ b.bp → (held_bit (cond t (byte_in src b) b)).bio.bp ≤ w.last
       → held_bit (cond t (byte_in other (bits_to w b)) (bits_to w b)) ≡ of_decoded.gone w (held_bit (cond t (byte_in src b) b))
   unfolding held_bit
-  same_by b true f h = ap held_bit (byte_inside b f h)
+  same_by b true f h = ap held_bit (byte_there b f h)
   same_by b false f h = refl
 
   pub same_bit : (b : Bio) → w.first ≤ b.bp → (get_bit src b).bio.bp ≤ w.last
@@ -292,3 +292,19 @@ module _ (src other : List ℕ) (w : Way) (agree : Agree src other w) where
             sym (comma_bound other (bits_to w b) m h.1) ∙ ap (λ (f : ℕ). read_ones other f 0 (bits_to w b)) both
             ∙ (ones_stay (m + n) 0 b).same h there ∙ ap (of_decoded.gone w) e;
       }
+
+-- ---- a byte, with more input
+
+module _ (src more : List ℕ) where
+  abbrev longer : List ℕ
+  longer = src ++ more
+
+  -- a byte inside the input is the same
+  pub byte_inside : (b : Bio) → (byte_in src b).bp ≤ length src → byte_in longer b ≡ byte_in src b
+  unfolding byte_in
+  byte_inside b h =
+      let l : b.bp < length src = omega arith in
+      let n = length-append src more in
+      let e : max b.bp (min (b.bp + 1) (length longer + reach)) ≡ b.bp + 1 = omega arith in
+      let f : max b.bp (min (b.bp + 1) (length src + reach)) ≡ b.bp + 1 = omega arith in
+      rw (e, f, get_or-append src more 0 b.bp l)

@@ -2,15 +2,15 @@
 use mathlib.Core.Path.{◌≡◌, refl, sym, subst}
 use mathlib.Core.Logic.{◌≢◌}
 use mathlib.Core.Bool.{Bool, true, false, cond, ◌&&◌}
-use mathlib.Core.List.{List, [], ◌∷◌, reverse}
-use Prim.Native.Nat.{ℕ, zero, suc, ◌+◌, ◌-◌, ◌*◌}
+use mathlib.Core.List.{List, [], ◌∷◌, ◌++◌, reverse}
+use Prim.Native.Nat.{ℕ, zero, suc, ◌+◌, ◌-◌, ◌*◌, ◌≤◌}
 use native.Mathlib.Omega.{arith}
-use lib.ListN.{length, set}
+use lib.ListN.{length, set, length-append}
 use lib.Dec.{eqb, ltb, leb}
-use borrow.Author.Tests.{eqb-true, eq-eqb}
+use borrow.Author.Tests.{eqb-true, eqb-false, eq-eqb, ne_eqb}
 use Rattle.t800.specs.declared.Bio.{Bio}
 use Rattle.t800.specs.Refusals.{width_refusal, header_end_refusal, records_refusal}
-use Rattle.t800.specs.Bits.{Decoded, get_bit, read_bits, ends_in_ff}
+use Rattle.t800.specs.Bits.{Decoded, get_bit, read_bits, in_ff, ends_in_ff}
 use Rattle.t800.specs.TagTree.{PathRead, value, read_path}
 use Rattle.t800.specs.PassCount.{read_passes}
 use Rattle.t800.specs.Segments.{width, read_comma}
@@ -187,3 +187,14 @@ module _ (src other : List ℕ) (w : Way) (agree : Agree src other w) (room : �
       (blocks-stay (layer ws) 0 (blocks (bands ws)) r p.2)
       (end_stays a p.2 (and_second (eqb a.refusal 0) (ends_in_ff src a.bio) (eq-eqb a.refusal 0 p.2) p.0)
       (subst NotEnded p.1 there))
+
+-- ---- with more input
+
+-- bits that end inside the input, and not in FF at its end, don't end in FF at a later end
+pub not_in_ff : (src more : List ℕ) (b : Bio) → ends_in_ff src b ≡ false → b.bp ≤ length src → ends_in_ff (src ++ more) b ≡ false
+unfolding ends_in_ff
+not_in_ff src more b e h = go (in_ff b) e
+  where
+    go : (t : Bool) → (t && eqb b.bp (length src)) ≡ false → (t && eqb b.bp (length (src ++ more))) ≡ false
+    go true f = ne_eqb b.bp (length (src ++ more)) (omega (arith, eqb-false b.bp (length src) f, length-append src more))
+    go false f = refl

@@ -35,7 +35,7 @@ module _ (used : Bool) (size second : ℕ) (src : List ℕ) (place : ℕ) where
       (λ f. either P (eqb (get_or src place 0) 0xff && eqb (get_or src (place + 1) 0) second) _ _
       (omega (arith, ltb-false (length src - place) size f)) (omega arith)))
 
-same_marker : (used : Bool) (size second : ℕ) (src more : List ℕ) (place : ℕ) → 2 ≤ size
+pub same_marker : (used : Bool) (size second : ℕ) (src more : List ℕ) (place : ℕ) → 2 ≤ size
     → (read_marker used size second src place).mark ≢ 1
     → read_marker used size second (src ++ more) place ≡ read_marker used size second src place
 unfolding read_marker
@@ -51,15 +51,6 @@ same_marker true size second src more place two h =
     rw (enough, now, first, next))
 
 -- ---- SOP and EPH
-
-module _ (m : Markers) (src more : List ℕ) where
-  pub same_sop : (read_sop m src).mark ≢ 1 → read_sop m (src ++ more) ≡ read_sop m src
-  unfolding read_sop
-  same_sop h = same_marker m.sop 6 0x91 src more 0 (omega arith) h
-
-  pub same_eph : (place : ℕ) → (read_eph m src place).mark ≢ 1 → read_eph m (src ++ more) place ≡ read_eph m src place
-  unfolding read_eph
-  same_eph place h = same_marker m.eph 2 0x92 src more place (omega arith) h
 
 pub sop_inside : (m : Markers) (src : List ℕ) → (read_sop m src).skip ≤ length src
 unfolding read_sop

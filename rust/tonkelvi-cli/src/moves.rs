@@ -133,7 +133,7 @@ impl Visitor for Plan {
         }
         let packed = seen.packed.is_some();
         let sop = if !packed && seen.markers.sop && seen.packet.sop == Mark::InOrder { 6 } else { 0 };
-        let packet = Packet { place: seen.place, packed, bytes: seen.bytes.len(), header: seen.header - sop };
+        let packet = Packet { place: seen.place, packed, bytes: seen.bytes.len(), header: seen.packet.taken - sop };
         let part = self.streams.last_mut().and_then(|stream| stream.parts.last_mut()).expect("a packet is of a tile-part");
         part.markers = seen.markers;
         part.packets.push(packet);

@@ -39,7 +39,7 @@ impl<'a> Sheet<'a> {
         }
     }
 
-    fn row(&mut self, tile: Option<u32>, turn: Option<(Precinct, u16)>, offset: usize, seen: Option<&Seen>, message: Option<Message>) {
+    fn row(&mut self, tile: Option<u32>, turn: Option<(Precinct, u16)>, offset: usize, packet: Option<&Packet>, message: Option<Message>) {
         self.whole &= !message.is_some_and(Message::is_fault);
         let number = |n: Option<u64>| n.map(|n| n.to_string()).unwrap_or_default();
         let fields = [
@@ -49,10 +49,10 @@ impl<'a> Sheet<'a> {
             number(turn.map(|t| t.0.component.into())),
             number(turn.map(|t| t.0.number.into())),
             offset.to_string(),
-            number(seen.map(|s| s.header as u64)),
-            number(seen.map(|s| s.packet.body())),
+            number(packet.map(|p| p.taken as u64)),
+            number(packet.map(Packet::body)),
         ];
-        let lists = seen.map(|s| lists(s.packet)).unwrap_or_default();
+        let lists = packet.map(lists).unwrap_or_default();
         let sentence = message.map(|m| self.catalogue.sentence(m)).unwrap_or_default();
         let message = number(message.map(|m| m.number().into()));
         match self.form {
@@ -69,7 +69,7 @@ impl<'a> Sheet<'a> {
 impl Visitor for Sheet<'_> {
     fn packet(&mut self, seen: &Seen) {
         self.packets += 1;
-        self.row(Some(seen.tile), Some((seen.precinct, seen.layer)), seen.offset, Some(seen), seen.message);
+        self.row(Some(seen.tile), Some((seen.precinct, seen.layer)), seen.offset, Some(seen.packet), seen.message);
     }
 
     fn note(&mut self, note: Note) {

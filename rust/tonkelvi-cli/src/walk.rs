@@ -19,8 +19,6 @@ pub struct Seen<'a> {
     pub offset: usize,
     pub markers: Markers,
     pub packet: &'a Packet,
-    /// Bytes of the header and its markers; without SOP where it is packed.
-    pub header: usize,
     /// Markers, header and body; without the header where it is packed.
     pub bytes: Range<usize>,
     /// The header that PPM or PPT has, with EPH.
@@ -296,7 +294,7 @@ impl<'a> Walk<'a> {
         let precinct = started.turns.precincts()[turn.precinct];
         let refused = |message| Note { turn: Some((precinct, turn.layer)), ..self.note_at(part, at, message) };
         let read = read(started, &settings, turn, &self.data[at..part.body.end], &mut tile.packed).map_err(refused)?;
-        let end = at as u64 + read.packet.taken as u64 + read.packet.body();
+        let end = at as u64 + read.before as u64 + read.packet.body();
         if end > part.body.end as u64 {
             return Err(refused(if part.cut { Message::Cut } else { Message::BodyPast }));
         }
@@ -310,7 +308,6 @@ impl<'a> Walk<'a> {
             offset: self.base + at,
             markers: read.markers,
             packet: &read.packet,
-            header: read.header,
             bytes: self.base + at..self.base + end as usize,
             packed: read.packed.as_deref(),
             message: remark(&read.packet, bands),
@@ -381,11 +378,11 @@ fn precincts(components: &[Vec<Resolution>], area: Rect, size: &Size) -> Vec<Pre
     list
 }
 
-/// A packet that was read: its body stands behind the bytes that it has taken.
+/// A packet that was read, and how many bytes stand before its body.
 struct Read {
     packet: Packet,
     markers: Markers,
-    header: usize,
+    before: usize,
     packed: Option<Vec<u8>>,
 }
 
@@ -406,7 +403,7 @@ fn read(started: &mut Started, settings: &Settings, turn: Turn, src: &[u8], pack
         None => {
             let src = if markers.sop && is_cut_sop(src) { &[] } else { src };
             let packet = opened.reader.read(src, markers).map_err(Message::Refused)?;
-            Read { header: packet.taken, packet, markers, packed: None }
+            Read { before: packet.taken, packet, markers, packed: None }
         }
     };
     match read.packet.bits_past_end {
@@ -420,13 +417,15 @@ fn is_cut_sop(src: &[u8]) -> bool {
     src == [0xff] || (src.len() < 6 && src.starts_with(&[0xff, 0x91]))
 }
 
-/// Reads a header from `packed` and takes it away; SOP, if used, stands before the body in `src`, the tile-part's data.
+/// Reads a header from `packed` and takes it away; SOP, if used, stands before the body in `src`, the tile-part's data. The bytes that the
+/// packet has taken are the header's.
 fn read_packed(reader: &mut Reader, markers: Markers, src: &[u8], packed: &mut VecDeque<u8>) -> Result<Read, Message> {
     if packed.is_empty() {
         return Err(Message::Packed);
     }
-    let Gathered { header, packet } = reader.read_gathered(packed.make_contiguous(), src, markers).map_err(Message::Refused)?;
-    Ok(Read { packet, markers, header, packed: Some(packed.drain(..header).collect()) })
+    let Gathered { header, mut packet } = reader.read_gathered(packed.make_contiguous(), src, markers).map_err(Message::Refused)?;
+    let before = std::mem::replace(&mut packet.taken, header);
+    Ok(Read { before, packet, markers, packed: Some(packed.drain(..header).collect()) })
 }
 
 fn open(settings: &Settings, precinct: Precinct, resolution: &Resolution) -> Result<Opened, Message> {

@@ -33,7 +33,7 @@ struct Found {
 impl Visitor for Found {
     fn packet(&mut self, seen: &Seen) {
         self.packets.push(seen.bytes.clone());
-        self.headers.push(seen.header);
+        self.headers.push(seen.packet.taken);
         self.segments.push(seen.packet.segments.clone());
         self.messages.extend(seen.message);
     }

@@ -146,10 +146,10 @@ impl Reader {
     }
 
     /// Reads the next packet's header from the front of `src`.
-    pub fn read(&mut self, src: &[u8], Markers { sop, eph }: Markers) -> Result<Packet, Refusal> {
+    pub fn read(&mut self, src: &[u8], markers: Markers) -> Result<Packet, Refusal> {
         let mut answer = [0; 6];
         self.lending(|Reader { state, scratch, reports, work, records }| {
-            words::read(state, scratch, src, sop, eph, reports, work, records, &mut answer)
+            words::read(state, scratch, src, markers.sop, markers.eph, reports, work, records, &mut answer)
         })?;
         Ok(self.packet(answer))
     }

@@ -203,7 +203,7 @@ fn up_to_sixteen() {
 
 #[test]
 fn refusals_are_told() {
-    assert_eq!(at(Refusal::Space, 3).to_string(), "Precinct 3: The output is too short for what is to be put in it.");
+    assert_eq!(at(Refusal::Space, 3).to_string(), "Precinct 3: The packet is longer than the output.");
     assert_eq!(at(Refusal::Precincts, 0).to_string(), Refusal::Precincts.sentence());
     let error: Box<dyn std::error::Error> = at(Refusal::Body, 1).into();
     assert_eq!(error.source().map(|source| source.to_string()), Some(Refusal::Body.to_string()));
