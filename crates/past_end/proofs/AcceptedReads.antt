@@ -26,7 +26,7 @@ use Rattle.bits_taken.proofs.Laws.Counting.{header_in_reach, counted}
 use Rattle.past_end.specs.PastEnd.{last_bit, CountOfReads}
 use Rattle.past_end.proofs.SameBits.{Way, Agree, bits_to, of_decoded, of_header, same_bit, bit_stays}
 use Rattle.past_end.proofs.SameHeader.{accepted_end, header_stays}
-use Rattle.past_end.proofs.SameMarkers.{sop_inside}
+use Rattle.past_end.proofs.SameSopEph.{sop_inside}
 
 -- what r tells and leaves, where its bits end at e of this input
 abbrev pub told_at : (form : RecordForm) → Markers → (src : List ℕ) → Bio → ReadResult form → ReadResult form

@@ -15,7 +15,7 @@ use Rattle.t800.specs.Start.{start}
 use Rattle.t800.specs.Packet.{ReadResult, read}
 use Rattle.t800.proofs.Table.{row_holds}
 use Rattle.past_end.specs.PastEnd.{eph_again, MoreInput}
-use Rattle.past_end.proofs.MoreInput.{more_input}
+use Rattle.past_end.proofs.Longer.{more_input}
 
 -- one band, of one block and of none
 abbrev one_block : List Band

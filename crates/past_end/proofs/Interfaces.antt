@@ -9,7 +9,7 @@ use Rattle.t800.specs.Packet.{ReadResult}
 use Rattle.t800.specs.Interface.{read_of, Interface}
 use Rattle.past_end.specs.PastEnd.{CountsFlags, last_bit, CountOfReads, eph_again, MoreInput, CountOf, MoreInputOf}
 use Rattle.past_end.proofs.AcceptedReads.{count_of_reads}
-use Rattle.past_end.proofs.MoreInput.{more_input}
+use Rattle.past_end.proofs.Longer.{more_input}
 
 module _ (I : Interface) where
   -- an accepted call has lists of the length that is asked

@@ -3,7 +3,9 @@ pub mod SameHeader
 pub mod MoreBytes
 pub mod Flags
 pub mod SameMarkers
+pub mod SameSopEph
 pub mod AcceptedReads
 pub mod MoreInput
+pub mod Longer
 pub mod Interfaces
 pub mod Examples

@@ -9,16 +9,15 @@ use lib.ListN.{length, get_or, length-append, get_or-append}
 use lib.Dec.{eqb, ltb}
 use borrow.Author.Tests.{le-ltb, ltb-false}
 use Rattle.t800.specs.declared.Bio.{Bio}
-use Rattle.t800.specs.declared.Markers.{Markers}
 use Rattle.t800.specs.Bits.{in_ff, bytes_taken}
-use Rattle.t800.specs.MarkerSegments.{MarkerRead, read_marker, read_sop, read_eph}
+use Rattle.t800.specs.MarkerSegments.{MarkerRead, read_marker}
 use Rattle.t800_laws.proofs.Laws.Tests.{if-lt, on-lt, either, either-by}
 
 -- ---- a marker
 
 module _ (used : Bool) (size second : ℕ) (src : List ℕ) (place : ℕ) where
   -- one that had too few bytes skips none
-  no_skip : (read_marker used size second src place).mark ≡ 1 → (read_marker used size second src place).skip ≡ 0
+  pub no_skip : (read_marker used size second src place).mark ≡ 1 → (read_marker used size second src place).skip ≡ 0
   unfolding read_marker
   no_skip =
       let P : MarkerRead → Type 0 = λ r. r.mark ≡ 1 → r.skip ≡ 0 in
@@ -26,7 +25,7 @@ module _ (used : Bool) (size second : ℕ) (src : List ℕ) (place : ℕ) where
       (either P (ltb (length src - place) size) _ _ (λ _. refl)
       (either P (eqb (get_or src place 0) 0xff && eqb (get_or src (place + 1) 0) second) _ _ (λ e. absurd (omega arith)) (λ _. refl)))
 
-  skip_inside : place ≤ length src → place + (read_marker used size second src place).skip ≤ length src
+  pub skip_inside : place ≤ length src → place + (read_marker used size second src place).skip ≤ length src
   unfolding read_marker
   skip_inside h =
       let P : MarkerRead → Type 0 = λ r. place + r.skip ≤ length src in
@@ -35,7 +34,7 @@ module _ (used : Bool) (size second : ℕ) (src : List ℕ) (place : ℕ) where
       (λ f. either P (eqb (get_or src place 0) 0xff && eqb (get_or src (place + 1) 0) second) _ _
       (omega (arith, ltb-false (length src - place) size f)) (omega arith)))
 
-same_marker : (used : Bool) (size second : ℕ) (src more : List ℕ) (place : ℕ) → 2 ≤ size
+pub same_marker : (used : Bool) (size second : ℕ) (src more : List ℕ) (place : ℕ) → 2 ≤ size
     → (read_marker used size second src place).mark ≢ 1
     → read_marker used size second (src ++ more) place ≡ read_marker used size second src place
 unfolding read_marker
@@ -49,29 +48,6 @@ same_marker true size second src more place two h =
     let first : get_or (src ++ more) place 0 ≡ get_or src place 0 = get_or-append src more 0 place (omega arith) in
     let next : get_or (src ++ more) (place + 1) 0 ≡ get_or src (place + 1) 0 = get_or-append src more 0 (place + 1) (omega arith) in
     rw (enough, now, first, next))
-
--- ---- SOP and EPH
-
-module _ (m : Markers) (src more : List ℕ) where
-  pub same_sop : (read_sop m src).mark ≢ 1 → read_sop m (src ++ more) ≡ read_sop m src
-  unfolding read_sop
-  same_sop h = same_marker m.sop 6 0x91 src more 0 (omega arith) h
-
-  pub same_eph : (place : ℕ) → (read_eph m src place).mark ≢ 1 → read_eph m (src ++ more) place ≡ read_eph m src place
-  unfolding read_eph
-  same_eph place h = same_marker m.eph 2 0x92 src more place (omega arith) h
-
-pub sop_inside : (m : Markers) (src : List ℕ) → (read_sop m src).skip ≤ length src
-unfolding read_sop
-sop_inside m src = omega (arith, skip_inside m.sop 6 0x91 src 0 (omega arith))
-
-pub eph_inside : (m : Markers) (src : List ℕ) (place : ℕ) → place ≤ length src → place + (read_eph m src place).skip ≤ length src
-unfolding read_eph
-eph_inside m src place h = skip_inside m.eph 2 0x92 src place h
-
-pub eph_not_skipped : (m : Markers) (src : List ℕ) (place : ℕ) → (read_eph m src place).mark ≡ 1 → (read_eph m src place).skip ≡ 0
-unfolding read_eph
-eph_not_skipped m src place h = no_skip m.eph 2 0x92 src place h
 
 -- ---- the bytes taken
 
