@@ -1,4 +1,5 @@
 pub mod Taken
+pub mod HeaderTaken
 pub mod Inside
 pub mod Reached
 pub mod Counting

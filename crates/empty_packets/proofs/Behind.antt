@@ -26,13 +26,13 @@ use Rattle.round_trip.proofs.Trip.Changes.{block_coded, blocks-coded}
 use Rattle.round_trip.proofs.Trip.WriterState.{header_blocks}
 use Rattle.t800_laws.proofs.Laws.Contributes.{present_header, absent-header}
 use Rattle.empty_packets.specs.LaterPackets.{Accepted, state_behind, state_behind_present, block_bits_from, block_bits, others_of}
-use Rattle.empty_packets.specs.LaterPackets.{Started, started_state, StateAsIfPresent, HeaderAsIfPresent}
-use Rattle.empty_packets.proofs.Settled.{settled, Tidied, path_settled, block_tidied}
-use Rattle.empty_packets.proofs.BlockParts.{new_inclusion, old_inclusion, other_bits, others_are, present_joined}
+use Rattle.empty_packets.proofs.Settled.{settled}
+use Rattle.empty_packets.proofs.SettledPaths.{Tidied, path_settled, block_tidied}
+use Rattle.empty_packets.proofs.BlockParts.{new_inclusion, old_inclusion, other_bits, others_are}
 use Rattle.empty_packets.proofs.NewBlocks.{AllOnNew, on_new_after, on_new_before, blocks-keep_passes}
 use Rattle.empty_packets.proofs.NewBlocks.{coding_keeps_passes}
 use Rattle.empty_packets.proofs.Between.{layer-set, layer-off_passes, setting_keeps_passes, new_blocks_tidied, Reached}
-use Rattle.empty_packets.proofs.Between.{reached_started, absent-is, present_is, block_bits_are, reached_present}
+use Rattle.empty_packets.proofs.Between.{absent-is, present_is, block_bits_are, reached_present}
 use Rattle.empty_packets.proofs.Between.{reached_header, accepted_here}
 use Rattle.empty_packets.proofs.Alike.{Alike, same_alike, alike_at, set_alike, Shared, NoLow, shared_no_low, value-no_low}
 use Rattle.empty_packets.proofs.Alike.{passes_same, new_same, rest-alike, block_alike, new_blocks_alike}
@@ -138,10 +138,10 @@ blocks-alike L t (k ∷ ks) (c ∷ cs) ls ms ws vs f e w v y =
 -- ---- a packet with passes
 
 -- the rule's state, and that of packets all coded block by block
-record Ahead (bs : List Band) (s t : ℕ) (ws vs : List ℕ) : Type 0 where
-  rule : Reached bs s t ws
-  present : Reached bs s t vs
-  alike : Alike (OffNewLows ws (blocks bs)) ws vs
+pub record Ahead (bs : List Band) (s t : ℕ) (ws vs : List ℕ) : Type 0 where
+  pub rule : Reached bs s t ws
+  pub present : Reached bs s t vs
+  pub alike : Alike (OffNewLows ws (blocks bs)) ws vs
 
 module _ (bs : List Band) (s t : ℕ) (ws vs : List ℕ) (y : Ahead bs s t ws vs) (p : Contribution)
     (e : length p.counts ≡ length (blocks bs)) (l : t < not_yet_included) where
@@ -174,7 +174,7 @@ module _ (bs : List Band) (s t : ℕ) (ws vs : List ℕ) (y : Ahead bs s t ws vs
       let c = header_alike.0 in
       ext_get_or 0 (header_blocks t ks p ws).words (header_blocks t ks p vs).words c.long (λ i h. c.words i tt)
 
-  others_same : others_of (block_bits p ws) ≡ others_of (block_bits p vs)
+  pub others_same : others_of (block_bits p ws) ≡ others_of (block_bits p vs)
   others_same =
       ap others_of (block_bits_are bs s t ws y.rule p) ∙ header_alike.1 ∙ ap others_of (sym (block_bits_are bs s t vs y.present p))
 
@@ -271,7 +271,7 @@ module _ (bs : List Band) (s t : ℕ) (ws vs : List ℕ) (y : Ahead bs s t ws vs
 
 -- ---- packets, with passes or without
 
-same_behind : (bs : List Band) (s t : ℕ) (ws vs : List ℕ) (before : List Contribution) (p : Contribution) → Ahead bs s t ws vs
+pub same_behind : (bs : List Band) (s t : ℕ) (ws vs : List ℕ) (before : List Contribution) (p : Contribution) → Ahead bs s t ws vs
     → Accepted ws (before ++ p ∷ []) → contributes p ≡ true
     → state_behind ws (before ++ p ∷ []) ≡ state_behind_present vs (before ++ p ∷ [])
 unfolding Accepted state_behind state_behind_present
@@ -284,7 +284,7 @@ same_behind bs s t ws vs (b ∷ before) p y a h =
     same_behind bs s (t + 1) (code_header b ws).words (code_present b vs).words before p next a.1 h
 
 -- at the last of them
-header_behind : (bs : List Band) (s t : ℕ) (ws vs : List ℕ) (before : List Contribution) (p : Contribution) → Ahead bs s t ws vs
+pub header_behind : (bs : List Band) (s t : ℕ) (ws vs : List ℕ) (before : List Contribution) (p : Contribution) → Ahead bs s t ws vs
     → Accepted ws (before ++ p ∷ []) → others_of (block_bits p (state_behind ws before)) ≡ others_of (block_bits p (state_behind_present vs before))
 unfolding Accepted state_behind state_behind_present
 header_behind bs s t ws vs [] p y a =
@@ -294,22 +294,3 @@ header_behind bs s t ws vs (b ∷ before) p y a =
     let q = accepted_here bs s t ws y.rule b a.0 in
     let next = next_ahead bs s t ws vs y b q.0 q.1 in
     header_behind bs s (t + 1) (code_header b ws).words (code_present b vs).words before p next a.1
-
-started_ahead : (count : ℕ) (given : List Band) (style : ℕ) (planes lent : List ℕ) → Started count given style planes lent
-    → Ahead (take count given) style 0 (started_state count given style planes lent) (started_state count given style planes lent)
-started_ahead count given style planes lent started =
-    let y = reached_started count given style planes lent started in
-    let ws : List ℕ = started_state count given style planes lent in
-    record { rule = y; present = y; alike = same_alike _ ws ws refl }
-
-pub state_as_if_present : StateAsIfPresent
-state_as_if_present count given style planes lent started before p a h =
-    same_behind (take count given) style 0 _ _ before p (started_ahead count given style planes lent started) a h
-
-pub header_as_if_present : HeaderAsIfPresent
-header_as_if_present count given style planes lent started before p a =
-    record {
-      one_bits = present_joined p _;
-      other_bits_lem = present_joined p _;
-      others_same = header_behind (take count given) style 0 _ _ before p (started_ahead count given style planes lent started) a;
-    }

@@ -32,7 +32,8 @@ use Rattle.round_trip.proofs.Trip.WriterState.{header_blocks}
 use Rattle.round_trip.proofs.Trip.WriterInRange.{writer-after_start}
 use Rattle.round_trip.proofs.Trip.Start.{started_in_step}
 use Rattle.empty_packets.specs.LaterPackets.{Accepted, state_behind, block_bits_from, block_bits, Started, started_state}
-use Rattle.empty_packets.proofs.Settled.{Tidy, settled, Tidied, settled-or-same, block_tidied}
+use Rattle.empty_packets.proofs.Settled.{Tidy, settled}
+use Rattle.empty_packets.proofs.SettledPaths.{Tidied, settled-or-same, block_tidied}
 use Rattle.empty_packets.proofs.NewBlocks.{AllOnNew, SamePasses, on_new_before, values_keep_passes}
 use Rattle.empty_packets.proofs.NewBlocks.{coding_keeps_passes, every-word_set, off_new_stays}
 

@@ -18,8 +18,8 @@ use Rattle.empty_packets.specs.WithoutPasses.{written_as_one_byte}
 use Rattle.empty_packets.specs.LaterPackets.{Accepted, headers, state_behind, state_behind_present, block_bits_from, block_bits}
 use Rattle.empty_packets.specs.LaterPackets.{SameButInclusionTrees, Started, started_state, ChangesAtMost}
 use Rattle.empty_packets.proofs.WithoutPasses.{written_without_passes}
-use Rattle.empty_packets.proofs.Behind.{state_as_if_present, header_as_if_present}
-use Rattle.empty_packets.proofs.Insertion.{insertion_changes_at_most}
+use Rattle.empty_packets.proofs.AsIfPresent.{state_as_if_present, header_as_if_present}
+use Rattle.empty_packets.proofs.InsertionAnywhere.{insertion_changes_at_most}
 
 -- one band of one block and 5 planes, style 0
 abbrev given : List Band

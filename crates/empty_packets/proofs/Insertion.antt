@@ -3,11 +3,11 @@
 use mathlib.Core.Path.{◌≡◌, refl, sym, ap, ap₂, ◌∙◌, subst, subst₂}
 use mathlib.Core.Logic.{inl, inr}
 use mathlib.Core.Bool.{true, false}
-use mathlib.Core.List.{List, [], ◌∷◌, ◌++◌, append_assoc}
+use mathlib.Core.List.{List, [], ◌∷◌, ◌++◌}
 use Prim.Native.Nat.{ℕ, ◌+◌, ◌≤◌, ◌<◌}
 use native.Mathlib.Nat.{le_of_eq, le_refl}
 use native.Mathlib.Omega.{arith}
-use lib.ListN.{length, set, take}
+use lib.ListN.{length, set}
 use Rattle.t800.specs.declared.Band.{Band}
 use Rattle.t800.specs.Base.{Bits, any}
 use Rattle.t800.specs.TagTree.{Coded}
@@ -21,9 +21,9 @@ use Rattle.round_trip.proofs.Trip.Nodes.{Node}
 use Rattle.round_trip.proofs.Trip.NodeWords.{node_at}
 use Rattle.round_trip.proofs.Trip.WriterState.{header_blocks}
 use Rattle.empty_packets.specs.LaterPackets.{Accepted, headers, state_behind, block_bits, others_of}
-use Rattle.empty_packets.specs.LaterPackets.{started_state, ChangesAtMost, InsertionChangesAtMost}
-use Rattle.empty_packets.proofs.Between.{ToldOrOpen, layer-set, Reached, reached_started, absent-is, reached_absent}
-use Rattle.empty_packets.proofs.Between.{present_is, present_bits_are, block_bits_are, reached_header, accepted_here, reached_list}
+use Rattle.empty_packets.specs.LaterPackets.{ChangesAtMost}
+use Rattle.empty_packets.proofs.Between.{ToldOrOpen, layer-set, Reached, absent-is, reached_absent}
+use Rattle.empty_packets.proofs.Between.{present_is, present_bits_are, block_bits_are, reached_header, accepted_here}
 use Rattle.empty_packets.proofs.BlockParts.{present_joined}
 use Rattle.empty_packets.proofs.Alike.{same_alike, both-branches}
 use Rattle.empty_packets.proofs.ShiftedNodes.{neither, Shifted, same, fresh}
@@ -38,7 +38,7 @@ unfolding state_behind
 behind-append ws [] qs = refl
 behind-append ws (p ∷ ps) qs = behind-append (code_header p ws).words ps qs
 
-accepted_append : (ws : List ℕ) (ps qs : List Contribution) → Accepted ws (ps ++ qs) → Accepted ws ps × Accepted (state_behind ws ps) qs
+pub accepted_append : (ws : List ℕ) (ps qs : List Contribution) → Accepted ws (ps ++ qs) → Accepted ws ps × Accepted (state_behind ws ps) qs
 unfolding Accepted state_behind
 accepted_append ws [] qs a = (tt, a)
 accepted_append ws (p ∷ ps) qs a = let r = accepted_append (code_header p ws).words ps qs a.1 in ((a.0, r.0), r.1)
@@ -73,8 +73,9 @@ told-or_open t n h (inl w) = same w.before_now (le_of_eq (sym w.at_value)) (omeg
 told-or_open t n h (inr w) = fresh refl (neither (omega (arith, w.no_value)) w.no_value w.no_value) refl w.low-in refl
 
 module _ (bs : List Band) (s t : ℕ) (ws : List ℕ) (y : Reached bs s t ws) where
-  put_in : (e : Contribution) → contributes e ≡ false → t < not_yet_included → OnePacketApart bs s t t ws (code_header e ws).words
-  put_in e none left =
+  put_in : (e : Contribution) → (code_header e ws).words ≡ (code_absent ws).words → t < not_yet_included
+      → OnePacketApart bs s t t ws (code_header e ws).words
+  put_in e absent left =
       let L : Layout = layout_of bs in
       let here : Shift L t ws ws = record {
         long = y.between.long;
@@ -82,7 +83,6 @@ module _ (bs : List Band) (s t : ℕ) (ws : List ℕ) (y : Reached bs s t ws) wh
         agree = same_alike _ ws ws refl;
         nodes = λ a n. told-or_open t (node_at ws a) y.layers (y.between.nodes a n);
       } in
-      let absent : (code_header e ws).words ≡ (code_absent ws).words = ap (λ (x : Coded). x.words) (absent-header e ws none) in
       record {
         without = y;
         added = subst (Reached bs s (t + 1)) (sym absent) (reached_absent bs s t ws y left);
@@ -176,11 +176,11 @@ module _ (bs : List Band) (s t n : ℕ) (ws vs : List ℕ) (x : OnePacketApart b
       both-branches (λ (c d : Coded). d.bits ≡ c.bits) (contributes p) (contributes p) _ _ _ _ refl
       (present_bits bs s t n ws vs x soon p h) refl
 
-  -- with passes no new block's path has a fresh node behind it
-  header_not_fresh : contributes p ≡ true → BlocksNotFresh t (code_header p ws).words (code_header p vs).words (blocks bs)
-  header_not_fresh e =
-      subst₂ (λ (c d : Coded). BlocksNotFresh t c.words d.words (blocks bs)) (sym (present_header p ws e))
-      (sym (present_header p vs e))
+  -- where it is present no new block's path has a fresh node behind it
+  header_not_fresh : code_header p ws ≡ code_present p ws → code_header p vs ≡ code_present p vs
+      → BlocksNotFresh t (code_header p ws).words (code_header p vs).words (blocks bs)
+  header_not_fresh e f =
+      subst₂ (λ (c d : Coded). BlocksNotFresh t c.words d.words (blocks bs)) (sym e) (sym f)
       (present_not_fresh bs s t n ws vs x soon p counts)
 
 list_apart : (bs : List Band) (s t n : ℕ) (ws vs : List ℕ) (ps : List Contribution) → OnePacketApart bs s t n ws vs → Accepted vs ps
@@ -209,12 +209,12 @@ headers-same bs s t n ws vs (p ∷ ps) x h a =
 
 -- p and what follows, on both sides
 behind-apart : (bs : List Band) (s t n : ℕ) (ws vs : List ℕ) (p : Contribution) (ps : List Contribution) → OnePacketApart bs s t n ws vs
-    → contributes p ≡ true → Accepted vs (p ∷ ps)
+    → code_header p ws ≡ code_present p ws → code_header p vs ≡ code_present p vs → Accepted vs (p ∷ ps)
     → (others_of (block_bits p vs) ≡ others_of (block_bits p ws)) × (headers (code_header p vs).words ps ≡ headers (code_header p ws).words ps)
 unfolding Accepted
-behind-apart bs s t n ws vs p ps x e a = (
+behind-apart bs s t n ws vs p ps x e f a = (
   others_same bs s t n ws vs x (soon bs s t n ws vs x p a.0) p,
-  headers-same bs s t (n + 1) _ _ ps (header_apart bs s t n ws vs x p a.0) (header_not_fresh bs s t n ws vs x p a.0 e)
+  headers-same bs s t (n + 1) _ _ ps (header_apart bs s t n ws vs x p a.0) (header_not_fresh bs s t n ws vs x p a.0 e f)
       a.1,
 )
 
@@ -223,7 +223,7 @@ behind-one : (ws : List ℕ) (ps : List Contribution) (p : Contribution)
 unfolding state_behind
 behind-one ws ps p = behind-append ws ps (p ∷ [])
 
-changes_at_most : (bs : List Band) (s t : ℕ) (ws : List ℕ) (e : Contribution) (between : List Contribution) (p : Contribution)
+pub changes_at_most : (bs : List Band) (s t : ℕ) (ws : List ℕ) (e : Contribution) (between : List Contribution) (p : Contribution)
     (behind : List Contribution) → Reached bs s t ws → Accepted ws (e ∷ between ++ p ∷ behind)
     → contributes e ≡ false → any contributes between ≡ false → contributes p ≡ true → ChangesAtMost ws e between p behind
 unfolding Accepted
@@ -231,8 +231,11 @@ changes_at_most bs s t ws e between p behind y a none nones some =
     let vs : List ℕ = (code_header e ws).words in
     let l = (accepted_here bs s t ws y e a.0).1 in
     let r = accepted_append vs between (p ∷ behind) a.1 in
-    let x = list_apart bs s t t ws vs between (put_in bs s t ws y e none l) r.0 in
-    let q = behind-apart bs s t (t + length between) (state_behind ws between) (state_behind vs between) p behind x some r.1 in
+    let absent = ap (λ (x : Coded). x.words) (absent-header e ws none) in
+    let x = list_apart bs s t t ws vs between (put_in bs s t ws y e absent l) r.0 in
+    let f = present_header p (state_behind ws between) some in
+    let g = present_header p (state_behind vs between) some in
+    let q = behind-apart bs s t (t + length between) (state_behind ws between) (state_behind vs between) p behind x f g r.1 in
     record {
       single-bit = absent-bits e ws none;
       between_same = absent-headers ws vs between nones;
@@ -244,12 +247,3 @@ changes_at_most bs s t ws e between p behind y a none nones some =
       behind-same = ap (λ (z : List ℕ). headers z behind) (behind-one vs between p) ∙ q.1
           ∙ ap (λ (z : List ℕ). headers z behind) (sym (behind-one ws between p));
     }
-
-pub insertion_changes_at_most : InsertionChangesAtMost
-insertion_changes_at_most count given style planes lent started before e between p behind a none nones some =
-    let ws : List ℕ = started_state count given style planes lent in
-    let r = accepted_append ws before (e ∷ between ++ p ∷ behind)
-    (subst (Accepted ws) (append_assoc before (e ∷ between) (p ∷ behind)) a) in
-    changes_at_most (take count given) style (0 + length before) (state_behind ws before) e between p behind
-    (reached_list (take count given) style 0 ws before (reached_started count given style planes lent started) r.0)
-    r.1 none nones some

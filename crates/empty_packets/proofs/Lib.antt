@@ -2,11 +2,15 @@ pub mod WithoutPasses
 pub mod BlockParts
 pub mod NewBlocks
 pub mod Settled
+pub mod SettledPaths
 pub mod Between
 pub mod Alike
 pub mod Behind
+pub mod AsIfPresent
 pub mod ShiftedNodes
+pub mod ShiftedPaths
 pub mod ShiftedStates
 pub mod ShiftedBlocks
 pub mod Insertion
+pub mod InsertionAnywhere
 pub mod Examples

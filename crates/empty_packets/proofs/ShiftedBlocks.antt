@@ -21,7 +21,7 @@ use Rattle.round_trip.proofs.Trip.Changes.{block_coded}
 use Rattle.empty_packets.specs.LaterPackets.{block_bits_from, others_of}
 use Rattle.empty_packets.proofs.BlockParts.{new_inclusion, tree_bits, other_bits, new_tree_bits, old_tree_bits, block_bits_split}
 use Rattle.empty_packets.proofs.BlockParts.{others_are}
-use Rattle.empty_packets.proofs.Settled.{block_off_inclusion}
+use Rattle.empty_packets.proofs.SettledPaths.{block_off_inclusion}
 use Rattle.empty_packets.proofs.NewBlocks.{AllOnNew, set_new}
 use Rattle.empty_packets.proofs.Alike.{both-branches, Shared, passes_same, new_same, rest-alike, block_alike}
 use Rattle.empty_packets.proofs.ShiftedNodes.{Shifted}

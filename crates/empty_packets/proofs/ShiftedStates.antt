@@ -17,11 +17,11 @@ use Rattle.round_trip.proofs.Trip.Nodes.{Node}
 use Rattle.round_trip.proofs.Trip.NodeWords.{node_at, nodes_at}
 use Rattle.round_trip.proofs.Trip.Trees.{ordered_same, increasing_path, path_coded, coding_keeps}
 use Rattle.round_trip.proofs.Trip.Changes.{block_stays, leaf_set, nodes-only}
-use Rattle.empty_packets.proofs.Settled.{apart_from_all, InclusionStays, on-path-or-off}
+use Rattle.empty_packets.proofs.SettledPaths.{apart_from_all, InclusionStays, on-path-or-off}
 use Rattle.empty_packets.proofs.Between.{LayerOnly, layer-off_nodes, layer-off_passes, layer-keeps_order}
 use Rattle.empty_packets.proofs.Alike.{Alike, still_alike, Shared}
 use Rattle.empty_packets.proofs.ShiftedNodes.{one_more, neither, Shifted, same, fresh, later, equal, may_be_fresh}
-use Rattle.empty_packets.proofs.ShiftedNodes.{AllShifted, nil, cons, path_after, path_bits_lem}
+use Rattle.empty_packets.proofs.ShiftedPaths.{AllShifted, nil, cons, path_after, path_bits_lem}
 
 -- ---- two states
 

@@ -17,7 +17,7 @@ use Rattle.t800.specs.WriteHeader.{contribution}
 use Rattle.t800.specs.Packet.{measure_with, WriteResult, write_with, read_with}
 use Rattle.t800.specs.FewerLayers.{crate_layers, is_inclusion_value, replaced_from, replaced, WritesAlike}
 use Rattle.t800.proofs.Table.{row_holds}
-use Rattle.fewer_layers.proofs.Alike.{as_with_crate_layers}
+use Rattle.fewer_layers.proofs.AlikeBelow.{as_with_crate_layers}
 
 -- one band of one block and 5 planes, style 0
 abbrev given : List Band

@@ -4,4 +4,5 @@ pub mod Headers
 pub mod Ranges
 pub mod Starts
 pub mod Alike
+pub mod AlikeBelow
 pub mod Examples

@@ -9,7 +9,8 @@ use Rattle.t800.specs.Bits.{bio_at}
 use Rattle.t800.specs.State.{blocks, bands, end_of, layer}
 use Rattle.t800.specs.ReadHeader.{read_header}
 use Rattle.bits_taken.specs.Taken.{Takes, Reached}
-use Rattle.bits_taken.proofs.Laws.Taken.{takes_then, takes_more, header_taken}
+use Rattle.bits_taken.proofs.Laws.Taken.{takes_then, takes_more}
+use Rattle.bits_taken.proofs.Laws.HeaderTaken.{header_taken}
 
 module _ (src : List ℕ) (start : ℕ) (b : Bio) (inside : start ≤ length src) (first : Takes src 1 (bio_at start) b) where
   pub first_reached : Reached src start b
