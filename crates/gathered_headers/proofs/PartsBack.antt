@@ -16,7 +16,7 @@ use Rattle.bits_taken.specs.Taken.{Reached}
 use Rattle.bits_taken.proofs.Laws.Counting.{none_past_inside}
 use Rattle.past_end.specs.PastEnd.{last_bit}
 use Rattle.past_end.proofs.SameBits.{bits_to}
-use Rattle.past_end.proofs.SameSopEph.{sop_inside}
+use Rattle.past_end.proofs.SameMarkers.{sop_inside}
 use Rattle.past_end.proofs.AcceptedReads.{told_at, result, accepted, last_reached, told_at-same, same_told}
 use Rattle.gathered_headers.specs.Gathered.{gathered_read}
 use Rattle.gathered_headers.proofs.Ends.{read-end}

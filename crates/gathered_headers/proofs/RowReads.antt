@@ -16,7 +16,7 @@ use Rattle.t800_laws.proofs.Laws.Tests.{on-lt}
 use Rattle.bits_taken.specs.Taken.{Reached}
 use Rattle.bits_taken.proofs.Laws.Inside.{none_past}
 use Rattle.past_end.specs.PastEnd.{last_bit}
-use Rattle.past_end.proofs.SameSopEph.{eph_inside}
+use Rattle.past_end.proofs.SameMarkers.{eph_inside}
 use Rattle.past_end.proofs.AcceptedReads.{accepted, last_reached, told_at-same}
 use Rattle.gathered_headers.specs.Gathered.{SameReading, row_read}
 use Rattle.gathered_headers.proofs.Ends.{Ending, ending, read-end, taken_between}

@@ -17,7 +17,7 @@ use Rattle.t800.specs.Packet.{ReadResult}
 use Rattle.t800.specs.Gathered.{GatheredResult, read_gathered}
 use Rattle.past_end.specs.PastEnd.{last_bit}
 use Rattle.past_end.proofs.SameBits.{Way, bits_to}
-use Rattle.past_end.proofs.SameSopEph.{sop_inside, eph_inside}
+use Rattle.past_end.proofs.SameMarkers.{sop_inside, eph_inside}
 use Rattle.past_end.proofs.AcceptedReads.{told_at, result, accepted, last_reached, told_at-same, same_told}
 use Rattle.gathered_headers.specs.Gathered.{SameReading}
 use Rattle.gathered_headers.proofs.Ends.{ending, read-end, taken_between, marker_there}
