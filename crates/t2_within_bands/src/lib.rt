@@ -1,4 +1,4 @@
-// The bands of a packet header read one after another (opj_t2_read_packet_header of t2.rs), each row by row.
+// The bands of a packet header read one after another, with room for so many records, and blocks of a band from one on (as t2_read_bands).
 #![tactic(auto)]
 
 ghost use Rattle.std.specs.Prelude.{◌≡◌, ◌+◌, ◌-◌, ◌*◌, ◌<◌, ◌≤◌, min, length, take};

@@ -1,4 +1,4 @@
-// The reading of blocks in a packet header (opj_t2_read_packet_header of t2.rs): a block, new or not, and a row of them.
+// The reading of blocks with room for so many records: a block, new or not, and a row of them (as t2_read_block).
 #![tactic(auto)]
 
 ghost use Rattle.std.specs.Prelude.{◌≡◌, ◌+◌, ◌^◌, ◌<◌, ◌≤◌, length};

@@ -1,4 +1,4 @@
-// The parts of a block that is read (opj_t2_read_packet_header of t2.rs): included for the first time, and again.
+// The parts of a block that is read with room for so many records: included for the first time, and again (as t2_read_block_parts).
 #![tactic(auto)]
 
 ghost use Rattle.std.specs.Prelude.{◌≡◌, ◌+◌, ◌^◌, ◌<◌, ◌≤◌, length};

@@ -1,4 +1,4 @@
-// A packet header read after its first bit (opj_t2_read_packet_header of t2.rs): its bands, and its end.
+// A packet header read after its first bit, with room for so many records: its bands, and its end (as t2_read_header).
 #![tactic(auto)]
 
 ghost use Rattle.std.specs.Prelude.{◌≡◌, true, ◌*◌, ◌<◌, length};

@@ -1,4 +1,4 @@
-// A block's segments, as read.
+// A block's segments, as read, with room for so many records as the run says: `t2_read_segments` where the records lent need not hold them all.
 #![tactic(auto)]
 
 ghost use Rattle.std.specs.Prelude.{◌≡◌, ◌+◌, ◌^◌, ◌<◌, ◌≤◌, length};
