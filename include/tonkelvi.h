@@ -47,8 +47,8 @@ extern "C" {
  *     any other refusal           what it held before
  * The moves are tonkelvi_gather_headers and tonkelvi_spread_headers.
  *
- * Linking. The archive has no names but those declared here, and needs memcpy and memset alone. It has no unwind tables (.eh_frame): a call
- * neither throws nor calls back, but a debugger or profiler cannot walk through its frames by them.
+ * Linking. The archive has no names but those declared here, and needs memset alone. It has no unwind tables (.eh_frame): a call neither
+ * throws nor calls back, but a debugger or profiler cannot walk through its frames by them.
  */
 
 /* Why a call was turned away. A refused call leaves every state as it was. */

@@ -132,7 +132,8 @@ pub fn seek(segments: &[u8], c: Cursor, from: usize) -> Cursor
 
 // ---- header bytes copied
 
-// n bytes from `from` on to `at`.
+// n bytes from `from` on to `at`. It stays a function, so that the compiler can't see that the lists lie apart, and makes no memcpy of it.
+#[inline(never)]
 fn copy_piece(segments: &[u8], from: usize, to: &mut [u8], at: usize, n: usize)
     requires { (from + n ≤ length segments.now) × (at + n ≤ length to.old) }
     ensures { to.new ≡ paste to.old at (drop from segments.now) n }

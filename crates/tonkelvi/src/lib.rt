@@ -196,15 +196,7 @@ pub extern "C" fn tonkelvi_read_gathered(
     records: &mut [SegmentRecord],
     answer: &mut [u64],
 ) -> u32
-    ensures { record {
-      refusal = result;
-      state = state.new;
-      scratch = scratch.new;
-      reports = reports.new;
-      work = work.new;
-      records = records.new;
-      answer = answer.new;
-    }
+    ensures { record { refusal = result; state = state.new; scratch = scratch.new; reports = reports.new; work = work.new; records = records.new; answer = answer.new }
         ≡ read_gathered_call state.old scratch.old (record { sop = sop; eph = eph }) headers.now
         src.now reports.old work.old records.old answer.old }
 {
