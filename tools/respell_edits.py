@@ -427,7 +427,8 @@ def checked(edit, known):
             for c, n in balance(text).items():
                 opened[c] += sign * n
         bound = set(re.findall(r"λ \(?([\w']+)", new)) | set(re.findall(r"\blet (?:mut )?([\w']+)", new))
-        lacking = [w for w in re.findall(r"[\w']+", new) if not re.match(r'\d', w) and w not in known and w not in bound]
+        # (a goal's name holds the numbers of its condition)
+        lacking = [w for w in re.findall(r"[\w']+", new) if not re.match(r'\d|(?:g|l)[te]\d|(?:eq|ne)\d', w) and w not in known and w not in bound]
         if lacking:
             return f'a word that stands nowhere: {lacking[0]}'
     if any(opened[a] != opened[b] for a, b in ('()', '{}', '[]', '⌜⌝')):
