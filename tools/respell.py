@@ -10,6 +10,7 @@ that Rattle makes, and names of Rust's items stay.
 import glob
 import os
 import re
+import subprocess
 import sys
 
 DELIM = r'\s(){}\[\];,."'
@@ -17,7 +18,8 @@ TOKEN = re.compile(r'[^' + DELIM + r']+')
 DECLARED = re.compile(r'^\s*(?:(?:abbrev|unfoldable|pub|opaque|private)\s+)*([^' + DELIM + r']+)(?:\s+[^' + DELIM + r':]+)*\s*:(?:\s|$)')
 LET = re.compile(r'\blet\s+([^' + DELIM + r']+)(?=\s*[:=]|\s)')
 BINDER = re.compile(r'[({]([^(){}:]+?)\s:\s')
-LIBRARY = os.environ.get('RATTLE', '/opt/rattle/rattle')
+# The kit's libraries stand beside the page that `rt doc` names.
+LIBRARY = os.path.join(os.path.dirname(subprocess.run(['rt', 'doc'], capture_output=True, text=True).stdout.strip()), 'rattle')
 
 
 def code_of(line):

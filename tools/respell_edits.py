@@ -25,7 +25,8 @@ import sys
 from collections import Counter, defaultdict
 
 BEFORE = 'a7247194bad0e718d4270263b14b99b9fae1b3b0'
-LIBRARY = os.environ.get('RATTLE', '/opt/rattle/rattle')
+# The kit's libraries stand beside the page that `rt doc` names.
+LIBRARY = os.path.join(os.path.dirname(subprocess.run(['rt', 'doc'], capture_output=True, text=True).stdout.strip()), 'rattle')
 TOKEN = re.compile(r'[^\s(){}\[\];,.]+|[(){}\[\];,.]')
 WORD = re.compile(r'[^\s(){}\[\];,.]+')
 
