@@ -55,23 +55,10 @@ words-there c =
 wait-after : (c : Joined-passes-i-eq0) → c.if-passes-i-eq0.wait ≤ c.loop-i.at + words_of (goal.at.Joined-passes-i-eq0 c).In-loop-i
 wait-after c =
     let l = c.loop-i in
-    elim c.if-passes-i-eq0.branch [
+    let came = c.if-passes-i-eq0.branch in
+    elim came [
       | then-passes-i-eq0 w ↦ omega (arith, w.wait-is)
       | else-passes-i-eq0 w ↦ omega (arith, w.wait-is, l.invariant.1)
-    ]
-
-states-after : (c : Joined-passes-i-eq0) → c.if-passes-i-eq0.states
-    ≡ settled_to c.if-passes-i-eq0.wait c.args.scratch.now c.args.states.now
-states-after c =
-    let s = c in
-    let l = c.loop-i in
-    let z = can-be-settled (goal.at.Joined-passes-i-eq0 c).In-loop-i in
-    elim c.if-passes-i-eq0.branch [
-      | then-passes-i-eq0 w ↦ w.states-is ∙ w.settle_layer.ensures
-          ∙ settle_layer_settles s.args.scratch.now s.args.states.now s.requires.2 l.states l.wait l.at
-          (words_of (goal.at.Joined-passes-i-eq0 c).In-loop-i) l.invariant.4 l.invariant.1 z.0 z.1 (z.2 w.if-passes-i-eq0.true)
-          ∙ ap (λ (n : ℕ). settled_to n s.args.scratch.now s.args.states.now) (sym w.wait-is)
-      | else-passes-i-eq0 w ↦ w.states-is ∙ l.invariant.4 ∙ ap (λ (n : ℕ). settled_to n s.args.scratch.now s.args.states.now) (sym w.wait-is)
     ]
 
 last-copied : (c : After-copy) →
@@ -114,7 +101,16 @@ loop-i-preserved c =
     let s = c in
     let a = s.args in
     let l = c.loop-i in
-    let t = c in (
+    let t = c in
+    let z = can-be-settled (goal.at.loop-i-preserved c).In-loop-i in
+    let later : c.if-passes-i-eq0.states ≡ settled_to c.if-passes-i-eq0.wait a.scratch.now a.states.now =
+    elim c.if-passes-i-eq0.branch [
+      | then-passes-i-eq0 w ↦ w.states-is ∙ w.settle_layer.ensures
+          ∙ settle_layer_settles a.scratch.now a.states.now s.requires.2 l.states l.wait l.at
+          (words_of (goal.at.loop-i-preserved c).In-loop-i) l.invariant.4 l.invariant.1 z.0 z.1 (z.2 w.if-passes-i-eq0.true)
+          ∙ ap (λ (n : ℕ). settled_to n a.scratch.now a.states.now) (sym w.wait-is)
+      | else-passes-i-eq0 w ↦ w.states-is ∙ l.invariant.4 ∙ ap (λ (n : ℕ). settled_to n a.scratch.now a.states.now) (sym w.wait-is)
+    ] in (
       omega (arith, t.loop-i-test.true),
       wait-after c,
       omega (arith, words-there (goal.at.loop-i-preserved c).In-loop-i, s.requires.2),
@@ -125,9 +121,9 @@ loop-i-preserved c =
         get_or-take a.n a.words.now l.i 0 (omega (arith, t.loop-i-test.true)),
         l.invariant.3,
       ),
-      states-after c,
+      later,
       settles_behind (drop (l.i + 1) (take a.n a.words.now)) (drop (l.i + 1) (take a.n a.passes.now)) a.scratch.now
-          a.states.now l.at (words_of (goal.at.loop-i-preserved c).In-loop-i) (can-be-settled (goal.at.loop-i-preserved c).In-loop-i).3,
+          a.states.now l.at (words_of (goal.at.loop-i-preserved c).In-loop-i) z.3,
     )
 
 -- ---- the words that wait at last
