@@ -22,3 +22,4 @@ pub mod Numbers
 pub mod RoundTrip
 pub mod FewerLayers
 pub mod Exports
+pub mod RefusalNumbers
