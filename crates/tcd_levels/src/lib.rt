@@ -7,35 +7,33 @@ ghost use Rattle.tcd_laws.specs.Geometry.{padded, band_levels};
 
 use t800::{Band, Level};
 
-fn half_up(n: u32) -> u32
-    ensures { result ≡ (n + 1) / 2 }
-{
-    n / 2 + n % 2
-}
-
 pub fn area(w: u32, h: u32) -> usize
     ensures { result ≡ w * h }
 {
-    (w as usize) * (h as usize)
+    w as usize * h as usize
+}
+
+fn level_above(below: Level) -> Level
+    ensures { result ≡ record { w = (below.w + 1) / 2; h = (below.h + 1) / 2 } }
+{
+    Level {
+        w: below.w.div_ceil(2),
+        h: below.h.div_ceil(2),
+    }
 }
 
 // The levels of a tree with w leaves across and h down, from the leaves to the root; those past the root are empty.
 pub fn levels(w: u32, h: u32) -> [Level; 7]
     ensures { result ≡ padded (levels w h) }
 {
-    let none = Level { w: 0, h: 0 };
-    let mut tree = [none, none, none, none, none, none, none];
-    let mut x = w;
-    let mut y = h;
-    let mut i: usize = 0;
-    while i < 7 {
-        tree[i] = Level { w: x, h: y };
-        if area(x, y) <= 1 {
-            return tree;
+    let mut tree = [Level { w: 0, h: 0 }; 7];
+    let mut next = Level { w, h };
+    for level in &mut tree {
+        *level = next;
+        if area(next.w, next.h) <= 1 {
+            break;
         }
-        x = half_up(x);
-        y = half_up(y);
-        i += 1;
+        next = level_above(next);
     }
     tree
 }
@@ -43,31 +41,26 @@ pub fn levels(w: u32, h: u32) -> [Level; 7]
 pub fn num_levels(w: u32, h: u32) -> usize
     ensures { result ≡ length (levels w h) }
 {
-    let mut x = w;
-    let mut y = h;
-    let mut i: usize = 0;
-    while i < 7 {
-        i += 1;
-        if area(x, y) <= 1 {
-            return i;
+    let mut level = Level { w, h };
+    for i in 0..7 {
+        if area(level.w, level.h) <= 1 {
+            return i + 1;
         }
-        x = half_up(x);
-        y = half_up(y);
+        level = level_above(level);
     }
-    i
+    7
 }
 
 // The levels of each of three bands, used or not.
 pub fn band_levels(bands: [Band; 3]) -> [[Level; 7]; 3]
     ensures { result ≡ band_levels bands }
 {
-    let a = bands[0];
-    let b = bands[1];
-    let c = bands[2];
-    let first = levels(a.across, a.down);
-    let second = levels(b.across, b.down);
-    let third = levels(c.across, c.down);
-    [first, second, third]
+    let [a, b, c] = bands;
+    [
+        levels(a.across, a.down),
+        levels(b.across, b.down),
+        levels(c.across, c.down),
+    ]
 }
 
 // The nodes of one tree.
@@ -75,19 +68,15 @@ pub fn num_nodes(w: u32, h: u32) -> usize
     requires { (w ≤ 64) × (h ≤ 64) }
     ensures { result ≡ nodes w h }
 {
-    let mut x = w;
-    let mut y = h;
-    let mut sum: usize = 0;
-    let mut left: u32 = 7;
-    while 0 < left {
-        let size = area(x, y);
+    let mut level = Level { w, h };
+    let mut sum = 0;
+    for _ in 0..7usize {
+        let size = area(level.w, level.h);
         sum += size;
         if size <= 1 {
-            return sum;
+            break;
         }
-        x = half_up(x);
-        y = half_up(y);
-        left -= 1;
+        level = level_above(level);
     }
     sum
 }

@@ -1,13 +1,8 @@
-use Prim.Native.Nat.{◌-◌, ◌≤◌}
-use lib.ListN.{length}
+use Rattle.std.proofs.Common.{◌≡◌, ◌-◌}
 use lib.Seq.{sets}
-use mathlib.Core.Path.{◌≡◌}
 use Rattle.t800.specs.TagTree.{levels, levels_from}
 use Rattle.tcd_laws.specs.Geometry.{padded}
 use Rattle.tcd_levels.proofs.levels.Given as goal
 
-abbrev pub invariant-loop-i : goal.invariant-loop-i
-invariant-loop-i l = (length l.tree ≡ 7) × (l.i ≤ 7) × (sets l.tree l.i (levels_from (7 - l.i) l.x l.y) ≡ padded (levels l.w l.h))
-
-abbrev pub decreases-loop-i : goal.decreases-loop-i
-decreases-loop-i l = 7 - l.i
+abbrev pub invariant-loop-level : goal.invariant-loop-level
+invariant-loop-level l = sets l.level-items l.level-index (levels_from (7 - l.level-index) l.next.w l.next.h) ≡ padded (levels l.w l.h)
