@@ -119,13 +119,11 @@ pub fn code_row(
         (running words.old out.old r) }
 {
     let mut run = r;
-    let mut i: usize = 0;
-    while i < n {
+    for i in 0..n {
         let place = tcd_places::place_at(p, i);
         run = code_next(
             codes, words, out, run, place, row, layer, counts, lengths, marks,
         );
-        i += 1;
     }
     run
 }

@@ -35,10 +35,8 @@ pub fn set_row(
     ensures { words.new
         ≡ set_all layer counts.now (row_blocks p row.now 0 n 0) block words.old }
 {
-    let mut i: usize = 0;
-    while i < n {
+    for i in 0..n {
         let place = tcd_places::place_at(p, i);
         set_next(words, place, row, layer, counts[block + i]);
-        i += 1;
     }
 }

@@ -12,25 +12,6 @@ use Rattle.t2_write_block.specs.Runs.{Running, running, code_next, code_all, Nex
 use Rattle.t2_write_block.proofs.Laws.Rows.{next_clear, fits_now, fits_then, codes_then}
 use Rattle.t2_write_block.proofs.code_row.Goals as goal
 
-pub loop-i-init : goal.loop-i-init
-loop-i-init c =
-    let s = c in
-    let a = s.args in
-    let e : a.n - 0 ≡ a.n = omega arith in (
-      s.requires.1,
-      refl,
-      refl,
-      omega arith,
-      subst (λ (k : ℕ). AllFit a.counts.now a.lengths.now a.marks.now a.words.now
-          (row_blocks a.p a.row.now 0 k 0) a.r.block a.r.pass) (sym e) s.requires.4,
-      ap (λ (k : ℕ). code_all a.layer a.counts.now a.lengths.now a.marks.now (row_blocks a.p a.row.now 0 k 0)
-          (running a.words.now a.out.now a.r)) e,
-    )
-
-pub place_at-place-requires : goal.place_at-place-requires
-place_at-place-requires c = let s = c in
-    (omega (arith, s.requires.2.small), omega (arith, s.requires.2.inside))
-
 pub code_next-run-requires : goal.code_next-run-requires
 code_next-run-requires c =
     let s = c in
@@ -40,7 +21,7 @@ code_next-run-requires c =
     let u = running l.words l.out l.run in
     let r = subst (λ (k : ℕ). RowIn k a.p a.row.now a.n) (sym l.invariant.1) s.requires.2 in
     let f = fits_now (length l.words) a.n l.i a.p a.row.now c.loop-i-test.true r
-    a.layer a.counts.now a.lengths.now a.marks.now u l.invariant.4 in (
+    a.layer a.counts.now a.lengths.now a.marks.now u l.invariant.3 in (
       s.requires.0,
       l.invariant.0,
       subst (λ (k : Place). BlockIn (length l.words) k a.row.now) (sym e)
@@ -49,12 +30,6 @@ code_next-run-requires c =
       subst (λ (k : Place). NextFits a.counts.now a.lengths.now a.marks.now l.words k.at l.run.block
           l.run.pass) (sym e) f,
     )
-
-pub overflow_add-i : goal.overflow_add-i
-overflow_add-i c = let s = c in omega (arith, s.requires.2.small, c.loop-i-test.true)
-
-pub loop-i-smaller : goal.loop-i-smaller
-loop-i-smaller c = let t = c.loop-i-test.true in omega arith
 
 pub loop-i-preserved : goal.loop-i-preserved
 loop-i-preserved c =
@@ -72,18 +47,11 @@ loop-i-preserved c =
           (next_clear a.layer a.counts.now a.lengths.now a.marks.now _ u l.invariant.0),
       g.auto.words ∙ l.invariant.1,
       g.auto.out ∙ l.invariant.2,
-      omega arith,
       fits_then (length l.words) a.n l.i a.p a.row.now t r a.layer a.counts.now a.lengths.now
-          a.marks.now u _ e l.invariant.4,
+          a.marks.now u _ e l.invariant.3,
       codes_then (length l.words) a.n l.i a.p a.row.now t r a.layer a.counts.now a.lengths.now
-          a.marks.now u _ e ∙ l.invariant.5,
+          a.marks.now u _ e ∙ l.invariant.4,
     )
-
-pub shape_of-words : goal.shape_of-words
-shape_of-words c = c.loop-i.invariant.1
-
-pub shape_of-out : goal.shape_of-out
-shape_of-out c = c.loop-i.invariant.2
 
 pub returns : goal.returns
 unfolding code_all
@@ -92,4 +60,4 @@ returns c =
     let l = c.loop-i in
     sym
     (ap (λ (ks : List Block). code_all a.layer a.counts.now a.lengths.now a.marks.now ks
-    (running l.words l.out l.run)) (row_end a.p a.row.now 0 a.n l.i c.loop-i-test.false)) ∙ l.invariant.5
+    (running l.words l.out l.run)) (row_end a.p a.row.now 0 a.n l.i c.loop-i-test.false)) ∙ l.invariant.4

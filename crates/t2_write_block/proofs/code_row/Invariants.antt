@@ -1,5 +1,5 @@
 use mathlib.Core.Path.{◌≡◌}
-use Prim.Native.Nat.{◌-◌, ◌≤◌}
+use Prim.Native.Nat.{◌-◌}
 use lib.ListN.{length}
 use Rattle.bio_bytes.specs.Writing.{FreeBitsClear}
 use Rattle.tcd_places.specs.Places.{row_blocks}
@@ -11,10 +11,6 @@ invariant-loop-i l =
     (FreeBitsClear l.run.bio)
     × (length l.words ≡ length l.initial.words)
     × (length l.out ≡ length l.initial.out)
-    × (l.i ≤ l.n)
     × (AllFit l.counts l.lengths l.marks l.words (row_blocks l.p l.row 0 (l.n - l.i) l.i) l.run.block l.run.pass)
     × (code_all l.layer l.counts l.lengths l.marks (row_blocks l.p l.row 0 (l.n - l.i) l.i) (running l.words l.out l.run)
     ≡ code_all l.layer l.counts l.lengths l.marks (row_blocks l.p l.row 0 l.n 0) (running l.initial.words l.initial.out l.initial.run))
-
-abbrev pub decreases-loop-i : goal.decreases-loop-i
-decreases-loop-i l = l.n - l.i

@@ -7,9 +7,6 @@ use Rattle.tcd_places.proofs.Laws.Before.{path_wider}
 use Rattle.t2_write_new_rows.specs.Setting.{set_next}
 use Rattle.t2_write_new_rows.proofs.set_next.Goals as goal
 
-pub bounds-words-at : goal.bounds-words-at
-bounds-words-at c = omega (arith, c.requires.inside)
-
 pub returns-then-words-at-ne0 : goal.returns-then-words-at-ne0
 unfolding set_next is_new
 returns-then-words-at-ne0 c = simp (ne_eqb _ _ c.if-words-at-ne0.true)
@@ -22,9 +19,6 @@ returns-then-count-eq0 c = let z = c.if-count-eq0.true in
 pub opj_tgt_setvalue-requires : goal.opj_tgt_setvalue-requires
 opj_tgt_setvalue-requires c = let s = c in
     path_wider s.args.p.at (length s.args.words.now) _ _ _ _ (omega (arith, s.requires.inside)) s.requires.incl
-
-pub shape_of-words : goal.shape_of-words
-shape_of-words c = c.opj_tgt_setvalue.auto.words
 
 pub returns : goal.returns
 unfolding set_next is_new
