@@ -25,14 +25,12 @@ fn set_rows(
         × (tree ≡ padded (levels band.across band.down)) × (block + blocks_in band ≤ length counts.now) }
     ensures { words.new ≡ set_all layer counts.now (band_blocks g.start band) block words.old }
 {
-    let mut y: usize = 0;
-    while y < tcd_places::rows(band) {
+    for y in 0..tcd_places::rows(band) {
         let mut row = [0usize; 7];
         tgt::opj_tgt_row(tree, g.depth, y, &mut row);
         let place = tcd_places::row_place(g, y);
         let first = block + y * g.w;
         t2_write_new_rows::set_row(words, place, g.w, &row, layer, counts, first);
-        y += 1;
     }
 }
 

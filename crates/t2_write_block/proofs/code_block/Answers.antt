@@ -11,15 +11,6 @@ use Rattle.tcd_places.proofs.Laws.Before.{path_before}
 use Rattle.t2_write_block.proofs.Laws.OneBlock.{incl_keeps, planes_keep, still_fit, coded-clear, block_absent, block_is}
 use Rattle.t2_write_block.proofs.code_block.Goals as goal
 
-pub code_inclusion-told-requires : goal.code_inclusion-told-requires
-code_inclusion-told-requires c = let p = c.requires in (p.1, p.2, p.3)
-
-pub shape_of-words-then-count-eq0 : goal.shape_of-words-then-count-eq0
-shape_of-words-then-count-eq0 c = c.code_inclusion-told.auto.words
-
-pub shape_of-out-then-count-eq0 : goal.shape_of-out-then-count-eq0
-shape_of-out-then-count-eq0 c = c.code_inclusion-told.auto.out
-
 pub returns-then-count-eq0 : goal.returns-then-count-eq0
 returns-then-count-eq0 c =
     let s = c in

@@ -8,24 +8,6 @@ use Rattle.t2_write_block.specs.Runs.{running}
 use Rattle.t2_write_block.proofs.Laws.Rows.{next_is}
 use Rattle.t2_write_block.proofs.code_next.Goals as goal
 
-pub overflow_add-next : goal.overflow_add-next
-overflow_add-next c = omega (arith, c.requires.4.counted)
-
-pub bounds-counts-block : goal.bounds-counts-block
-bounds-counts-block c = c.requires.4.counted
-
-pub overflow_cast-to : goal.overflow_cast-to
-overflow_cast-to c = omega (arith, c.shared_slice_known-4-1.given c.args.r.block)
-
-pub overflow_add-to : goal.overflow_add-to
-overflow_add-to c = omega (arith, c.requires.4.many)
-
-pub offset_bounds-lengths-from : goal.offset_bounds-lengths-from
-offset_bounds-lengths-from c = omega (arith, c.requires.4.many)
-
-pub slice_bounds-code_block-end : goal.slice_bounds-code_block-end
-slice_bounds-code_block-end c = omega (arith, c.requires.4.many)
-
 pub slice_bounds-code_block-end-2 : goal.slice_bounds-code_block-end-2
 slice_bounds-code_block-end-2 c =
     omega (
@@ -49,12 +31,6 @@ code_block-bio-requires c =
           p.4.passes,
     )
 
-pub shape_of-words : goal.shape_of-words
-shape_of-words c = c.code_block-bio.auto.words
-
-pub shape_of-out : goal.shape_of-out
-shape_of-out c = c.code_block-bio.auto.out
-
 pub returns : goal.returns
 returns c =
     let s = c in
@@ -63,15 +39,3 @@ returns c =
     next_is s.args.layer _ s.args.counts.now s.args.lengths.now s.args.marks.now
     (block_in s.args.p s.args.row.now 0) (running s.args.words.now s.args.out.now s.args.r) _ e
     c.code_block-bio.ensures
-
-pub slice_bounds-code_block-count : goal.slice_bounds-code_block-count
-slice_bounds-code_block-count c = omega arith
-
-pub slice_bounds-code_block-start : goal.slice_bounds-code_block-start
-slice_bounds-code_block-start c = omega arith
-
-pub slice_bounds-code_block-count-2 : goal.slice_bounds-code_block-count-2
-slice_bounds-code_block-count-2 c = omega arith
-
-pub slice_bounds-code_block-start-2 : goal.slice_bounds-code_block-start-2
-slice_bounds-code_block-start-2 c = omega arith

@@ -1,14 +1,13 @@
-use mathlib.Core.Path.{◌≡◌, refl, sym, ap, ◌∙◌, subst}
+use mathlib.Core.Path.{sym, ap, ◌∙◌, subst}
 use mathlib.Core.List.{List}
-use Prim.Native.Nat.{ℕ, ◌-◌}
-use native.Mathlib.Omega.{arith}
+use Prim.Native.Nat.{ℕ}
 use lib.ListN.{length}
 use Rattle.t800.specs.State.{Block}
 use Rattle.bio_bytes.specs.Writing.{FreeBitsClear}
 use Rattle.tcd_places.specs.declared.Place.{Place}
-use Rattle.tcd_places.specs.Places.{BlockIn, RowIn, block_in, row_blocks}
+use Rattle.tcd_places.specs.Places.{BlockIn, RowIn, block_in}
 use Rattle.tcd_places.proofs.Laws.Rows.{block_in-inside, row_end}
-use Rattle.t2_write_block.specs.Runs.{Running, running, code_next, code_all, NextFits, AllFit}
+use Rattle.t2_write_block.specs.Runs.{Running, running, code_next, code_all, NextFits}
 use Rattle.t2_write_block.proofs.Laws.Rows.{next_clear, fits_now, fits_then, codes_then}
 use Rattle.t2_write_block.proofs.code_row.Goals as goal
 

@@ -21,7 +21,7 @@ loop-y-init c =
     let a = s.args in
     let e = all_left (length a.words.now) a.g.start a.band s.requires.0 in
     let f : a.block + 0 * a.band.across ≡ a.block = omega arith in
-    (refl, omega arith, λ i. set_all a.layer a.counts.now (e i) (f i) a.words.now)
+    (refl, λ i. set_all a.layer a.counts.now (e i) (f i) a.words.now)
 
 pub opj_tgt_row-requires : goal.opj_tgt_row-requires
 opj_tgt_row-requires c =
@@ -31,7 +31,7 @@ opj_tgt_row-requires c =
     let m = small (length a.words.now) a.g.start a.band s.requires.0 in (
       subst (λ (ls : List Level). SmallLevels ls a.g.depth) (sym s.requires.2)
           (subst (SmallLevels (padded (levels a.band.across a.band.down))) (sym (ap (λ (k : Grid). k.depth) ge)) m),
-      omega (arith, c.loop-y.invariant.1, s.requires.0.sides.1),
+      omega (arith, c.loop-y-test.true, c.rows-y-end.ensures, s.requires.0.sides.1),
       refl,
     )
 
@@ -40,34 +40,10 @@ row_place-place-requires c =
     let s = c in
     let a = s.args in
     let l = c.loop-y in
-    let t : l.y < a.band.down = subst (λ (k : ℕ). l.y < k) c.rows.ensures c.loop-y-test.true in
+    let t : l.y < a.band.down = subst (λ (k : ℕ). l.y < k) c.rows-y-end.ensures c.loop-y-test.true in
     let ends = row_ends (length a.words.now) a.g.start a.band s.requires.0 l.y t in
     subst (λ (k : Grid). (k.w ≤ 64) × (l.y ≤ 64) × (k.start + 6 * k.nodes + 4 * (l.y * k.w) < 9223372036854775808)) (sym s.requires.1)
     (s.requires.0.sides.0, omega (arith, s.requires.0.sides.1), omega (arith, ends))
-
-pub overflow_mul-first : goal.overflow_mul-first
-overflow_mul-first c =
-    let s = c in
-    let a = s.args in
-    let l = c.loop-y in
-    let t : l.y < a.band.down =
-    subst (λ (k : ℕ). l.y < k) c.rows.ensures
-    c.loop-y-test.true in
-    let r = row_counts (length a.words.now) a.g.start a.band s.requires.0 l.y t in
-    let e : l.y * a.g.w ≡ l.y * a.band.across = ap (λ (k : Grid). l.y * k.w) s.requires.1 in
-    omega (arith, r, s.requires.3, e)
-
-pub overflow_add-first : goal.overflow_add-first
-overflow_add-first c =
-    let s = c in
-    let a = s.args in
-    let l = c.loop-y in
-    let t : l.y < a.band.down =
-    subst (λ (k : ℕ). l.y < k) c.rows.ensures
-    c.loop-y-test.true in
-    let r = row_counts (length a.words.now) a.g.start a.band s.requires.0 l.y t in
-    let e : l.y * a.g.w ≡ l.y * a.band.across = ap (λ (k : Grid). l.y * k.w) s.requires.1 in
-    omega (arith, r, s.requires.3, e)
 
 pub set_row-requires : goal.set_row-requires
 set_row-requires c =
@@ -76,7 +52,7 @@ set_row-requires c =
     let l = c.loop-y in
     let ge = s.requires.1 in
     let t : l.y < a.band.down =
-    subst (λ (k : ℕ). l.y < k) c.rows.ensures
+    subst (λ (k : ℕ). l.y < k) c.rows-y-end.ensures
     c.loop-y-test.true in
     let ep = c.row_place-place.ensures ∙ ap (λ (k : Grid). row_place k l.y) ge in
     let er = c.opj_tgt_row.ensures ∙ (λ i. row_over (s.requires.2 i) (ge i).depth l.y) in
@@ -88,20 +64,6 @@ set_row-requires c =
           (omega (arith, row_counts (length a.words.now) a.g.start a.band s.requires.0 l.y t, s.requires.3)),
     )
 
-pub overflow_add-y : goal.overflow_add-y
-overflow_add-y c = omega (
-  arith,
-  c.loop-y.invariant.1,
-  c.requires.0.sides.1,
-)
-
-pub loop-y-smaller : goal.loop-y-smaller
-loop-y-smaller c = omega (
-  arith,
-  c.rows.ensures,
-  c.loop-y-test.true,
-)
-
 pub loop-y-preserved : goal.loop-y-preserved
 loop-y-preserved c =
     let s = c in
@@ -109,7 +71,7 @@ loop-y-preserved c =
     let l = c.loop-y in
     let ge = s.requires.1 in
     let t : l.y < a.band.down =
-    subst (λ (k : ℕ). l.y < k) c.rows.ensures
+    subst (λ (k : ℕ). l.y < k) c.rows-y-end.ensures
     c.loop-y-test.true in
     let ep = c.row_place-place.ensures ∙ ap (λ (k : Grid). row_place k l.y) ge in
     let er = c.opj_tgt_row.ensures
@@ -119,13 +81,9 @@ loop-y-preserved c =
     let e = g.ensures ∙
     (λ i. set_all a.layer a.counts.now (row_blocks (ep i) (er i) 0 (ew i) 0) (a.block + l.y * ew i) l.words) in (
       g.auto.words ∙ l.invariant.0,
-      omega (arith, t),
       left_set (length a.words.now) a.g.start a.band s.requires.0 l.y t a.layer a.counts.now a.block l.words
-          _ e ∙ l.invariant.2,
+          _ e ∙ l.invariant.1,
     )
-
-pub shape_of-words : goal.shape_of-words
-shape_of-words c = c.loop-y.invariant.0
 
 pub returns : goal.returns
 unfolding set_all
@@ -133,6 +91,6 @@ returns c =
     let s = c in
     let a = s.args in
     let l = c.loop-y in
-    let d : a.band.down ≤ l.y = subst (λ (k : ℕ). k ≤ l.y) c.rows.ensures c.loop-y-test.false in
+    let d : a.band.down ≤ l.y = subst (λ (k : ℕ). k ≤ l.y) c.rows-y-end.ensures c.loop-y-test.false in
     sym (ap (λ (ks : List Block). set_all a.layer a.counts.now ks (a.block + l.y * a.band.across) l.words)
-    (none_left (length a.words.now) a.g.start a.band s.requires.0 l.y d)) ∙ l.invariant.2
+    (none_left (length a.words.now) a.g.start a.band s.requires.0 l.y d)) ∙ l.invariant.1
