@@ -25,9 +25,7 @@ pub fn band_length(band: Band) -> usize
     requires { SidesUpTo64 band }
     ensures { result ≡ band_length band }
 {
-    let nodes = band_nodes(band);
-    let blocks = band_blocks(band);
-    6 * nodes + 4 * blocks
+    6 * band_nodes(band) + 4 * band_blocks(band)
 }
 
 // Where the words of band n begin, which is where those of the bands before it end.
@@ -35,13 +33,9 @@ pub fn band_start(bands: [Band; 3], n: usize) -> usize
     requires { (n ≤ 3) × AllUpTo64 (take n bands) }
     ensures { result ≡ end_of 13 (take n bands) }
 {
-    let mut at: usize = 13;
-    let mut i: usize = 0;
-    while i < n {
-        let band = bands[i];
-        let words = band_length(band);
-        at += words;
-        i += 1;
+    let mut at = 13;
+    for band in &bands[..n] {
+        at += band_length(*band);
     }
     at
 }
@@ -58,13 +52,9 @@ pub fn num_blocks(bands: [Band; 3], n: usize) -> usize
     requires { (n ≤ 3) × AllUpTo64 (take n bands) }
     ensures { result ≡ length (blocks (take n bands)) }
 {
-    let mut total: usize = 0;
-    let mut i: usize = 0;
-    while i < n {
-        let band = bands[i];
-        let size = band_blocks(band);
-        total += size;
-        i += 1;
+    let mut total = 0;
+    for band in &bands[..n] {
+        total += band_blocks(*band);
     }
     total
 }
