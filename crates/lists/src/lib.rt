@@ -1,7 +1,7 @@
 // Copies of lists, and the rows that a read fills.
 #![tactic(auto)]
 
-ghost use Rattle.std.specs.Prelude.{◌≡◌, length};
+ghost use Rattle.std.specs.Prelude.{◌≡◌, length, replicate};
 ghost use Rattle.t800.specs.Base.{wiped};
 ghost use Rattle.lists.specs.Rows.{put_row, put_report, put_record};
 
@@ -9,14 +9,12 @@ use t800::RECORD_WIDTH;
 
 // ---- copies
 
-pub fn copy(from: &[u32], to: &mut [u32])
+pub fn copy<T: Copy>(from: &[T], to: &mut [T])
     requires { length from.now ≡ length to.old }
     ensures { to.new ≡ from.now }
 {
-    let mut i = 0;
-    while i < from.len() {
+    for i in 0..from.len() {
         to[i] = from[i];
-        i += 1;
     }
 }
 
@@ -24,31 +22,40 @@ pub fn copy_bytes(bytes: &[u8], to: &mut [u8])
     requires { length bytes.now ≡ length to.old }
     ensures { to.new ≡ bytes.now }
 {
-    let mut i = 0;
-    while i < bytes.len() {
-        to[i] = bytes[i];
-        i += 1;
-    }
+    copy(bytes, to);
 }
 
-pub fn wipe(list: &mut [u32])
-    ensures { list.new ≡ wiped list.old }
+// A type of numbers, with its 0.
+pub trait Zero: Copy {
+    const ZERO: Self;
+
+    ghost ZERO: { Self };
+}
+
+impl Zero for u8 {
+    const ZERO: u8 = 0;
+
+    ghost ZERO = { 0 };
+}
+
+impl Zero for u32 {
+    const ZERO: u32 = 0;
+
+    ghost ZERO = { 0 };
+}
+
+pub fn wipe<T: Zero>(list: &mut [T])
+    ensures { list.new ≡ replicate (length list.old) T.ZERO }
 {
-    let mut i = 0;
-    while i < list.len() {
-        list[i] = 0;
-        i += 1;
+    for entry in list {
+        *entry = T::ZERO;
     }
 }
 
 pub fn wipe_bytes(bytes: &mut [u8])
     ensures { bytes.new ≡ wiped bytes.old }
 {
-    let mut i = 0;
-    while i < bytes.len() {
-        bytes[i] = 0;
-        i += 1;
-    }
+    wipe(bytes);
 }
 
 // ---- reports and records
