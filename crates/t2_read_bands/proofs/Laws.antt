@@ -1,2 +1,2 @@
-pub mod ReadRows
+pub mod ReadBlocks
 pub mod ReadBands

@@ -67,7 +67,7 @@ fn read_old(
     t2_read_block_parts::read_again(words, reports, records, src, run, at, block)
 }
 
-fn read_block(
+pub fn read_block(
     words: &mut [u32],
     reports: &mut [u32],
     records: &mut [u32],

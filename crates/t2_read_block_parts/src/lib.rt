@@ -29,11 +29,13 @@ fn read_passes(words: &mut [u32], src: &[u8], b: Bio, at: usize, before: u32, bi
 }
 
 pub fn moved(r: Run, bio: Bio) -> Run
-    ensures { result ≡ record { bio = bio; count = r.count; refusal = 0 } }
+    ensures { result ≡ record { bio = bio; count = r.count; room = r.room; bytes = r.bytes; refusal = 0 } }
 {
     Run {
         bio,
         count: r.count,
+        room: r.room,
+        bytes: r.bytes,
         refusal: 0,
     }
 }

@@ -1,27 +1,39 @@
 -- Segments read one after another into lent lists, and what is held in these.
-use Rattle.std.specs.Prelude.{ℕ, zero, suc, ◌+◌, ◌-◌, ◌*◌, ◌/◌, ◌^◌, ◌≤◌, ◌<◌, ◌≡◌, cond, List, length, get_or, set, ltb, leb, eqb}
+use Rattle.std.specs.Prelude.{◌≡◌, ℕ, zero, suc, ◌+◌, ◌-◌, ◌*◌, ◌/◌, ◌%◌, ◌^◌, ◌<◌, ◌≤◌, cond, List, length, set, ◌==◌, nat_le, nat_lt, slice_index, slice_index_or, slice_set}
 use Rattle.t800.specs.declared.Bio.{Bio}
 use Rattle.t800.specs.Base.{overwrite}
 use Rattle.t800.specs.Bits.{reach, read_bits}
 use Rattle.t800.specs.Segments.{width}
-use Rattle.t800.specs.Reports.{report_words, record_words, record_width}
+use Rattle.t800.specs.Reports.{report_words, record_words, record_width, body_bytes}
 use Rattle.t800.specs.State.{Block, length_bits}
 use Rattle.t800.specs.ReadHeader.{HeaderRead, opens_segment, current_limit, current_passes, passes_taken}
 use Rattle.lists.specs.Rows.{put_report, put_record}
 use Rattle.t2_read_segments.specs.declared.Run.{Run}
 
--- the lent words, reports and records, where the bits stand, how many records there are, and the refusal, or 0
+-- the lent words, reports and records, where the bits stand, how many records there are and may be, the sum of their lengths modulo 2^64,
+-- and the refusal, or 0
 pub record Reading : Type 0 where
   pub words : List ℕ
   pub reports : List ℕ
   pub records : List ℕ
   pub bio : Bio
   pub count : ℕ
+  pub room : ℕ
+  pub bytes : ℕ
   pub refusal : ℕ
 
 abbrev pub reading : List ℕ → List ℕ → List ℕ → Run → Reading
 reading ws reports records r =
-    record { words = ws; reports = reports; records = records; bio = r.bio; count = r.count; refusal = r.refusal }
+    record {
+      words = ws;
+      reports = reports;
+      records = records;
+      bio = r.bio;
+      count = r.count;
+      room = r.room;
+      bytes = r.bytes;
+      refusal = r.refusal;
+    }
 
 -- segments leave the reports as they are, whatever these hold
 abbrev pub WithAnyReports : (List ℕ → Reading) → (List ℕ → Reading) → Type 0
@@ -31,10 +43,30 @@ WithAnyReports a b = (reports : List ℕ) → a reports ≡ b reports
 
 -- refused, or with other words and bits, or with a report or a record put
 abbrev pub stopped : ℕ → Reading → Reading
-stopped why a = record { words = a.words; reports = a.reports; records = a.records; bio = a.bio; count = a.count; refusal = why }
+stopped why a =
+    record {
+      words = a.words;
+      reports = a.reports;
+      records = a.records;
+      bio = a.bio;
+      count = a.count;
+      room = a.room;
+      bytes = a.bytes;
+      refusal = why;
+    }
 
 abbrev pub moved_on : List ℕ → Bio → Reading → Reading
-moved_on ws b a = record { words = ws; reports = a.reports; records = a.records; bio = b; count = a.count; refusal = 0 }
+moved_on ws b a =
+    record {
+      words = ws;
+      reports = a.reports;
+      records = a.records;
+      bio = b;
+      count = a.count;
+      room = a.room;
+      bytes = a.bytes;
+      refusal = 0;
+    }
 
 abbrev pub reported : ℕ → ℕ → ℕ → ℕ → ℕ → Reading → Reading
 reported i inclusion zero_planes planes passes a =
@@ -44,6 +76,8 @@ reported i inclusion zero_planes planes passes a =
       records = a.records;
       bio = a.bio;
       count = a.count;
+      room = a.room;
+      bytes = a.bytes;
       refusal = a.refusal;
     }
 
@@ -55,6 +89,8 @@ recorded i opens passes bytes a =
       records = put_record a.records a.count i opens passes bytes;
       bio = a.bio;
       count = a.count + 1;
+      room = a.room;
+      bytes = (a.bytes + bytes) % 2 ^ 64;
       refusal = a.refusal;
     }
 
@@ -64,9 +100,9 @@ next_segment src i k n a =
     let ws = a.words in
     let w = width (length_bits ws k.at) n in
     let len = read_bits src w a.bio in
-    let after = set (set ws (k.at + 2) (current_limit ws k)) (k.at + 3) (current_passes ws k + n) in
+    let after = set (slice_set ws (k.at + 2) (current_limit ws k)) (k.at + 3) (current_passes ws k + n) in
     let done = recorded i (cond (opens_segment ws k) 1 0) n len.value (moved_on after len.bio a) in
-    cond (ltb 32 w) (stopped 9 a) (cond (leb (length a.records / record_width) a.count) (stopped 13 a) done)
+    cond (nat_lt 32 w) (stopped 9 a) (cond (nat_le a.room a.count) (stopped 13 a) done)
 
 -- the segments of `left` more passes, if there are any; f bounds them
 unfoldable pub next_segments : List ℕ → ℕ → Block → ℕ → ℕ → Reading → Reading
@@ -75,8 +111,8 @@ next_segments src i k (suc f) left a =
     let n = passes_taken a.words k left in
     let b = next_segment src i k n a in
     let more = next_segments src i k f (left - n) b in
-    let some = cond (eqb b.refusal 0) more b in
-    cond (ltb 0 left) some a
+    let some = cond (b.refusal == 0) more b in
+    cond (nat_lt 0 left) some a
 
 -- ---- what reading asks for
 
@@ -89,12 +125,12 @@ pub record BitsIn (src : List ℕ) (b : Bio) : Type 0 where
 
 -- the open segment isn't more than full
 pub record SegmentFits (ws : List ℕ) (at : ℕ) : Type 0 where
-  pub used : get_or ws (at + 3) 0 ≤ get_or ws (at + 2) 0
-  pub limit : get_or ws (at + 2) 0 ≤ 109
+  pub used : slice_index_or ws (at + 3) 0 ≤ slice_index ws (at + 2)
+  pub limit : slice_index_or ws (at + 2) 0 ≤ 109
 
 pub record BlockFits (ws : List ℕ) (at : ℕ) : Type 0 where
-  pub passes : get_or ws at 0 + 164 < 2 ^ 32
-  pub bits : get_or ws (at + 1) 0 ≤ 32
+  pub passes : slice_index_or ws at 0 + 164 < 2 ^ 32
+  pub bits : slice_index_or ws (at + 1) 0 ≤ 32
   pub segment : SegmentFits ws at
 
 -- of n blocks, the first's words at `at`
@@ -112,6 +148,8 @@ held_by reports records r =
       records = overwrite records (record_words r.records);
       bio = r.bio;
       count = length r.records;
+      room = length records / record_width;
+      bytes = body_bytes r.records % 2 ^ 64;
       refusal = r.refusal;
     }
 

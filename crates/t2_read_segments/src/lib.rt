@@ -1,4 +1,4 @@
-// A block's segments, as read.
+// A block's segments, as read, with room for so many records as the run says: those are stored that are lent.
 #![tactic(auto)]
 
 ghost use Rattle.std.specs.Prelude.{◌≡◌, ◌+◌, ◌^◌, ◌<◌, ◌≤◌, length};
@@ -6,7 +6,7 @@ ghost use Rattle.tcd_places.specs.Places.{block_at};
 ghost use Rattle.t2_read_segments.specs.Segments.{limit_after, current_segment};
 ghost use Rattle.t2_read_segments.specs.Reading.{reading, WithAnyReports, next_segment, next_segments, SegmentFits};
 
-use t800::{Bio, RECORD_WIDTH, Refusal};
+use t800::{Bio, Refusal};
 use tcd_style::Style;
 
 // The segment that a block's next passes go into: 1 if they open it, its limit, the passes that it has.
@@ -17,11 +17,13 @@ pub struct Segment {
     pub used: u32,
 }
 
-// Where the bits stand, how many records there are, and the refusal, or 0.
+// Where the bits stand, how many records there are and may be, the sum of their lengths modulo 2^64, and the refusal, or 0.
 #[derive(Clone, Copy)]
 pub struct Run {
     pub bio: Bio,
     pub count: usize,
+    pub room: usize,
+    pub bytes: u64,
     pub refusal: u32,
 }
 
@@ -60,12 +62,14 @@ fn current_segment(words: &[u32], at: usize) -> Segment
 
 // The reading as it stands, with a refusal.
 pub fn refuse(r: Run, why: u32) -> Run
-    ensures { result ≡ record { bio = r.bio; count = r.count; refusal = why } }
+    ensures { result ≡ record { bio = r.bio; count = r.count; room = r.room; bytes = r.bytes; refusal = why } }
 {
     let bio = r.bio;
     Run {
         bio,
         count: r.count,
+        room: r.room,
+        bytes: r.bytes,
         refusal: why,
     }
 }
@@ -89,22 +93,25 @@ fn read_segment(
 {
     let width = t2_segments::field_width(words[at + 1] as u64, n);
     let count = r.count;
-    let room = records.len() / RECORD_WIDTH;
+    let room = r.room;
     if 32 < width {
         return refuse(r, Refusal::WIDTH);
     }
     if room <= count {
         return refuse(r, Refusal::RECORDS);
     }
+    let next = count + 1;
     let len = bio_read::opj_bio_read(src, r.bio, width as u32);
     words[at + 2] = s.limit;
     words[at + 3] = s.used + n;
     lists::put_record(records, count, block as u32, s.opens, n, len.value);
+    let bytes = std::num::wrapping_add_u64(r.bytes, len.value as u64);
     let bio = len.bio;
-    let next = count + 1;
     Run {
         bio,
         count: next,
+        room,
+        bytes,
         refusal: 0,
     }
 }

@@ -7,7 +7,7 @@ use Rattle.t800.specs.Reports.{room_for_all}
 use Rattle.t800.specs.State.{layer, bands, blocks}
 use Rattle.t800.specs.ReadHeader.{HeaderRead, read_blocks}
 use Rattle.t800.specs.PackedHeaders.{unpacked}
-use Rattle.t2_within_segments.specs.declared.Run.{Run}
+use Rattle.t2_read_segments.specs.declared.Run.{Run}
 use Rattle.t2_unpack_headers.specs.Windows.{window_of}
 use Rattle.t2_skip_packet.specs.Parts.{header_bytes}
 use Rattle.t2_skip_windows.specs.declared.InWindow.{InWindow}

@@ -13,7 +13,7 @@ ghost use Rattle.t2_skip_gathered.specs.Headers.{start_run, StandsBefore, first_
 use t2_skip_header::ROOM_FOR_ALL;
 use t2_skip_packet::Skipped;
 use t2_skip_windows::{InWindow, LAST_PLACE};
-use t2_within_segments::Run;
+use t2_read_segments::Run;
 use t800::{Markers, Refusal};
 use tcd_style::Marker;
 
@@ -79,7 +79,7 @@ fn first_bit(window: &[u8], s: InWindow) -> FirstBit
     let run = s.run;
     let bit = bio_read_lent::bit_in(window, run.bio);
     let bio = bit.bio;
-    let after = t2_within_block_parts::moved(run, bio);
+    let after = t2_read_block_parts::moved(run, bio);
     let stand = InWindow {
         run: after,
         base: s.base,

@@ -3,7 +3,7 @@ use Rattle.std.specs.Prelude.{◌≡◌, List, ℕ}
 use Rattle.t800.specs.declared.Bio.{Bio}
 use Rattle.t800.specs.Reports.{room_for_all, body_bytes}
 use Rattle.t800.specs.ReadHeader.{HeaderRead, read_header}
-use Rattle.t2_within_segments.specs.Reading.{BitsIn}
+use Rattle.t2_read_segments.specs.Reading.{BitsIn}
 use Rattle.t2_skip_header.specs.declared.Skipped.{Skipped}
 
 abbrev pub whole_header : (src ws : List ℕ) → Bio → HeaderRead

@@ -4,7 +4,7 @@
 ghost use Rattle.std.specs.Prelude.{◌≡◌, true, ◌<◌, length};
 ghost use Rattle.t800.specs.State.{reader, layer, not_yet_included};
 ghost use Rattle.t800.specs.Ranges.{valid_state};
-ghost use Rattle.t2_within_segments.specs.Reading.{BitsIn};
+ghost use Rattle.t2_read_segments.specs.Reading.{BitsIn};
 ghost use Rattle.t2_skip_header.specs.Skipping.{SkipsHeader};
 
 use t800::Bio;
@@ -27,7 +27,7 @@ pub fn opj_t2_skip_packet_header(words: &mut [u32], src: &[u8], b: Bio) -> Skipp
 {
     let mut reports = [0u32; 0];
     let mut records = [0u32; 0];
-    let run = t2_within_header::read_header(
+    let run = t2_read_header::read_header(
         words,
         &mut reports,
         &mut records,

@@ -7,7 +7,7 @@ use Rattle.t800.specs.MarkerSegments.{read_eph}
 use Rattle.t800.specs.ReadHeader.{HeaderRead}
 use Rattle.t800.specs.Reports.{body_bytes}
 use Rattle.t800.specs.Gathered.{Parts}
-use Rattle.t2_within_segments.specs.Reading.{BitsIn}
+use Rattle.t2_read_segments.specs.Reading.{BitsIn}
 use Rattle.t2_skip_header.specs.declared.Skipped as Header
 use Rattle.t2_skip_header.specs.Skipping.{whole_header}
 use Rattle.t2_skip_packet.specs.declared.Skipped.{Skipped}

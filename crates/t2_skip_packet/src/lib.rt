@@ -7,7 +7,7 @@ ghost use Rattle.t800.specs.Ranges.{valid_state};
 ghost use Rattle.t800.specs.Bits.{reach};
 ghost use Rattle.t800.specs.Gathered.{parts_in_row};
 ghost use Rattle.bio_read.specs.Reading.{decoded};
-ghost use Rattle.t2_within_segments.specs.Reading.{BitsIn};
+ghost use Rattle.t2_read_segments.specs.Reading.{BitsIn};
 ghost use Rattle.t2_skip_packet.specs.Parts.{SkipsPacket, SkipsFrom, header_bytes};
 
 use bio_read::Decoded;

@@ -6,7 +6,7 @@ use Rattle.t800.specs.State.{Block}
 use Rattle.t800.specs.PackedHeaders.{unpacked}
 use Rattle.t800.specs.ReadHeader.{HeaderRead, read_blocks}
 use Rattle.t2_unpack_headers.specs.Windows.{window_of}
-use Rattle.t2_within_segments.specs.declared.Run.{Run}
+use Rattle.t2_read_segments.specs.declared.Run.{Run}
 use Rattle.t2_skip_windows.specs.declared.InWindow.{InWindow}
 
 -- ---- the window

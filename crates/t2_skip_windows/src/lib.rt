@@ -7,13 +7,13 @@ ghost use Rattle.t800.specs.TagTree.{levels};
 ghost use Rattle.t800.specs.State.{band_nodes, band_length, block_of, blocks_in, blocks, end_of, not_yet_included};
 ghost use Rattle.tcd_laws.specs.Geometry.{AllUpTo64, padded};
 ghost use Rattle.tcd_places.specs.Places.{BandIn, band_blocks, grid_of};
-ghost use Rattle.t2_within_segments.specs.Reading.{reading, BitsIn, BlockFits};
-ghost use Rattle.t2_within_block_parts.specs.Blocks.{next_block};
-ghost use Rattle.t2_within_bands.specs.Bands.{BandFits, BandsFit};
+ghost use Rattle.t2_read_segments.specs.Reading.{reading, BitsIn, BlockFits};
+ghost use Rattle.t2_read_block_parts.specs.Blocks.{next_block};
+ghost use Rattle.t2_read_bands.specs.Bands.{BandFits, BandsFit};
 ghost use Rattle.t2_skip_windows.specs.Windows.{window_bytes, run_at, Ahead, WindowOn, Somewhere, Skips, SkipsTo};
 
 use t2_unpack_headers::Cursor;
-use t2_within_segments::Run;
+use t2_read_segments::Run;
 use t800::{Band, Bio, Level};
 use tcd_places::Grid;
 
@@ -99,7 +99,7 @@ fn skip_block(
     let mut reports = [0u32; 0];
     let mut records = [0u32; 0];
     let end = i + 1;
-    t2_within_bands::read_blocks(
+    t2_read_bands::read_blocks(
         words,
         &mut reports,
         &mut records,

@@ -6,7 +6,7 @@ use mathlib.Core.List.{List, [], ◌∷◌, ◌++◌, reverse}
 use Prim.Native.Nat.{ℕ, zero, suc, ◌+◌, ◌-◌, ◌*◌, ◌/◌, ◌%◌, ◌^◌, ◌≤◌, ◌<◌}
 use native.Mathlib.Omega.{arith}
 use lib.Dec.{eqb, ltb, leb}
-use lib.ListN.{length, get_or, set, drop, length-set, length-append, length-drop}
+use lib.ListN.{length, get_or, set, length-set, length-append}
 use lib.Seq.{get_or-set_same}
 use borrow.Author.Tests.{eq-eqb, ne_eqb, eqb-true, eqb-false, leb-false}
 use Rattle.t800.specs.declared.Bio.{Bio}
@@ -26,7 +26,7 @@ use Rattle.t800_laws.proofs.Laws.Tests.{if-eq, if-ne, if-lt, if-ge, on-eq, on-lt
 use Rattle.t800_laws.proofs.Laws.Kept.{from_0, path_from_0, path_read_lem}
 use Rattle.t800_laws.proofs.Laws.HeaderSteps.{thresholds_raised}
 use Rattle.round_trip.proofs.Trip.Segments.{read_so_far}
-use Rattle.t800_laws.proofs.Laws.Lists.{record-words_length}
+use Rattle.t800_laws.proofs.Laws.Starts.{bytes_append, bytes_one}
 use Rattle.lists.proofs.Laws.Filled.{record-put, report_put}
 use Rattle.lists.specs.Rows.{put_row}
 use Rattle.t2_read_codes.specs.CommaCode.{most_ones, read_comma_limited}
@@ -73,6 +73,9 @@ cond_both : (s t : Bool) (x y : HeaderRead) → cond (s && t) x y ≡ cond s (co
 cond_both true t x y = refl
 cond_both false t x y = refl
 
+more_bytes : (m n s : ℕ) → s ≡ m + n → (m % 2 ^ 64 + n) % 2 ^ 64 ≡ s % 2 ^ 64
+more_bytes m n s e = omega arith
+
 -- ---- how a reading ends
 
 -- j reports and the records of r over the lists as they were lent, and so many words
@@ -101,7 +104,8 @@ module _ (src reports records : List ℕ) (size : ℕ) where
   refused-both : (j n : ℕ) (a : Reading) (r : HeaderRead) → 0 < n → a.refusal ≡ n → r.refusal ≡ n → EndsAt j a r
   refused-both j n a r h p q = record { refuses = p ∙ sym q; holds = λ z. absurd (omega (arith, z, q)) }
 
-  choice : (j : ℕ) (t : Bool) (x y : Reading) (x' y' : HeaderRead) → EndsAt j x x' → EndsAt j y y' → EndsAt j (cond t x y) (cond t x' y')
+  pub choice : (j : ℕ) (t : Bool) (x y : Reading) (x' y' : HeaderRead) → EndsAt j x x' → EndsAt j y y'
+      → EndsAt j (cond t x y) (cond t x' y')
   choice j true x y x' y' p q = p
   choice j false x y x' y' p q = q
 
@@ -138,18 +142,12 @@ module _ (src reports records : List ℕ) (size : ℕ) where
 
   -- ---- segments
 
-  records_over : (recs : List SegmentRecord) → length recs ≤ room → length (overwrite records (record_words recs)) ≡ length records
-  unfolding overwrite
-  records_over recs h = length-append (record_words recs) (drop (length (record_words recs)) records)
-      ∙ omega (arith, record-words_length recs, length-drop (length (record_words recs)) records)
-
   segment-ends : (j i : ℕ) (k : Block) (n : ℕ) → Alike j j (next_segment src i k n) (read_segment src room i k n)
   unfolding next_segment read_segment
   segment-ends j i k n ws b reps recs p q w =
       let f : ℕ = width (length_bits ws k.at) n in
       choice j (ltb 32 f) _ _ _ _ (refused-both j 9 _ _ (omega arith) refl refl)
-      (subst (λ (m : ℕ). EndsAt j (cond (leb (m / 4) (length recs)) (stopped 13 a) (done f))
-      (cond (leb room (length recs)) (refused 13) (done' f))) (sym (records_over recs p)) (by f (leb room (length recs)) refl))
+      (by f (leb room (length recs)) refl)
     where
       a : Reading
       a = held_by reports records (read_so_far ws b reps recs)
@@ -173,6 +171,8 @@ module _ (src reports records : List ℕ) (size : ℕ) where
         records = put_row a.records (length recs) i (cond (opens_segment ws k) 1 0) n (read_bits src f b).value;
         bio = (read_bits src f b).bio;
         count = length recs + 1;
+        room = room;
+        bytes = (body_bytes recs % 2 ^ 64 + (read_bits src f b).value) % 2 ^ 64;
         refusal = 0;
       }
 
@@ -184,6 +184,8 @@ module _ (src reports records : List ℕ) (size : ℕ) where
       by f false e =
           let l : length recs < room = leb-false room (length recs) e in
           let c : length recs + 1 ≡ length (recs ++ rec f ∷ []) = sym (length-append recs (rec f ∷ [])) in
+          let sum = more_bytes (body_bytes recs) (read_bits src f b).value _
+          (bytes_append recs (rec f ∷ []) ∙ ap (λ (n : ℕ). body_bytes recs + n) (bytes_one (rec f))) in
           record {
             refuses = refl;
             holds = λ _. record {
@@ -193,6 +195,8 @@ module _ (src reports records : List ℕ) (size : ℕ) where
                 records = record-put records recs (rec f) l x;
                 bio = (read_bits src f b).bio;
                 count = c x;
+                room = room;
+                bytes = sum x;
                 refusal = 0;
               };
               records_lent_lem = omega arith;
@@ -256,6 +260,8 @@ module _ (src reports records : List ℕ) (size : ℕ) where
           records = overwrite records (record_words recs);
           bio = e;
           count = length recs;
+          room = room;
+          bytes = body_bytes recs % 2 ^ 64;
           refusal = 0;
         }
 
@@ -381,7 +387,7 @@ module _ (src reports records : List ℕ) (size : ℕ) where
         choice (i + 1) (eqb bit.value 0) _ _ _ _ (absent-ends ws b reps recs p q w ws bit.bio w)
         (again_ends ws bit.bio reps recs p q w old)
 
-    block_ends : (t : ℕ) → Alike i (i + 1) (next_block src t i k) (read_block src room t i k)
+    pub block_ends : (t : ℕ) → Alike i (i + 1) (next_block src t i k) (read_block src room t i k)
     unfolding next_block read_block is_new
     block_ends t ws b reps recs p q w = by (eqb (get_or ws k.at 0) 0) refl
       where

@@ -60,17 +60,17 @@ same_planes src p row planes (suc f) t ws b =
 
 -- ---- an included block
 
-abbrev run_at : Bio → ℕ → Run
-run_at b n = record { bio = b; count = n; refusal = 0 }
+-- the reading goes on, with these bits
+abbrev run_at : Bio → Reading → Run
+run_at b a = record { bio = b; count = a.count; room = a.room; bytes = a.bytes; refusal = 0 }
 
-module _ (src : List ℕ) (i : ℕ) (a : Reading) (c : ValueAfter) (m : Run) (moves : m ≡ run_at c.bio a.count) (reports : List ℕ)
+module _ (src : List ℕ) (i : ℕ) (a : Reading) (c : ValueAfter) (m : Run) (moves : m ≡ run_at c.bio a) (reports : List ℕ)
     (o : Reading) where
   abbrev at_segments : ℕ → Type 0
   at_segments at = o ≡ next_segments src i (block_at at) c.value c.value (reading c.words reports a.records m)
 
   abbrev goes_on : Block → ValueAfter → List ℕ → Reading
-  goes_on k d rows = next_segments src i k d.value d.value
-      (record { words = d.words; reports = rows; records = a.records; bio = d.bio; count = a.count; refusal = 0 })
+  goes_on k d rows = next_segments src i k d.value d.value (reading d.words rows a.records (run_at d.bio a))
 
   segments_go_on : (k : Block) → at_segments k.at → o ≡ goes_on k c reports
   segments_go_on k is = is
@@ -107,14 +107,14 @@ module _ (src : List ℕ) (i : ℕ) (a : Reading) (c : ValueAfter) (m : Run) (mo
 module _ (src : List ℕ) (t i : ℕ) (p : Place) (row : List ℕ) (planes : ℕ) (a : Reading) (w : LeafAfter) (m : Run)
     (reads : w ≡ below_in (t + 1) (leaf_word p.incl row p.x)
     (read_path src p.incl (t + 1) (reverse (path_over row p.depth p.x)) 0 a.words a.bio))
-    (moves : m ≡ run_at w.bio a.count) where
+    (moves : m ≡ run_at w.bio a) where
   abbrev path : PathRead
   path = read_path src p.incl (t + 1) (reverse (path_over row p.depth p.x)) 0 a.words a.bio
 
   stands : (reports : List ℕ) → reading w.words reports a.records m
-      ≡ record { words = path.words; reports = reports; records = a.records; bio = path.bio; count = a.count; refusal = 0 }
+      ≡ reading path.words reports a.records (run_at path.bio a)
   stands reports = ap (reading w.words reports a.records) moves
-      ∙ ap (λ (v : LeafAfter). reading v.words reports a.records (run_at v.bio a.count)) reads
+      ∙ ap (λ (v : LeafAfter). reading v.words reports a.records (run_at v.bio a)) reads
 
   pub new_included : (o : Reading) → w.below ≡ true → o
       ≡ next_first src i (block_in p row planes) (reading w.words a.reports a.records m) → o
@@ -128,40 +128,24 @@ module _ (src : List ℕ) (t i : ℕ) (p : Place) (row : List ℕ) (planes : ℕ
   unfolding next_new
   new_absent reports y e =
       stands reports
-      ∙ ap (λ (rows : List ℕ).
-      record { words = path.words; reports = rows; records = a.records; bio = path.bio; count = a.count; refusal = 0 }) e
+      ∙ ap (λ (rows : List ℕ). reading path.words rows a.records (run_at path.bio a)) e
       ∙ sym (if-false _ _ _ (sym (ap (λ (v : LeafAfter). v.below) reads) ∙ y))
 
 -- ---- a block with passes
 
 module _ (src : List ℕ) (i at : ℕ) (a : Reading) (b : Decoded) (m : Run) (reads : b ≡ get_bit src a.bio)
-    (moves : m ≡ run_at b.bio a.count) where
+    (moves : m ≡ run_at b.bio a) where
   goes : (reports : List ℕ) → reading a.words reports a.records m
-      ≡ record {
-        words = a.words;
-        reports = reports;
-        records = a.records;
-        bio = (get_bit src a.bio).bio;
-        count = a.count;
-        refusal = 0;
-      }
+      ≡ reading a.words reports a.records (run_at (get_bit src a.bio).bio a)
   goes reports = ap (reading a.words reports a.records) moves
-      ∙ ap (λ (d : Decoded). reading a.words reports a.records (run_at d.bio a.count)) reads
+      ∙ ap (λ (d : Decoded). reading a.words reports a.records (run_at d.bio a)) reads
 
   pub old_absent : (reports : List ℕ) → b.value ≡ 0 → reports ≡ put_row a.reports i 0 0 0 0
       → reading a.words reports a.records m ≡ next_old src i (block_at at) a
   unfolding next_old
   old_absent reports y e =
       goes reports
-      ∙ ap (λ (rows : List ℕ).
-      record {
-        words = a.words;
-        reports = rows;
-        records = a.records;
-        bio = (get_bit src a.bio).bio;
-        count = a.count;
-        refusal = 0;
-      }) e
+      ∙ ap (λ (rows : List ℕ). reading a.words rows a.records (run_at (get_bit src a.bio).bio a)) e
       ∙ sym (if-eq _ 0 _ _ (sym (ap (λ (d : Decoded). d.value) reads) ∙ y))
 
   pub old_included : (o : Reading) → b.value ≢ 0 → o

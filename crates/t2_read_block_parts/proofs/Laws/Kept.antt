@@ -2,10 +2,10 @@
 -- input's end.
 use mathlib.Core.Path.{◌≡◌, refl, sym, ◌∙◌, subst}
 use mathlib.Core.List.{List, [], ◌∷◌, reverse}
-use Prim.Native.Nat.{ℕ, zero, suc, ◌+◌, ◌*◌, ◌/◌, ◌≤◌}
+use Prim.Native.Nat.{ℕ, zero, suc, ◌+◌, ◌*◌, ◌≤◌}
 use native.Mathlib.Omega.{arith}
 use lib.Dec.{eqb, ltb, leb}
-use lib.ListN.{length, drop}
+use lib.ListN.{drop}
 use lib.Seq.{drop-set-lt}
 use Rattle.t800.specs.declared.Bio.{Bio}
 use Rattle.t800.specs.Bits.{get_bit, read_bits}
@@ -114,7 +114,7 @@ module _ (src : List ℕ) (q : ℕ) (vs : List ℕ) where
   segment-keeps i k n a h p =
       let w : ℕ = width (length_bits a.words k.at) n in
       either (Keeps src q vs) (ltb 32 w) (stopped 9 a) _ (record { bits = p.bits; after = p.after })
-      (either (Keeps src q vs) (leb (length a.records / 4) a.count) (stopped 13 a) _ (record { bits = p.bits; after = p.after })
+      (either (Keeps src q vs) (leb a.room a.count) (stopped 13 a) _ (record { bits = p.bits; after = p.after })
       (record {
         bits = number_in src w a.bio p.bits;
         after = drop-set-lt q _ (k.at + 3) _ (omega arith)

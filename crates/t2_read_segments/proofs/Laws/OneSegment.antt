@@ -1,14 +1,8 @@
 -- One segment: which one it is, and its parts together.
-use mathlib.Core.Path.{◌≡◌, sym, ap, ◌∙◌, subst}
-use mathlib.Core.Logic.{◌≢◌}
-use mathlib.Core.List.{List}
-use Prim.Native.Nat.{ℕ, ◌+◌, ◌/◌, ◌≤◌, ◌<◌}
-use lib.ListN.{length, get_or, set}
-use borrow.Author.Tests.{eq-eqb, ne_eqb}
+use Rattle.std.proofs.Common.{◌≡◌, ℕ, ◌+◌, ◌%◌, ◌^◌, ◌<◌, ◌≤◌, ◌≢◌, List, get_or, set, sym, ap, ◌∙◌, subst, eq-eqb, ne_eqb}
 use Rattle.t800.specs.Bits.{Decoded, read_bits}
 use Rattle.t800.specs.Segments.{width}
 use Rattle.t800.specs.ReadHeader.{opens_segment, current_limit, current_passes}
-use Rattle.t800.specs.Reports.{record_width}
 use Rattle.t800_laws.proofs.Laws.Tests.{if-lt, if-ge, if-le, if-gt}
 use Rattle.lists.specs.Rows.{put_record}
 use Rattle.tcd_places.specs.Places.{block_at}
@@ -38,27 +32,30 @@ module _ (src : List ℕ) (i at n : ℕ) (a : Reading) (w : ℕ) (is : w ≡ wid
   unfolding next_segment
   segment-wide h = sym (if-lt 32 _ _ _ (subst (λ (z : ℕ). 32 < z) is h))
 
-  pub segment-past_records : w ≤ 32 → length a.records / record_width ≤ a.count → stopped 13 a ≡ next_segment src i (block_at at) n a
+  pub segment-past_records : w ≤ 32 → a.room ≤ a.count → stopped 13 a ≡ next_segment src i (block_at at) n a
   unfolding next_segment
   segment-past_records h l = sym (if-ge 32 _ _ _ (subst (λ (z : ℕ). z ≤ 32) is h) ∙ if-le _ _ _ _ l)
 
-  abbrev stored : Segment → Decoded → List ℕ → Reading
-  stored s len rows =
+  abbrev stored : Segment → Decoded → List ℕ → ℕ → Reading
+  stored s len rows sum =
       record {
         words = set (set a.words (at + 2) s.limit) (at + 3) (s.used + n);
         reports = a.reports;
         records = rows;
         bio = len.bio;
         count = a.count + 1;
+        room = a.room;
+        bytes = sum;
         refusal = 0;
       }
 
-  pub segment-read : (s : Segment) (len : Decoded) (rows : List ℕ) → w ≤ 32 → a.count < length a.records / record_width → s
+  pub segment-read : (s : Segment) (len : Decoded) (rows : List ℕ) (sum : ℕ) → w ≤ 32 → a.count < a.room → s
       ≡ current_segment a.words (block_at at) → len ≡ read_bits src w a.bio
-      → rows ≡ put_record a.records a.count i s.opens n len.value → stored s len rows ≡ next_segment src i (block_at at) n a
+      → rows ≡ put_record a.records a.count i s.opens n len.value → sum ≡ (a.bytes + len.value) % 2 ^ 64
+      → stored s len rows sum ≡ next_segment src i (block_at at) n a
   unfolding next_segment current_segment
-  segment-read s len rows h l p q u =
+  segment-read s len rows sum h l p q u t =
       let e : len ≡ read_bits src (width (get_or a.words (at + 1) 0) n) a.bio = q ∙ ap (λ (z : ℕ). read_bits src z a.bio) is in
-      ap (stored s len) u
-      ∙ (λ j. stored (p j) (e j) (put_record a.records a.count i (p j).opens n (e j).value))
+      (λ j. stored s len (u j) (t j))
+      ∙ (λ j. stored (p j) (e j) (put_record a.records a.count i (p j).opens n (e j).value) ((a.bytes + (e j).value) % 2 ^ 64))
       ∙ sym (if-ge 32 _ _ _ (subst (λ (z : ℕ). z ≤ 32) is h) ∙ if-gt _ _ _ _ l)

@@ -1,4 +1,4 @@
-use mathlib.Core.Path.{sym, ◌∙◌}
+use Rattle.std.proofs.Common.{sym, ◌∙◌}
 use Rattle.t800_laws.proofs.Laws.Tests.{if-eq, if-ne}
 use Rattle.t2_read_segments.specs.Segments.{limit_after}
 use Rattle.t2_read_segments.proofs.limit_after.Goals as goal

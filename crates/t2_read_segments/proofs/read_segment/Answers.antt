@@ -1,10 +1,8 @@
-use mathlib.Core.Path.{ap, ◌∙◌}
+use Rattle.std.proofs.Common.{◌+◌, ap, ◌∙◌, arith}
 use Rattle.bio_read.specs.Reading.{decoded}
 use Rattle.t2_read_segments.specs.declared.Run.{Run}
 use Rattle.t2_read_segments.specs.Reading.{reading}
 use Rattle.t2_read_segments.proofs.Laws.OneSegment.{segment-wide, segment-past_records, segment-read}
-use Prim.Native.Nat.{◌+◌}
-use native.Mathlib.Omega.{arith}
 use Rattle.t2_read_segments.proofs.read_segment.Goals as goal
 
 pub overflow_cast-words : goal.overflow_cast-words
@@ -35,7 +33,8 @@ returns c =
     λ reports. segment-read s.args.src.now s.args.block s.args.at s.args.n
     (reading s.args.words.now reports s.args.records.now s.args.r) _
     c.field_width-width.ensures s.args.s
-    (decoded c.opj_bio_read-len.result) _
+    (decoded c.opj_bio_read-len.result) _ _
     c.if-width-gt32.false
     c.if-room-count.false s.requires.3
-    c.opj_bio_read-len.ensures c.put_record.ensures
+    c.opj_bio_read-len.ensures
+    c.put_record.ensures c.wrapping_add_u64-bytes.ensures.value

@@ -1,7 +1,4 @@
-use mathlib.Core.Path.{refl, sym, ◌∙◌}
-use mathlib.Core.List.{[]}
-use Prim.Native.Nat.{◌-◌}
-use native.Mathlib.Omega.{arith}
+use Rattle.std.proofs.Common.{◌-◌, [], sym, refl, ◌∙◌, arith}
 use Rattle.tcd_places.specs.Places.{block_at}
 use Rattle.t2_read_segments.specs.Reading.{reading}
 use Rattle.t2_read_segments.proofs.Laws.ManySegments.{has_room, taken_is, segment-leaves, segments_turn, segments_stop, no_segments}

@@ -1,6 +1,4 @@
-use mathlib.Core.Path.{◌≡◌}
-use Prim.Native.Nat.{ℕ, ◌≤◌}
-use lib.ListN.{length}
+use Rattle.std.proofs.Common.{◌≡◌, ℕ, ◌≤◌, length}
 use Rattle.tcd_places.specs.Places.{block_at}
 use Rattle.t2_read_segments.specs.Reading.{reading, WithAnyReports, next_segments, SegmentFits}
 use Rattle.t2_read_segments.proofs.read_segments.Given as goal

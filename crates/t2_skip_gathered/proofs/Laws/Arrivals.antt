@@ -19,7 +19,7 @@ use Rattle.tcd_laws.proofs.Laws.ValidStates.{blocks-of_valid}
 use Rattle.bits_taken.proofs.Laws.Taken.{takes_one, bit_few}
 use Rattle.bits_taken.proofs.Laws.BlockBits.{takes_bytes}
 use Rattle.past_end.proofs.SameBits.{Way, bits_to, of_decoded, same_bit}
-use Rattle.t2_within_segments.specs.declared.Run.{Run}
+use Rattle.t2_read_segments.specs.declared.Run.{Run}
 use Rattle.t2_skip_windows.specs.declared.InWindow.{InWindow}
 use Rattle.t2_skip_windows.specs.Windows.{most_of_block, Ahead, Stands, WindowOn, Somewhere, Skips}
 use Rattle.t2_skip_windows.proofs.Laws.Bytes.{into, agree_in}

@@ -20,7 +20,7 @@ use Rattle.t800.specs.Gathered.{Parts, without_sop, read_gathered, parts_in_row,
 use Rattle.t800_laws.proofs.Laws.Tests.{if-eq, if-ne, on-eq}
 use Rattle.t800_laws.proofs.Laws.Starts.{header_bytes_lem}
 use Rattle.tcd_laws.proofs.Laws.ValidStates.{blocks-of_valid}
-use Rattle.t2_within_segments.specs.Reading.{BitsIn}
+use Rattle.t2_read_segments.specs.Reading.{BitsIn}
 use Rattle.t2_skip_header.specs.declared.Skipped as Header
 use Rattle.t2_skip_packet.specs.declared.Skipped.{Skipped}
 use Rattle.t2_skip_packet.specs.Parts.{SkipsPacket, SkipsFrom, header_from}

@@ -1,7 +1,7 @@
 use mathlib.Core.Path.{ap, ◌∙◌}
 use Prim.Native.Nat.{ℕ}
 use Rattle.t800.specs.Bits.{Decoded}
-use Rattle.t2_within_segments.specs.declared.Run.{Run}
+use Rattle.t2_read_segments.specs.declared.Run.{Run}
 use Rattle.t2_skip_gathered.specs.declared.FirstBit.{FirstBit}
 use Rattle.t2_skip_gathered.proofs.first_bit.Goals as goal
 

@@ -8,8 +8,8 @@ use Rattle.t800.specs.State.{reader, end_of}
 use Rattle.tcd_laws.specs.Geometry.{AllUpTo64}
 use Rattle.tcd_laws.proofs.Laws.FirstWords.{first_bands}
 use Rattle.tcd_laws.proofs.Laws.ValidStates.{valid_state_lem, bands-inside, thirteen_words}
-use Rattle.t2_within_bands.specs.Bands.{BandsFit}
-use Rattle.t2_within_bands.proofs.Laws.ReadBands.{bands-fit}
+use Rattle.t2_read_bands.specs.Bands.{BandsFit}
+use Rattle.t2_read_bands.proofs.Laws.ReadBands.{bands-fit}
 use Rattle.t2_skip_gathered.proofs.Laws.Arrivals.{none_skipped, all_skipped}
 use Rattle.t2_skip_gathered.proofs.skip_after.Goals as goal
 

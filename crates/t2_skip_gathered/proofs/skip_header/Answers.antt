@@ -1,6 +1,6 @@
 use mathlib.Core.Path.{sym, ap, ◌∙◌, subst}
 use native.Mathlib.Omega.{arith}
-use Rattle.t2_within_segments.specs.declared.Run.{Run}
+use Rattle.t2_read_segments.specs.declared.Run.{Run}
 use Rattle.t2_skip_windows.specs.Windows.{WindowOn}
 use Rattle.t2_skip_gathered.specs.declared.FirstBit.{FirstBit}
 use Rattle.t2_skip_gathered.proofs.Laws.Arrivals.{bit_somewhere, refused-up_to, place_fits, filled-up_to}

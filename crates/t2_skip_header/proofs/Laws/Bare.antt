@@ -15,9 +15,9 @@ use Rattle.t800.specs.ReadHeader.{opens_segment, current_limit, current_passes, 
 use Rattle.t800_laws.proofs.Laws.Tests.{if-ge}
 use Rattle.lists.specs.Rows.{put_row}
 use Rattle.tgt_read.specs.Reading.{ValueAfter}
-use Rattle.t2_within_segments.specs.Reading.{Reading, stopped, moved_on, reported, recorded, next_segment, next_segments}
-use Rattle.t2_within_block_parts.specs.Blocks.{passes_read, segments_after, next_first, next_again, next_new, next_old, next_block, next_blocks}
-use Rattle.t2_within_header.specs.Header.{next_header}
+use Rattle.t2_read_segments.specs.Reading.{Reading, stopped, moved_on, reported, recorded, next_segment, next_segments}
+use Rattle.t2_read_block_parts.specs.Blocks.{passes_read, segments_after, next_first, next_again, next_new, next_old, next_block, next_blocks}
+use Rattle.t2_read_header.specs.Header.{next_header}
 
 -- the same with other reports and records
 abbrev with_lists : List ℕ → List ℕ → Reading → Reading

@@ -13,9 +13,9 @@ use Rattle.t800.specs.Ranges.{valid_state}
 use Rattle.t800.specs.ReadHeader.{HeaderRead, read_header}
 use Rattle.t800_laws.proofs.Laws.Starts.{header_bytes_lem}
 use Rattle.tcd_laws.proofs.Laws.ValidStates.{valid_state_lem, blocks-of_valid}
-use Rattle.t2_within_segments.specs.Reading.{Reading, reading, BitsIn}
-use Rattle.t2_within_header.specs.Header.{ReadsHeader, start_of, next_header}
-use Rattle.t2_within_header.proofs.Laws.HeaderEnd.{header_reads}
+use Rattle.t2_read_segments.specs.Reading.{Reading, reading, BitsIn}
+use Rattle.t2_read_header.specs.Header.{ReadsHeader, start_of, next_header}
+use Rattle.t2_read_header.proofs.Laws.HeaderEnd.{header_reads}
 use Rattle.t2_skip_header.specs.Skipping.{SkipsHeader}
 use Rattle.t2_skip_header.proofs.Laws.Bare.{bare, header_bare}
 

@@ -1,5 +1,5 @@
 use mathlib.Core.List.{[]}
-use Rattle.t2_within_segments.specs.Reading.{reading}
+use Rattle.t2_read_segments.specs.Reading.{reading}
 use Rattle.t2_skip_header.proofs.Laws.Skips.{skips}
 use Rattle.t2_skip_header.proofs.opj_t2_skip_packet_header.Goals as goal
 

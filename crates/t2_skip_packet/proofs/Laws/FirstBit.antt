@@ -8,7 +8,7 @@ use Rattle.t800.specs.Bits.{bio_at, get_bit}
 use Rattle.bits_taken.proofs.Laws.Taken.{takes_one, bit_few}
 use Rattle.bits_taken.proofs.Laws.Reached.{first_reached}
 use Rattle.bits_taken.proofs.Laws.Counting.{header_in_reach}
-use Rattle.t2_within_segments.specs.Reading.{BitsIn}
+use Rattle.t2_read_segments.specs.Reading.{BitsIn}
 
 pub first_in_lem : (src : List ℕ) (start : ℕ) → start ≤ length src → BitsIn src (get_bit src (bio_at start)).bio
 first_in_lem src start inside =

@@ -7,7 +7,7 @@ use Rattle.t800.specs.Bits.{Decoded}
 use Rattle.t800.specs.Reports.{body_bytes}
 use Rattle.t800.specs.ReadHeader.{HeaderRead}
 use Rattle.t800_laws.proofs.Laws.Tests.{if-eq, if-ne}
-use Rattle.t2_within_segments.specs.Reading.{BitsIn}
+use Rattle.t2_read_segments.specs.Reading.{BitsIn}
 use Rattle.t2_skip_header.specs.declared.Skipped as Header
 use Rattle.t2_skip_header.specs.Skipping.{SkipsHeader, whole_header}
 use Rattle.t2_skip_packet.specs.Parts.{SkipsFrom, header_from}

@@ -10,7 +10,7 @@ use Rattle.bio_read.specs.Reading.{decoded}
 use Rattle.tcd_laws.proofs.Laws.ValidStates.{valid_state_lem, thirteen_words}
 use Rattle.t2_read_marks.specs.Marks.{marker_read}
 use Rattle.t2_read_marks.proofs.Laws.Markers.{skip_inside}
-use Rattle.t2_within_segments.specs.Reading.{BitsIn}
+use Rattle.t2_read_segments.specs.Reading.{BitsIn}
 use Rattle.t2_skip_packet.proofs.Laws.FirstBit.{first_in_lem}
 use Rattle.t2_skip_packet.proofs.Laws.Parts.{layers_refused, header_refused, packet-skipped}
 use Rattle.t2_skip_packet.proofs.opj_t2_skip_packet.Goals as goal

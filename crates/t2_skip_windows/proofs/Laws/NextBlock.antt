@@ -12,10 +12,10 @@ use Rattle.t800_laws.proofs.Laws.Paths.{short_path}
 use Rattle.tcd_places.specs.Places.{BandIn}
 use Rattle.tcd_places.proofs.Laws.Before.{BlockBefore}
 use Rattle.tcd_places.proofs.Laws.BandBlocks.{tree_before, from_before}
-use Rattle.t2_within_segments.specs.declared.Run.{Run}
-use Rattle.t2_within_segments.specs.Reading.{Reading, reading, BitsIn}
-use Rattle.t2_within_block_parts.specs.Blocks.{next_block}
-use Rattle.t2_within_block_parts.proofs.Laws.Kept.{block_keeps}
+use Rattle.t2_read_segments.specs.declared.Run.{Run}
+use Rattle.t2_read_segments.specs.Reading.{Reading, reading, BitsIn}
+use Rattle.t2_read_block_parts.specs.Blocks.{next_block}
+use Rattle.t2_read_block_parts.proofs.Laws.Kept.{block_keeps}
 use Rattle.t2_skip_windows.specs.declared.InWindow.{InWindow}
 use Rattle.t2_skip_windows.specs.Windows.{Ahead, WindowOn, Somewhere, SkipsTo}
 use Rattle.t2_skip_windows.proofs.Laws.OneBlock.{InPlace}

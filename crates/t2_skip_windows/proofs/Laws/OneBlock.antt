@@ -22,9 +22,9 @@ use Rattle.past_end.proofs.SameBits.{Way, of_header, Stays}
 use Rattle.past_end.proofs.SameHeader.{block_stays}
 use Rattle.tcd_places.proofs.Laws.Before.{Before}
 use Rattle.t2_unpack_headers.specs.Windows.{window_of}
-use Rattle.t2_within_segments.specs.Reading.{Reading, held_by}
-use Rattle.t2_within_block_parts.specs.Blocks.{next_block}
-use Rattle.t2_within_block.proofs.Laws.Follows.{Apart, Ends, block_ends}
+use Rattle.t2_read_segments.specs.Reading.{Reading, held_by}
+use Rattle.t2_read_block_parts.specs.Blocks.{next_block}
+use Rattle.t2_read_block.proofs.Laws.Follows.{Apart, Ends, block_ends}
 use Rattle.t2_skip_header.proofs.Laws.Bare.{bare, block_bare}
 use Rattle.t2_skip_windows.specs.Windows.{window_bytes, most_of_block}
 use Rattle.t2_skip_windows.proofs.Laws.Bytes.{into, out, agree_in, agree_out}

@@ -15,9 +15,9 @@ use Rattle.t800_laws.proofs.Laws.Tests.{if-eq, if-ne, on-eq}
 use Rattle.t800_laws.proofs.Laws.Starts.{block_few}
 use Rattle.tcd_places.proofs.Laws.Before.{drop-later}
 use Rattle.t2_unpack_headers.specs.Windows.{window_of}
-use Rattle.t2_within_segments.specs.declared.Run.{Run}
-use Rattle.t2_within_segments.specs.Reading.{Reading, reading}
-use Rattle.t2_within_block_parts.specs.Blocks.{next_block}
+use Rattle.t2_read_segments.specs.declared.Run.{Run}
+use Rattle.t2_read_segments.specs.Reading.{Reading, reading}
+use Rattle.t2_read_block_parts.specs.Blocks.{next_block}
 use Rattle.t2_skip_windows.specs.declared.InWindow.{InWindow}
 use Rattle.t2_skip_windows.specs.Windows.{window_bytes, most_of_block, Ahead, Stands, Reads, Somewhere, Skips}
 use Rattle.t2_skip_windows.proofs.Laws.OneBlock.{InPlace, in_window, block_near, same_block, still_few, goes_forward, same_refusal}

@@ -3,7 +3,7 @@ use Prim.Native.Nat.{ℕ}
 use native.Mathlib.Omega.{arith}
 use lib.ListN.{length}
 use Rattle.t800.specs.PackedHeaders.{unpacked}
-use Rattle.t2_within_segments.specs.declared.Run.{Run}
+use Rattle.t2_read_segments.specs.declared.Run.{Run}
 use Rattle.t2_unpack_headers.proofs.Laws.Windows.{window_length}
 use Rattle.t2_skip_windows.specs.Windows.{run_at, window_bytes}
 use Rattle.t2_skip_windows.proofs.fill.Goals as goal

@@ -9,11 +9,11 @@ use Rattle.t800.specs.State.{Block, band_nodes, band_length, blocks_in}
 use Rattle.t800_laws.proofs.Laws.Layout.{band_length_lem}
 use Rattle.tcd_places.specs.declared.Grid.{Grid}
 use Rattle.tcd_places.specs.Places.{BandIn, band_blocks}
-use Rattle.t2_within_block.proofs.Laws.Rows.{block_fits}
+use Rattle.t2_read_block.proofs.Laws.Rows.{block_fits}
 use Rattle.t2_skip_windows.specs.declared.At.{At}
 use Rattle.t2_skip_windows.specs.Windows.{Somewhere, Skips}
 use Rattle.t2_skip_windows.proofs.Laws.Steps.{skips_none}
-use Rattle.t2_within_bands.proofs.Laws.ReadBlocks.{row_there, some_column}
+use Rattle.t2_read_bands.proofs.Laws.ReadBlocks.{row_there, some_column}
 use Rattle.t2_skip_windows.proofs.Laws.BandParts.{all_left, none_left}
 use Rattle.t2_skip_windows.proofs.Laws.BandParts.{blocks-on, blocks-stop, blocks-somewhere, blocks-after, blocks_end}
 use Rattle.t2_skip_windows.proofs.skip_band.Goals as goal

@@ -15,8 +15,8 @@ use Rattle.tcd_laws.specs.Geometry.{no_band, SidesUpTo64}
 use Rattle.tcd_laws.proofs.Laws.Bands.{next_band, no_more_bands, sides_of_first, blocks-up_to_4096, band_levels_at, end_turn}
 use Rattle.tcd_places.specs.declared.Grid.{Grid}
 use Rattle.tcd_places.specs.Places.{BandIn, band_blocks, grid_of}
-use Rattle.t2_within_bands.specs.Bands.{BandFits, BandsFit}
-use Rattle.t2_within_bands.proofs.Laws.ReadBands.{band_still_fits}
+use Rattle.t2_read_bands.specs.Bands.{BandFits, BandsFit}
+use Rattle.t2_read_bands.proofs.Laws.ReadBands.{band_still_fits}
 use Rattle.t2_skip_windows.specs.declared.InWindow.{InWindow}
 use Rattle.t2_skip_windows.specs.Windows.{Somewhere, Skips, SkipsTo}
 use Rattle.t2_skip_windows.proofs.Laws.Steps.{skips_none, after_then}

@@ -4,7 +4,7 @@ use Prim.Native.Nat.{ℕ, ◌-◌, ◌*◌, ◌≤◌}
 use lib.ListN.{length, take, drop}
 use Rattle.t800.specs.PackedHeaders.{unpacked}
 use Rattle.t800.specs.State.{blocks, blocks_at, end_of}
-use Rattle.t2_within_bands.specs.Bands.{BandsFit}
+use Rattle.t2_read_bands.specs.Bands.{BandsFit}
 use Rattle.t2_skip_windows.specs.declared.InWindow.{InWindow}
 use Rattle.t2_skip_windows.specs.Windows.{WindowOn, Somewhere, Skips}
 use Rattle.t2_skip_windows.proofs.skip_bands.Given as goal

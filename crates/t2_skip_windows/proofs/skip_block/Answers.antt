@@ -7,8 +7,8 @@ use lib.Dec.{eqb}
 use Rattle.t800.specs.declared.Band.{Band}
 use Rattle.t800.specs.State.{band_nodes, block_of, blocks_from}
 use Rattle.tcd_laws.proofs.Laws.Bands.{blocks-up_to_4096}
-use Rattle.t2_within_segments.specs.Reading.{Reading, reading, BlockFits, BlocksFit}
-use Rattle.t2_within_block_parts.specs.Blocks.{next_block, next_blocks}
+use Rattle.t2_read_segments.specs.Reading.{Reading, reading, BlockFits, BlocksFit}
+use Rattle.t2_read_block_parts.specs.Blocks.{next_block, next_blocks}
 use Rattle.t2_skip_header.proofs.Laws.Bare.{bare, block_bare}
 use Rattle.t2_skip_windows.proofs.skip_block.Goals as goal
 

@@ -19,10 +19,10 @@ use Rattle.tcd_places.specs.Places.{BandIn, RowIn, grid_of, block_in, place_at, 
 use Rattle.tcd_places.proofs.Laws.Before.{path_wider}
 use Rattle.tcd_places.proofs.Laws.BandBlocks.{from_before}
 use Rattle.tcd_places.proofs.Laws.BandRows.{row_counts, row_ends, row_in, row_is}
-use Rattle.t2_within_segments.specs.Reading.{Reading, BlockFits, BlocksFit}
-use Rattle.t2_within_block_parts.specs.Blocks.{next_blocks}
-use Rattle.t2_within_block_parts.proofs.Laws.Kept.{Keeps, blocks-keep}
-use Rattle.t2_within_block.proofs.Laws.Rows.{block_fits, keeps_later, blocks-then, blocks-refused}
+use Rattle.t2_read_segments.specs.Reading.{Reading, BlockFits, BlocksFit}
+use Rattle.t2_read_block_parts.specs.Blocks.{next_blocks}
+use Rattle.t2_read_block_parts.proofs.Laws.Kept.{Keeps, blocks-keep}
+use Rattle.t2_read_block.proofs.Laws.Rows.{block_fits, keeps_later, blocks-then, blocks-refused}
 
 -- the row of a block that is there
 pub row_there : (b : Band) (x y i end : ℕ) → i < end → end ≤ blocks_in b → i ≡ y * b.across + x → y < b.down

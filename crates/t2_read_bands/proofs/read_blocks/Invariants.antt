@@ -2,10 +2,10 @@ use mathlib.Core.Path.{◌≡◌}
 use Prim.Native.Nat.{◌+◌, ◌-◌, ◌*◌, ◌<◌, ◌≤◌}
 use lib.ListN.{length}
 use Rattle.t800.specs.State.{band_nodes, blocks_from}
-use Rattle.t2_within_segments.specs.Reading.{reading}
-use Rattle.t2_within_block_parts.specs.Blocks.{next_blocks}
-use Rattle.t2_within_block_parts.proofs.Laws.Kept.{Keeps}
-use Rattle.t2_within_bands.proofs.read_blocks.Given as goal
+use Rattle.t2_read_segments.specs.Reading.{reading}
+use Rattle.t2_read_block_parts.specs.Blocks.{next_blocks}
+use Rattle.t2_read_block_parts.proofs.Laws.Kept.{Keeps}
+use Rattle.t2_read_bands.proofs.read_blocks.Given as goal
 
 abbrev pub invariant-loop-at : goal.invariant-loop-at
 invariant-loop-at l =

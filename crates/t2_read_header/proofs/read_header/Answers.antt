@@ -13,14 +13,14 @@ use Rattle.bio_read_end.specs.declared.Aligned.{Aligned}
 use Rattle.bio_read_end.specs.HeaderEnd.{aligned_at}
 use Rattle.tcd_laws.proofs.Laws.FirstWords.{first_bands}
 use Rattle.tcd_laws.proofs.Laws.ValidStates.{valid_state_lem, bands-inside, thirteen_words}
-use Rattle.t2_within_segments.specs.declared.Run.{Run}
-use Rattle.t2_within_segments.specs.Reading.{Reading, reading, BitsIn}
-use Rattle.t2_within_block_parts.specs.Blocks.{next_blocks}
-use Rattle.t2_within_bands.specs.Bands.{BandsFit}
-use Rattle.t2_within_bands.proofs.Laws.ReadBands.{bands-fit}
-use Rattle.t2_within_header.specs.Header.{start_of}
-use Rattle.t2_within_header.proofs.Laws.HeaderEnd.{bits_in, header_refused, header_done, header_cut}
-use Rattle.t2_within_header.proofs.read_header.Goals as goal
+use Rattle.t2_read_segments.specs.declared.Run.{Run}
+use Rattle.t2_read_segments.specs.Reading.{Reading, reading, BitsIn}
+use Rattle.t2_read_block_parts.specs.Blocks.{next_blocks}
+use Rattle.t2_read_bands.specs.Bands.{BandsFit}
+use Rattle.t2_read_bands.proofs.Laws.ReadBands.{bands-fit}
+use Rattle.t2_read_header.specs.Header.{start_of}
+use Rattle.t2_read_header.proofs.Laws.HeaderEnd.{bits_in, header_refused, header_done, header_cut}
+use Rattle.t2_read_header.proofs.read_header.Goals as goal
 
 -- what `ok` says of the last byte
 

@@ -1,2 +1,0 @@
-pub mod ReadBlocks
-pub mod ReadBands

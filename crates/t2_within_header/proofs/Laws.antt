@@ -1,2 +1,0 @@
-pub mod BandBlocks
-pub mod HeaderEnd

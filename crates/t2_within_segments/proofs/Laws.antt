@@ -1,2 +1,0 @@
-pub mod OneSegment
-pub mod ManySegments

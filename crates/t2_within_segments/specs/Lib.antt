@@ -1,2 +1,0 @@
-pub mod Segments
-pub mod Reading
