@@ -39,15 +39,13 @@ fn code_blocks(
         (running words.old out.old r) }
 {
     let mut run = r;
-    let mut y: usize = 0;
-    while y < tcd_places::rows(band) {
+    for y in 0..tcd_places::rows(band) {
         let mut row = [0usize; 7];
         tgt::opj_tgt_row(tree, g.depth, y, &mut row);
         let place = tcd_places::row_place(g, y);
         run = t2_write_block::code_row(
             codes, words, out, run, place, g.w, &row, layer, counts, lengths, marks,
         );
-        y += 1;
     }
     run
 }
@@ -109,15 +107,12 @@ pub fn code_bands(
         pass: 0,
     };
     let mut start: usize = 13;
-    let mut i: usize = 0;
-    while i < n {
-        let band = bands[i];
-        let g = tcd_places::grid_of(band, start);
+    for (band, tree) in bands[..n].iter().zip(&trees) {
+        let g = tcd_places::grid_of(*band, start);
         run = code_band(
-            codes, words, out, run, band, trees[i], g, layer, counts, lengths, marks,
+            codes, words, out, run, *band, *tree, g, layer, counts, lengths, marks,
         );
-        start = tcd_places::grid_end(band, g);
-        i += 1;
+        start = tcd_places::grid_end(*band, g);
     }
     run.bio
 }

@@ -1,5 +1,5 @@
 use mathlib.Core.Path.{◌≡◌}
-use Prim.Native.Nat.{◌+◌, ◌-◌, ◌≤◌}
+use Prim.Native.Nat.{◌+◌}
 use lib.ListN.{length, take, drop}
 use Rattle.t800.specs.State.{blocks_at, end_of}
 use Rattle.bio_bytes.specs.Writing.{FreeBitsClear}
@@ -7,18 +7,13 @@ use Rattle.t2_write_block.specs.Runs.{running, AllFit}
 use Rattle.t2_write_bands.specs.Bands.{code_bands}
 use Rattle.t2_write_bands.proofs.code_bands.Given as goal
 
-abbrev pub invariant-loop-i : goal.invariant-loop-i
-invariant-loop-i l =
-    (l.i ≤ l.n)
-    × (FreeBitsClear l.run.bio)
+abbrev pub invariant-loop-band : goal.invariant-loop-band
+invariant-loop-band l =
+    (FreeBitsClear l.run.bio)
     × (length l.words ≡ length l.initial.words)
     × (length l.out ≡ length l.initial.out)
-    × (end_of l.start (drop l.i (take l.n l.bands)) ≡ length l.initial.words)
-    × (l.run.block + length (blocks_at l.start (drop l.i (take l.n l.bands))) ≡ length l.counts)
-    × (AllFit l.counts l.lengths l.marks l.words (blocks_at l.start (drop l.i (take l.n l.bands))) l.run.block l.run.pass)
-    × (code_bands l.layer l.counts l.lengths l.marks l.start (drop l.i (take l.n l.bands)) (running l.words l.out l.run)
-    ≡ code_bands l.layer l.counts l.lengths l.marks 13 (take l.n l.bands) (running l.initial.words l.initial.out l.initial.run))
-    × (length l.bands ≡ 3)
-
-abbrev pub decreases-loop-i : goal.decreases-loop-i
-decreases-loop-i l = l.n - l.i
+    × (end_of l.start (drop (length l.yielded) (take l.fn.n l.fn.bands)) ≡ length l.initial.words)
+    × (l.run.block + length (blocks_at l.start (drop (length l.yielded) (take l.fn.n l.fn.bands))) ≡ length l.counts)
+    × (AllFit l.counts l.lengths l.marks l.words (blocks_at l.start (drop (length l.yielded) (take l.fn.n l.fn.bands))) l.run.block l.run.pass)
+    × (code_bands l.layer l.counts l.lengths l.marks l.start (drop (length l.yielded) (take l.fn.n l.fn.bands)) (running l.words l.out l.run)
+    ≡ code_bands l.layer l.counts l.lengths l.marks 13 (take l.fn.n l.fn.bands) (running l.initial.words l.initial.out l.initial.run))

@@ -24,7 +24,6 @@ loop-y-init c =
       s.requires.1,
       refl,
       refl,
-      omega arith,
       subst (λ (ks : List Block). AllFit a.counts.now a.lengths.now a.marks.now a.words.now ks a.r.block
           a.r.pass) (sym e) s.requires.6,
       ap (λ (ks : List Block). code_all a.layer a.counts.now a.lengths.now a.marks.now ks
@@ -39,7 +38,7 @@ opj_tgt_row-requires c =
     let m = small (length a.words.now) a.g.start a.band s.requires.2 in (
       subst (λ (ls : List Level). SmallLevels ls a.g.depth) (sym s.requires.4)
           (subst (SmallLevels (padded (levels a.band.across a.band.down))) (sym (ap (λ (k : Grid). k.depth) ge)) m),
-      omega (arith, c.loop-y.invariant.3, s.requires.2.sides.1),
+      omega (arith, c.loop-y-test.true, c.rows-y-end.ensures, s.requires.2.sides.1),
       refl,
     )
 
@@ -48,7 +47,7 @@ row_place-place-requires c =
     let s = c in
     let a = s.args in
     let l = c.loop-y in
-    let t : l.y < a.band.down = subst (λ (k : ℕ). l.y < k) c.rows.ensures c.loop-y-test.true in
+    let t : l.y < a.band.down = subst (λ (k : ℕ). l.y < k) c.rows-y-end.ensures c.loop-y-test.true in
     let ends = row_ends (length a.words.now) a.g.start a.band s.requires.2 l.y t in
     subst (λ (k : Grid). (k.w ≤ 64) × (l.y ≤ 64) × (k.start + 6 * k.nodes + 4 * (l.y * k.w) < 9223372036854775808)) (sym s.requires.3)
     (s.requires.2.sides.0, omega (arith, s.requires.2.sides.1), omega (arith, ends))
@@ -60,7 +59,7 @@ code_row-run-requires c =
     let l = c.loop-y in
     let ge = s.requires.3 in
     let t : l.y < a.band.down =
-    subst (λ (k : ℕ). l.y < k) c.rows.ensures
+    subst (λ (k : ℕ). l.y < k) c.rows-y-end.ensures
     c.loop-y-test.true in
     let ep = c.row_place-place.ensures ∙ ap (λ (k : Grid). row_place k l.y) ge in
     let er = c.opj_tgt_row.ensures ∙ (λ i. row_over (s.requires.4 i) (ge i).depth l.y) in
@@ -76,22 +75,8 @@ code_row-run-requires c =
           (λ p r n. AllFit a.counts.now a.lengths.now a.marks.now l.words (row_blocks p r 0 n 0) l.run.block
           l.run.pass) _ _ _ ep er ew
           (row_fits (length l.words) a.g.start a.band b l.y t a.layer a.counts.now a.lengths.now
-          a.marks.now u l.invariant.4),
+          a.marks.now u l.invariant.3),
     )
-
-pub overflow_add-y : goal.overflow_add-y
-overflow_add-y c = omega (
-  arith,
-  c.loop-y.invariant.3,
-  c.requires.2.sides.1,
-)
-
-pub loop-y-smaller : goal.loop-y-smaller
-loop-y-smaller c = omega (
-  arith,
-  c.rows.ensures,
-  c.loop-y-test.true,
-)
 
 pub loop-y-preserved : goal.loop-y-preserved
 loop-y-preserved c =
@@ -101,7 +86,7 @@ loop-y-preserved c =
     let ge = s.requires.3 in
     let t : l.y < a.band.down =
     subst (λ (k : ℕ). l.y < k)
-    c.rows.ensures
+    c.rows-y-end.ensures
     c.loop-y-test.true in
     let ep = c.row_place-place.ensures
     ∙ ap (λ (k : Grid). row_place k l.y) ge in
@@ -117,18 +102,11 @@ loop-y-preserved c =
           (all_clear a.layer a.counts.now a.lengths.now a.marks.now _ u l.invariant.0),
       g.auto.words ∙ l.invariant.1,
       g.auto.out ∙ l.invariant.2,
-      omega (arith, t),
       left_fit (length l.words) a.g.start a.band b l.y t a.layer a.counts.now a.lengths.now a.marks.now
-          u l.invariant.4 _ e,
+          u l.invariant.3 _ e,
       left_coded (length l.words) a.g.start a.band b l.y t a.layer a.counts.now a.lengths.now
-          a.marks.now u l.invariant.4 _ e ∙ l.invariant.5,
+          a.marks.now u l.invariant.3 _ e ∙ l.invariant.4,
     )
-
-pub shape_of-words : goal.shape_of-words
-shape_of-words c = c.loop-y.invariant.1
-
-pub shape_of-out : goal.shape_of-out
-shape_of-out c = c.loop-y.invariant.2
 
 pub returns : goal.returns
 unfolding code_all
@@ -136,8 +114,8 @@ returns c =
     let s = c in
     let a = s.args in
     let l = c.loop-y in
-    let d : a.band.down ≤ l.y = subst (λ (k : ℕ). k ≤ l.y) c.rows.ensures c.loop-y-test.false in
+    let d : a.band.down ≤ l.y = subst (λ (k : ℕ). k ≤ l.y) c.rows-y-end.ensures c.loop-y-test.false in
     sym
     (ap (λ (ks : List Block). code_all a.layer a.counts.now a.lengths.now a.marks.now ks
     (running l.words l.out l.run)) (none_left (length a.words.now) a.g.start a.band s.requires.2 l.y d))
-    ∙ l.invariant.5
+    ∙ l.invariant.4

@@ -1,5 +1,5 @@
 use mathlib.Core.Path.{◌≡◌}
-use Prim.Native.Nat.{◌-◌, ◌*◌, ◌≤◌}
+use Prim.Native.Nat.{◌-◌, ◌*◌}
 use lib.ListN.{length}
 use Rattle.t800.specs.State.{blocks_from}
 use Rattle.bio_bytes.specs.Writing.{FreeBitsClear}
@@ -12,11 +12,7 @@ invariant-loop-y l =
     (FreeBitsClear l.run.bio)
     × (length l.words ≡ length l.initial.words)
     × (length l.out ≡ length l.initial.out)
-    × (l.y ≤ l.band.down)
-    × (AllFit l.counts l.lengths l.marks l.words (blocks_from l.g.start l.band (l.band.across * (l.band.down - l.y)) (l.y * l.band.across))
+    × (AllFit l.counts l.lengths l.marks l.words (blocks_from l.g.start l.fn.band (l.fn.band.across * (l.fn.band.down - l.y)) (l.y * l.fn.band.across))
     l.run.block l.run.pass)
-    × (code_all l.layer l.counts l.lengths l.marks (blocks_from l.g.start l.band (l.band.across * (l.band.down - l.y)) (l.y * l.band.across))
-    (running l.words l.out l.run) ≡ code_all l.layer l.counts l.lengths l.marks (band_blocks l.g.start l.band) (running l.initial.words l.initial.out l.initial.run))
-
-abbrev pub decreases-loop-y : goal.decreases-loop-y
-decreases-loop-y l = l.band.down - l.y
+    × (code_all l.layer l.counts l.lengths l.marks (blocks_from l.g.start l.fn.band (l.fn.band.across * (l.fn.band.down - l.y)) (l.y * l.fn.band.across))
+    (running l.words l.out l.run) ≡ code_all l.layer l.counts l.lengths l.marks (band_blocks l.g.start l.fn.band) (running l.initial.words l.initial.out l.initial.run))
