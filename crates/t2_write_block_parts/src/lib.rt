@@ -1,7 +1,7 @@
 // The parts of a block in a packet header (opj_t2_encode_packet of t2.rs): its inclusion, its zero planes, its passes and their lengths.
 #![tactic(auto)]
 
-ghost use Rattle.std.specs.Prelude.{◌≡◌, cond, ◌+◌, ◌<◌, ◌≤◌, T, ltb, length, get_or};
+ghost use Rattle.std.specs.Prelude.{◌≡◌, ◌+◌, ◌<◌, ◌≤◌, T, length, get_or};
 ghost use Rattle.t800.specs.WriteHeader.{code_inclusion, code_zero_planes, code_passes};
 ghost use Rattle.t800.specs.Segments.{segments_of};
 ghost use Rattle.bio_bytes.specs.Writing.{output, FreeBitsClear};
@@ -38,12 +38,6 @@ pub fn code_passes(
     r.bio
 }
 
-fn included(count: u32) -> u32
-    ensures { result ≡ cond (ltb 0 count) 1 0 }
-{
-    if 0 < count { 1 } else { 0 }
-}
-
 // By tree until first included, then one bit.
 pub fn code_inclusion(
     words: &mut [u32],
@@ -62,8 +56,7 @@ pub fn code_inclusion(
     if words[at] == 0 {
         return tgt_write::opj_tgt_encode(words, out, b, p.incl, row, p.depth, p.x, layer + 1);
     }
-    let bit = included(count);
-    bio_write_lent::bit_out(out, b, bit)
+    bio_write_lent::bit_out(out, b, u32::from(0 < count))
 }
 
 // At first inclusion.

@@ -30,9 +30,6 @@ pub bounds-words-at-3 : goal.bounds-words-at-3
 bounds-words-at-3 c =
     omega (arith, c.requires.2)
 
-pub overflow_add-passes : goal.overflow_add-passes
-overflow_add-passes c = omega (arith, c.requires.4.sum)
-
 pub bounds-words-at-4 : goal.bounds-words-at-4
 bounds-words-at-4 c =
     omega (arith, c.requires.2)
@@ -41,12 +38,6 @@ pub bounds-words-at-5 : goal.bounds-words-at-5
 bounds-words-at-5 c =
     simp length-set (omega
     (arith, c.requires.2))
-
-pub shape_of-words : goal.shape_of-words
-shape_of-words c = simp length-set
-
-pub shape_of-out : goal.shape_of-out
-shape_of-out c = c.put_lengths-r.auto.out
 
 pub returns : goal.returns
 unfolding length_bits_before is_new

@@ -8,21 +8,12 @@ use Rattle.tcd_places.proofs.Laws.Before.{path_wider}
 use Rattle.t2_write_block_parts.proofs.Laws.Branches.{planes_new, planes_old}
 use Rattle.t2_write_block_parts.proofs.code_zero_planes.Goals as goal
 
-pub bounds-words-at : goal.bounds-words-at
-bounds-words-at c = omega (arith, c.requires.1.inside)
-
 pub opj_tgt_encode-requires : goal.opj_tgt_encode-requires
 opj_tgt_encode-requires c = let s = c in (
   s.requires.0,
   path_wider s.args.p.at (length s.args.words.now) _ _ _ _ (omega (arith, s.requires.1.inside))
       s.requires.1.zero,
 )
-
-pub shape_of-words-then-words-at-eq0 : goal.shape_of-words-then-words-at-eq0
-shape_of-words-then-words-at-eq0 c = c.opj_tgt_encode.auto.words
-
-pub shape_of-out-then-words-at-eq0 : goal.shape_of-out-then-words-at-eq0
-shape_of-out-then-words-at-eq0 c = c.opj_tgt_encode.auto.out
 
 pub returns-then-words-at-eq0 : goal.returns-then-words-at-eq0
 returns-then-words-at-eq0 c =
