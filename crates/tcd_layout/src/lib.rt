@@ -2,7 +2,7 @@
 #![tactic(auto)]
 
 ghost use Rattle.std.specs.Prelude.{◌≡◌, ◌≤◌, length, take};
-ghost use Rattle.t800.specs.State.{blocks_in, band_nodes, band_length, end_of, state_length, blocks};
+ghost use Rattle.t800.specs.State.{blocks_in, band_nodes, band_length, state_length, blocks};
 ghost use Rattle.tcd_laws.specs.Geometry.{SidesUpTo64, AllUpTo64};
 
 use t800::Band;
@@ -28,23 +28,16 @@ pub fn band_length(band: Band) -> usize
     6 * band_nodes(band) + 4 * band_blocks(band)
 }
 
-// Where the words of band n begin, which is where those of the bands before it end.
-pub fn band_start(bands: [Band; 3], n: usize) -> usize
+// The words of a state, which is where those of band n begin in a longer one.
+pub fn state_length(bands: [Band; 3], n: usize) -> usize
     requires { (n ≤ 3) × AllUpTo64 (take n bands) }
-    ensures { result ≡ end_of 13 (take n bands) }
+    ensures { result ≡ state_length (take n bands) }
 {
     let mut at = 13;
     for band in &bands[..n] {
         at += band_length(*band);
     }
     at
-}
-
-pub fn state_length(bands: [Band; 3], n: usize) -> usize
-    requires { (n ≤ 3) × AllUpTo64 (take n bands) }
-    ensures { result ≡ state_length (take n bands) }
-{
-    band_start(bands, n)
 }
 
 // The blocks of the first n bands.
