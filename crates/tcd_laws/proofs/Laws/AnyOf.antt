@@ -1,11 +1,12 @@
 -- A test of some entry of a list, entry by entry from the front.
 use mathlib.Core.Path.{◌≡◌, refl}
 use mathlib.Core.Bool.{Bool, true, false, not, ◌||◌}
-use mathlib.Core.List.{List, [], ◌∷◌, ◌++◌}
+use mathlib.Core.List.{List, [], ◌∷◌}
 use Prim.Native.Nat.{ℕ, ◌+◌, ◌≤◌, ◌<◌}
-use native.Mathlib.Numerals.{add-one}
 use lib.ListN.{length, get_or, take}
-use lib.Seq.{take-suc, take_all}
+use lib.Seq.{take_all}
+use Rattle.std.specs.List.{list_any}
+use Rattle.std.proofs.lemmas.List.Folds.{list_any_more}
 use lib.Bits.{bit_or}
 use lib.Dec.{eqb, ltb, leb}
 use borrow.Author.Tests.{lt-ltb, le-ltb, le-leb, lt-leb}
@@ -23,18 +24,11 @@ module _ {ℓ} {A : Type ℓ} (f : A → Bool) where
   unfolding any
   any_later l x xs e h = rw (e, h)
 
-  any_and_one : (xs : List A) (x : A) → any f (xs ++ (x ∷ [])) ≡ (any f xs || f x)
-  unfolding any
-  any_and_one [] x = either_way (f x)
-    where
-      either_way : (t : Bool) → (t || false) ≡ t
-      either_way true = refl
-      either_way false = refl
-  any_and_one (y ∷ xs) x = rw (any_and_one xs x) (regroup (f y) (any f xs) (f x))
-    where
-      regroup : (a b c : Bool) → (a || (b || c)) ≡ ((a || b) || c)
-      regroup true b c = refl
-      regroup false b c = refl
+-- the definition is std's
+pub any_is_list_any : {A : Type 0} (f : A → Bool) (l : List A) → any f l ≡ list_any f l
+unfolding any
+any_is_list_any f [] = refl
+any_is_list_any f (x ∷ xs) = rw (any_is_list_any f xs)
 
 pub at_most_or_over : (x most : ℕ) → leb x most ≡ not (ltb most x)
 at_most_or_over x most = on-lt most x (λ h. simp (lt-leb x most h, lt-ltb most x h)) (λ h. simp (le-leb x most h, le-ltb most x h))
@@ -51,11 +45,10 @@ module _ (most : ℕ) (l : List ℕ) where
       ≡ fault (leb (get_or l i 0) most)
       → bit_or faults m ≡ fault (not (any (λ x. ltb most x) (take (i + 1) l)))
   over_turn i faults m h p q =
+      let f : ℕ → Bool = λ x. ltb most x in
       let x : ℕ = get_or l i 0 in
-      let e : any (λ x. ltb most x) (take (i + 1) l)
-      ≡ (any (λ x. ltb most x) (take i l) || ltb most x) =
-      rw (add-one, take-suc l i 0 h) (any_and_one (λ x. ltb most x) (take i l) x) in
-      rw (p, q, at_most_or_over x most, e) (none_over (any (λ x. ltb most x) (take i l)) (ltb most x))
+      let e : any f (take (i + 1) l) ≡ (any f (take i l) || f x) = simp (any_is_list_any f) (list_any_more f l i 0 h) in
+      rw (p, q, at_most_or_over x most, e) (none_over (any f (take i l)) (f x))
 
   pub over_end : (i faults : ℕ) → length l ≤ i → faults ≡ fault (not (any (λ x. ltb most x) (take i l))) → not (eqb faults 0)
       ≡ any (λ x. ltb most x) l

@@ -1,17 +1,15 @@
 -- Refusal 4 of blocks, band by band: the planes of a band's blocks lie after those of the bands before it.
-use mathlib.Core.Path.{◌≡◌, refl, sym, ap, ap₂, ◌∙◌}
+use mathlib.Core.Path.{◌≡◌, refl, sym, ap, ◌∙◌}
 use mathlib.Core.Bool.{Bool, true, false, ◌||◌}
 use mathlib.Core.List.{List, [], ◌∷◌, ◌++◌}
-use Prim.Native.Nat.{ℕ, zero, suc, ◌+◌, ◌-◌, min}
-use native.Mathlib.Omega.{arith}
-use lib.ListN.{length, take, drop, length-drop, drop_of_length-le}
-use lib.Seq.{take_all, drop-drop}
+use Prim.Native.Nat.{ℕ, zero, suc, ◌+◌, min}
+use lib.ListN.{length, take, drop}
+use Rattle.std.proofs.lemmas.List.{drop_min, take_min}
 use lib.Dec.{ltb}
 use Rattle.t800.specs.declared.Band.{Band}
 use Rattle.t800.specs.Base.{any}
 use Rattle.t800.specs.State.{Block, blocks_in, band_length, blocks_from, blocks_at, blocks}
 use Rattle.t800.specs.Ranges.{block_too_deep}
-use Rattle.t800_laws.proofs.Laws.Tests.{on-le}
 use Rattle.t800_laws.proofs.Laws.Lists.{none_too_deep}
 
 -- what stands for the definition while the bands are gone through: the planes that are left, for the bands that are left
@@ -44,32 +42,8 @@ pub deep_is : (bs : List Band) (ps : List ℕ) → deep_from bs ps ≡ block_too
 unfolding blocks
 deep_is bs ps = sym (deep_at 13 bs ps)
 
--- at most as many as there are
-take-as_many : (n : ℕ) (l : List ℕ) → take (min n (length l)) l ≡ take n l
-take-as_many n l =
-    on-le n (length l) (λ h. let e : min n (length l) ≡ n = omega arith in rw e)
-    (λ h. let e : min n (length l)
-    ≡ length l = omega arith in rw e (take_all (length l) l (omega arith) ∙ sym (take_all n l (omega arith))))
-
-drop-as_many : (n : ℕ) (l : List ℕ) → drop (min n (length l)) l ≡ drop n l
-drop-as_many n l =
-    on-le n (length l) (λ h. let e : min n (length l) ≡ n = omega arith in rw e)
-    (λ h. let e : min n (length l)
-    ≡ length l = omega arith in
-    rw e (drop_of_length-le l {i = length l} (omega arith) ∙ sym (drop_of_length-le l {i = n} (omega arith))))
-
--- one band more, whose blocks' planes stand from `from` on up to `to`
-pub deep_turn : (l : List Band) (b : Band) (bs : List Band) (ps : List ℕ) (from to : ℕ) (t : Bool) → l ≡ b ∷ bs → to
-    ≡ from + min (blocks_in b) (length ps - from)
-    → t ≡ any (λ p. ltb b.planes p) (take (to - from) (drop from ps)) → deep_from l (drop from ps) ≡ (t || deep_from bs (drop to ps))
+-- one band more: the planes of its blocks are the first n that are left
+pub deep_turn : (l : List Band) (b : Band) (bs : List Band) (ps : List ℕ) (n : ℕ) (t : Bool) → l ≡ b ∷ bs → n ≡ min (blocks_in b) (length ps)
+    → t ≡ any (λ p. ltb b.planes p) (take n ps) → deep_from l ps ≡ (t || deep_from bs (drop n ps))
 unfolding deep_from
-deep_turn l b bs ps from to t e w a =
-    let rest : List ℕ = drop from ps in
-    let n : length rest ≡ length ps - from = length-drop from ps in
-    let w₁ : to - from ≡ min (blocks_in b) (length rest) = omega arith in
-    let w₂ : to ≡ from + min (blocks_in b) (length rest) = omega arith in
-    ap (λ (k : List Band). deep_from k rest) e
-    ∙ ap₂ (λ (x y : List ℕ). any (λ p. ltb b.planes p) x || deep_from bs y)
-    (sym (take-as_many (blocks_in b) rest) ∙ ap (λ (k : ℕ). take k rest) (sym w₁))
-    (sym (drop-as_many (blocks_in b) rest) ∙ drop-drop (min (blocks_in b) (length rest)) from ps ∙ ap (λ (k : ℕ). drop k ps) (sym w₂))
-    ∙ ap (λ (x : Bool). x || deep_from bs (drop to ps)) (sym a)
+deep_turn l b bs ps n t e w a = rw (e, a, w, take_min (blocks_in b) ps, drop_min (blocks_in b) ps)
