@@ -85,8 +85,8 @@ pub fn gather_packets(
         bodies.old scratch.new headers.new bodies.new result }
 {
     let mut starts = [0usize; 256];
-    let c = tcd_states::count_states(states);
-    let stride = tcd_states::index_states(states, c.count, &mut starts);
+    let count = tcd_states::count_states(states).unwrap();
+    let stride = tcd_states::index_states(states, count, &mut starts);
     gather_places(
         row, states, &starts, stride, scratch, places, m, headers, bodies,
     )

@@ -78,10 +78,9 @@ fn in_front(states: &[u32], counts: &[u32], lengths: &[u32], marks: &[u8], bodie
     ensures { FrontIs states.now (contribution counts.now lengths.now marks.now)
         bodies result }
 {
-    let words = tcd_state::state_in_front(tcd_style::WRITER, states);
-    if words == 0 {
+    let Some(words) = tcd_state::state_in_front(tcd_style::WRITER, states) else {
         return refused(Refusal::STATE);
-    }
+    };
     let lists = lists_of(states, counts, lengths.len(), marks.len());
     let b = lists.counts;
     let l = lists.lengths;

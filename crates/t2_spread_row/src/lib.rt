@@ -118,8 +118,8 @@ pub fn spread_packets(
         row.old scratch.new row.new result }
 {
     let mut starts = [0usize; 256];
-    let c = tcd_states::count_states(states);
-    let stride = tcd_states::index_states(states, c.count, &mut starts);
+    let count = tcd_states::count_states(states).unwrap();
+    let stride = tcd_states::index_states(states, count, &mut starts);
     let mut window = [0u8; WINDOW];
     t2_skip_windows::fill_from(segments, &mut window, 0);
     spread_places(

@@ -1,10 +1,9 @@
 -- States of readers behind one another: how many there are, where each begins, and an index of that.
-use Rattle.std.specs.Prelude.{◌≡◌, Bool, true, false, cond, not, List, map, ℕ, ◌+◌, ◌-◌, ◌*◌, ◌≤◌, ◌<◌, length, get_or, take, drop}
+use Rattle.std.specs.Prelude.{◌≡◌, Bool, true, cond, not, Option, None, Some, List, map, ℕ, ◌+◌, ◌-◌, ◌*◌, ◌≤◌, ◌<◌, length, get_or, take, drop}
 use Rattle.t800.specs.Base.{Words, any, sum}
 use Rattle.t800.specs.State.{reader}
 use Rattle.t800.specs.Ranges.{valid_state}
 use Rattle.t800.specs.Gathered.{state_at}
-use Rattle.tcd_states.specs.declared.Counted.{Counted}
 use Rattle.tcd_states.specs.declared.Found.{Found}
 
 -- where the state at a place begins; from the number of states on, where the last one ends
@@ -20,8 +19,8 @@ pub record AllValid (ss : List Words) : Type 0 where
   pub valid_at : (place : ℕ) → place < length ss → valid_state reader (state_at ss place) (length (state_at ss place)) ≡ true
 
 -- how many there are, if all are valid
-unfoldable pub counted : List Words → Counted
-counted ss = cond (any_out_of_range ss) (record { ok = false; count = 0 }) (record { ok = true; count = length ss })
+unfoldable pub counted : List Words → Option ℕ
+counted ss = cond (any_out_of_range ss) None (Some (length ss))
 
 -- entry i is where the state at place i × stride begins, and there are entries enough for all states
 pub record Indexed (ss : List Words) (stride : ℕ) (starts : List ℕ) : Type 0 where

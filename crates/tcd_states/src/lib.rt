@@ -1,17 +1,10 @@
 // States of readers behind one another in one list: how many, whether in range, and where each begins.
 #![tactic(auto)]
 
-ghost use Rattle.std.specs.Prelude.{◌≡◌, not, ◌*◌, ◌≤◌, ◌<◌, length, leb};
-ghost use Rattle.t800.specs.Base.{any};
+ghost use Rattle.std.specs.Prelude.{◌≡◌, not, ◌*◌, ◌≤◌, ◌<◌, length, nat_lt};
+ghost use Rattle.std.specs.List.{list_all};
 ghost use Rattle.t800.specs.Gathered.{states_in, bad_states, state_at};
 ghost use Rattle.tcd_states.specs.States.{start_of, AllValid, counted, Indexed};
-
-// How many states there are; 0 where one is out of range.
-#[derive(Clone, Copy)]
-pub struct Counted {
-    pub ok: bool,
-    pub count: usize,
-}
 
 // Where a state begins, and how many words it has.
 #[derive(Clone, Copy)]
@@ -22,37 +15,25 @@ pub struct Found {
 
 // ---- whether refusal 5 is given
 
-pub fn count_states(states: &[u32]) -> Counted
+// How many states there are; `None` where one is out of range.
+pub fn count_states(states: &[u32]) -> Option<usize>
     ensures { result ≡ counted (states_in states.now) }
 {
     let mut at: usize = 0;
     let mut count: usize = 0;
     while at < states.len() {
-        let words = tcd_state::state_in_front(tcd_style::READER, &states[at..]);
-        if words == 0 {
-            return Counted {
-                ok: false,
-                count: 0,
-            };
-        }
+        let words = tcd_state::state_in_front(tcd_style::READER, &states[at..])?;
         at += words;
         count += 1;
     }
-    Counted { ok: true, count }
+    Some(count)
 }
 
 // Whether there is a state at each of these places.
 fn places_in(places: &[u32], count: usize) -> bool
-    ensures { result ≡ not (any (λ place. leb count place) places.now) }
+    ensures { result ≡ list_all (λ place. nat_lt place count) places.now }
 {
-    let mut i: usize = 0;
-    while i < places.len() {
-        if count <= places[i] as usize {
-            return false;
-        }
-        i += 1;
-    }
-    true
+    places.iter().all(|&place| (place as usize) < count)
 }
 
 pub fn states_fit(states: &[u32], scratch_len: usize, places: &[u32]) -> bool
@@ -61,11 +42,10 @@ pub fn states_fit(states: &[u32], scratch_len: usize, places: &[u32]) -> bool
     if scratch_len != states.len() {
         return false;
     }
-    let counted = count_states(states);
-    if !counted.ok {
+    let Some(count) = count_states(states) else {
         return false;
-    }
-    places_in(places, counted.count)
+    };
+    places_in(places, count)
 }
 
 // ---- where each begins

@@ -3,30 +3,33 @@ use mathlib.Core.Path.{◌∙◌, ◌≡◌, ap, sym}
 use native.Mathlib.Omega.{arith}
 use Rattle.t800.specs.State.{writer}
 use Rattle.t800.specs.WriteHeader.{contribution}
-use Rattle.tcd_state.proofs.Laws.Front.{valid_in_front}
+use Rattle.tcd_state.specs.Front.{words_in_front}
+use Rattle.tcd_state.proofs.Laws.Front.{no_words, some_words, valid_in_front}
 use Rattle.t2_layer_parts.specs.declared.Lists.{Lists}
 use Rattle.t2_layer_parts.proofs.Laws.Front.{valid_part, counts_add_up, why_is, front-state_refused}
 use Rattle.t2_layer_parts.proofs.Laws.Front.{front-refused, refused-front, body_refused_front, accepted_front, lengths_few}
 use Rattle.t2_layer_parts.proofs.in_front.Goals as goal
 
-pub returns-then-words-eq0 : goal.returns-then-words-eq0
+pub returns-in_default : goal.returns-in_default
 unfolding writer
-returns-then-words-eq0 c =
+returns-in_default c =
     let a = c.args in
     let p = contribution a.counts.now a.lengths.now a.marks.now in
     refused-front a.states.now p a.bodies _ 5 c.refused.ensures (omega arith)
-    (front-state_refused a.states.now p a.bodies (sym c.state_in_front-words.ensures ∙ c.if-words-eq0.true))
+    (front-state_refused a.states.now p a.bodies
+    (no_words (words_in_front writer a.states.now) (sym c.in_default.is ∙ c.state_in_front.ensures)))
 
 pub lists_of-lists-requires : goal.lists_of-lists-requires
 unfolding writer
-lists_of-lists-requires c = omega (arith, c.state_in_front-words.ensures, c.if-words-eq0.false)
+lists_of-lists-requires c = omega (arith, some_words (words_in_front writer c.args.states.now) c.in-Some.ensures)
 
 pub slice_bounds-refusal_of_valid-end : goal.slice_bounds-refusal_of_valid-end
 unfolding writer
 slice_bounds-refusal_of_valid-end c =
     let a = c.args in
-    let v = valid_in_front writer a.states.now (omega (arith, c.state_in_front-words.ensures, c.if-words-eq0.false)) in
-    omega (arith, c.state_in_front-words.ensures, v.words_are, v.there)
+    let f = some_words (words_in_front writer a.states.now) c.in-Some.ensures in
+    let v = valid_in_front writer a.states.now (omega (arith, f)) in
+    omega (arith, f, v.words_are, v.there)
 
 pub slice_bounds-refusal_of_valid-end-2 : goal.slice_bounds-refusal_of_valid-end-2
 slice_bounds-refusal_of_valid-end-2 c = let e : _ ≡ _ = ap (λ (k : Lists). k.counts) c.lists_of-lists.ensures in omega (arith, e)
@@ -41,11 +44,9 @@ slice_bounds-refusal_of_valid-end-4 c = let e : _ ≡ _ = ap (λ (k : Lists). k.
 pub refusal_of_valid-why-requires : goal.refusal_of_valid-why-requires
 unfolding writer
 refusal_of_valid-why-requires c =
-    let a = c.args in (
-      valid_part a.states.now _ c.state_in_front-words.ensures (omega (
-        arith,
-        c.if-words-eq0.false,
-      )),
+    let a = c.args in
+    let f = some_words (words_in_front writer a.states.now) c.in-Some.ensures in (
+      valid_part a.states.now _ f.0 f.1,
       λ h. counts_add_up a.states.now a.counts.now (length a.lengths.now) (length a.marks.now) _ c.lists_of-lists.ensures,
     )
 
@@ -54,10 +55,10 @@ unfolding writer
 returns-then-why-ne0 c =
     let a = c.args in
     let p = contribution a.counts.now a.lengths.now a.marks.now in
+    let f = some_words (words_in_front writer a.states.now) c.in-Some.ensures in
     refused-front a.states.now p a.bodies _ _ c.refused-then-why-ne0.ensures c.if-why-ne0.true
     (front-refused a.states.now p a.bodies _
-    (why_is a.states.now p _ _ _ c.state_in_front-words.ensures
-    (omega (arith, c.if-words-eq0.false)) c.lists_of-lists.ensures
+    (why_is a.states.now p _ _ _ f.0 f.1 c.lists_of-lists.ensures
     c.refusal_of_valid-why.ensures) c.if-why-ne0.true)
 
 pub slice_bounds-total-end : goal.slice_bounds-total-end
@@ -69,7 +70,8 @@ unfolding writer
 total-bytes-requires c =
     let a = c.args in
     let p = contribution a.counts.now a.lengths.now a.marks.now in
-    lengths_few a.states.now p _ _ _ c.state_in_front-words.ensures (omega (arith, c.if-words-eq0.false)) c.lists_of-lists.ensures
+    let f = some_words (words_in_front writer a.states.now) c.in-Some.ensures in
+    lengths_few a.states.now p _ _ _ f.0 f.1 c.lists_of-lists.ensures
     c.refusal_of_valid-why.ensures c.if-why-ne0.false
 
 pub returns-then-bodies-bytes : goal.returns-then-bodies-bytes
@@ -77,10 +79,8 @@ unfolding writer
 returns-then-bodies-bytes c =
     let a = c.args in
     let p = contribution a.counts.now a.lengths.now a.marks.now in
-    body_refused_front a.states.now p _ _ _ c.state_in_front-words.ensures (omega (
-      arith,
-      c.if-words-eq0.false,
-    ))
+    let f = some_words (words_in_front writer a.states.now) c.in-Some.ensures in
+    body_refused_front a.states.now p _ _ _ f.0 f.1
     c.lists_of-lists.ensures c.refusal_of_valid-why.ensures c.if-why-ne0.false a.bodies _ c.total-bytes.ensures _
     c.if-bodies-bytes.true c.refused-then-bodies-bytes.ensures
 
@@ -89,5 +89,6 @@ unfolding writer
 returns c =
     let a = c.args in
     let p = contribution a.counts.now a.lengths.now a.marks.now in
-    accepted_front a.states.now p _ _ _ c.state_in_front-words.ensures (omega (arith, c.if-words-eq0.false))
+    let f = some_words (words_in_front writer a.states.now) c.in-Some.ensures in
+    accepted_front a.states.now p _ _ _ f.0 f.1
     c.lists_of-lists.ensures c.refusal_of_valid-why.ensures c.if-why-ne0.false a.bodies _ c.total-bytes.ensures c.if-bodies-bytes.false

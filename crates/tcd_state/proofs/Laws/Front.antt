@@ -1,4 +1,5 @@
 -- The state in front of a list of states, from what the code has found of it.
+use Rattle.std.specs.Prelude.{Option, None, Some}
 use mathlib.Core.Path.{◌≡◌, refl, sym, ap, ap₂, ◌∙◌, subst}
 use mathlib.Core.Logic.{◌≢◌}
 use mathlib.Core.Bool.{Bool, true, false, cond, ◌&&◌}
@@ -21,19 +22,33 @@ use Rattle.tcd_laws.specs.Geometry.{AllUpTo64}
 use Rattle.tcd_laws.specs.Parts.{first_words_in_range}
 use Rattle.tcd_laws.proofs.Laws.FirstWords.{bands-in_front, first_words_in_front}
 use Rattle.tcd_laws.proofs.Laws.ValidStates.{valid_state_lem, too_short}
-use Rattle.tcd_state.specs.Front.{words_in_front}
+use Rattle.tcd_state.specs.Front.{words_in_front, unless_0}
 use Rattle.tcd_state.proofs.Laws.RangeParts.{valid_parts}
 
 pub thirteen_asked : (bs : List Band) → 13 ≤ state_length bs
 unfolding state_length
 thirteen_asked bs = end_after 13 bs
 
-pub front-too_short : (r : ℕ) (ws : List ℕ) → length ws < 13 → 0 ≡ words_in_front r ws
+-- ---- the words as the code says them
+
+pub words_some : (n : ℕ) → 1 ≤ n → unless_0 n ≡ Some n
+words_some zero h = absurd (omega arith)
+words_some (suc n) h = refl
+
+pub some_words : (n : ℕ) {w : ℕ} → Some w ≡ unless_0 n → (w ≡ n) × (1 ≤ w)
+some_words zero e = absurd (cc)
+some_words (suc n) {w} e = let k : w ≡ suc n = cc in (k, omega (arith, k))
+
+pub no_words : (n : ℕ) → None ≡ unless_0 n → n ≡ 0
+no_words zero e = refl
+no_words (suc n) e = absurd (cc)
+
+pub front-too_short : (r : ℕ) (ws : List ℕ) → length ws < 13 → None ≡ unless_0 (words_in_front r ws)
 unfolding words_in_front
 front-too_short r ws h =
     let state : List ℕ = take (state_length (bands ws)) ws in
     let l : length state < 13 = omega (arith, length-take (state_length (bands ws)) ws) in
-    sym (if-false (valid_state r state (length state)) (state_length (bands ws)) 0 (sym (too_short r state (length state) l)))
+    sym (ap unless_0 (if-false (valid_state r state (length state)) (state_length (bands ws)) 0 (sym (too_short r state (length state) l))))
 
 -- ---- the words in front are those of the list
 
@@ -97,11 +112,11 @@ found ws =
     ∙ ap (λ (x : Bool). x && bands_in_range (take n ws) 13 (bands ws))
     (sym (ne_eqb (length (take n ws)) n (λ z. absurd (omega (arith, z, h, length-take n ws))))))
 
-pub front-parts : (r : ℕ) (ws : List ℕ) (t : Bool) (k : ℕ) → t ≡ first_words_in_range r ws
-    → k ≡ cond (leb (state_length (bands ws)) (length ws) && bands_in_range ws 13 (bands ws)) (state_length (bands ws)) 0
-    → cond t k 0 ≡ words_in_front r ws
+front-words : (r : ℕ) (ws : List ℕ) (t : Bool) → t ≡ first_words_in_range r ws
+    → cond t (cond (leb (state_length (bands ws)) (length ws) && bands_in_range ws 13 (bands ws)) (state_length (bands ws)) 0) 0
+    ≡ words_in_front r ws
 unfolding words_in_front
-front-parts r ws t k et ek =
+front-words r ws t et =
     let n : ℕ = state_length (bands ws) in
     let state : List ℕ = take n ws in
     let w : Bool = eqb (length state) n && bands_in_range state 13 (bands ws) in
@@ -110,11 +125,24 @@ front-parts r ws t k et ek =
     valid_parts r state (length state) t true w (et ∙ sym (first_words_in_front ws n (thirteen_asked (bands ws)) r))
     (sym (eq-eqb (length state) (length state) refl))
     (ap (λ (bs : List Band). eqb (length state) (state_length bs) && bands_in_range state 13 bs) (sym same_bands)) in
-    ap (λ (z : ℕ). cond t z 0) (ek ∙ ap (λ (b : Bool). cond b n 0) (found ws)) ∙ both t w n ∙ ap (λ (b : Bool). cond b n 0) v
+    ap (λ (b : Bool). cond t (cond b n 0) 0) (found ws) ∙ both t w n ∙ ap (λ (b : Bool). cond b n 0) v
   where
     both : (t w : Bool) (n : ℕ) → cond t (cond w n 0) 0 ≡ cond (t && true && w) n 0
     both true w n = refl
     both false w n = refl
+
+pub front-parts : (r : ℕ) (ws : List ℕ) (t : Bool) (k : Option ℕ) → t ≡ first_words_in_range r ws
+    → k ≡ cond (leb (state_length (bands ws)) (length ws) && bands_in_range ws 13 (bands ws)) (Some (state_length (bands ws))) None
+    → cond t k None ≡ unless_0 (words_in_front r ws)
+front-parts r ws t k et ek =
+    ap (λ (z : Option ℕ). cond t z None) ek
+    ∙ both t _ (state_length (bands ws)) (words_some (state_length (bands ws)) (omega (arith, thirteen_asked (bands ws))))
+    ∙ ap unless_0 (front-words r ws t et)
+  where
+    both : (t w : Bool) (n : ℕ) → unless_0 n ≡ Some n → cond t (cond w (Some n) None) None ≡ unless_0 (cond t (cond w n 0) 0)
+    both true true n e = sym e
+    both true false n e = refl
+    both false w n e = refl
 
 -- ---- what it says where it is valid
 
@@ -172,14 +200,15 @@ module _ (r : ℕ) (ws : List ℕ) (k : ℕ) where
         s.scratch_is,
       )
 
-  pub none_in_front : words_in_front r ws ≡ 0 → false ≡ valid_state r ws k
-  none_in_front z =
+  pub none_in_front : None ≡ unless_0 (words_in_front r ws) → false ≡ valid_state r ws k
+  none_in_front e =
+      let z = no_words (words_in_front r ws) e in
       on_bool (valid_state r ws k) (λ v. let f = valid_front v in absurd (omega (arith, z, f.0, f.1))) (λ f. sym f)
 
   pub words_behind : words_in_front r ws ≢ length ws → false ≡ valid_state r ws k
   words_behind n = on_bool (valid_state r ws k) (λ v. absurd (n (valid_front v).0)) (λ f. sym f)
 
-  pub nothing_behind : words_in_front r ws ≢ 0 → words_in_front r ws ≡ length ws → eqb k (words_in_front r ws) ≡ valid_state r ws k
+  nothing_behind : 1 ≤ words_in_front r ws → words_in_front r ws ≡ length ws → eqb k (words_in_front r ws) ≡ valid_state r ws k
   unfolding words_in_front
   nothing_behind n e =
       on_bool (valid_state r (take asked ws) (length (take asked ws)))
@@ -191,4 +220,9 @@ module _ (r : ℕ) (ws : List ℕ) (k : ℕ) where
       (λ h. eq-eqb k (length ws) h ∙ sym (subst (λ (z : ℕ). valid_state r ws z ≡ true) (sym h) valid))
       (λ h. ne_eqb k (length ws) h
       ∙ on_bool (valid_state r ws k) (λ u. absurd (h (valid_front u).2)) (λ f. sym f)))
-      (λ f. absurd (n (if-false (valid_state r (take asked ws) (length (take asked ws))) asked 0 f)))
+      (λ f. absurd (omega (arith, n, if-false (valid_state r (take asked ws) (length (take asked ws))) asked 0 f)))
+
+  pub some_in_front : (n : ℕ) → Some n ≡ unless_0 (words_in_front r ws) → n ≡ length ws → eqb k n ≡ valid_state r ws k
+  some_in_front n e l =
+      let f = some_words (words_in_front r ws) e in
+      ap (eqb k) f.0 ∙ nothing_behind (omega (arith, f.0, f.1)) (sym f.0 ∙ l)

@@ -1,3 +1,4 @@
+use Rattle.std.specs.Prelude.{Some, None}
 use lib.Dec.{leb}
 use lib.ListN.{length}
 use mathlib.Core.Bool.{false, true, cond, ◌&&◌}
@@ -35,4 +36,4 @@ returns c =
     let b = first_bands ws _ _ c.word-n.ensures c.bands_of-bands.ensures in
     front-parts a.role ws true _ first
     (c.bands_in_range.ensures
-    ∙ ap (λ (bs : List Band). cond (leb (state_length bs) (length ws) && bands_in_range ws 13 bs) (state_length bs) 0) b)
+    ∙ ap (λ (bs : List Band). cond (leb (state_length bs) (length ws) && bands_in_range ws 13 bs) (Some (state_length bs)) None) b)

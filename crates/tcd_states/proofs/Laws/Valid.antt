@@ -1,6 +1,8 @@
 -- States that refusal 5 lets pass.
+use Rattle.std.specs.Prelude.{None, Some, nat_lt}
+use Rattle.std.specs.List.{list_all}
 use mathlib.Core.Path.{◌≡◌, refl, sym, ap, ap₂, ◌∙◌, subst}
-use mathlib.Core.Bool.{Bool, true, false, cond, not, ◌||◌}
+use mathlib.Core.Bool.{Bool, true, false, not, ◌&&◌, ◌||◌}
 use mathlib.Core.Logic.{◌≢◌}
 use mathlib.Core.List.{List, [], ◌∷◌, ◌++◌, flat_map}
 use Prim.Native.Nat.{ℕ, zero, suc, ◌+◌, ◌≤◌, ◌<◌}
@@ -8,16 +10,16 @@ use native.Mathlib.Omega.{arith}
 use lib.ListN.{length, get_or, set, drop, length-drop, length-set, length-append}
 use lib.Seq.{length-take-le, get_or-drop, get_or-set_same, get_or-set_other, take_at, drop_at, take-append_seam}
 use lib.Dec.{leb, eqb}
-use borrow.Author.Tests.{not-true, not-false, eqb-true, leb-false, eq-eqb, ne_eqb}
+use borrow.Author.Tests.{not-false, eqb-true, leb-false, lt-ltb, lt-leb, le-ltb, le-leb, eq-eqb, ne_eqb}
 use Rattle.t800.specs.Base.{Words, any}
 use Rattle.t800.specs.State.{reader, bands, state_length}
 use Rattle.t800.specs.Ranges.{valid_state}
 use Rattle.t800.specs.Gathered.{states_in, bad_states, state_at}
-use Rattle.t800_laws.proofs.Laws.Tests.{if-false, on-eq, or_left, or_right}
+use Rattle.t800_laws.proofs.Laws.Tests.{if-true, if-false, on-eq, on-lt, or_left, or_right}
+use Rattle.t800_laws.proofs.Laws.Checks.{on_bool}
 use Rattle.tcd_laws.proofs.Laws.FirstWords.{bands-in_front}
 use Rattle.tcd_laws.proofs.Laws.ValidStates.{valid_state_lem, long_enough}
 use Rattle.tcd_state.proofs.Laws.Front.{ValidInFront, front-valid}
-use Rattle.tcd_states.specs.declared.Counted.{Counted}
 use Rattle.tcd_states.specs.States.{any_out_of_range, AllValid, counted}
 use Rattle.tcd_states.proofs.Laws.Starts.{joined}
 use Rattle.tcd_states.proofs.Laws.Cuts.{asked, no_states, first_state}
@@ -90,38 +92,39 @@ states_of_joined (s ∷ ss) v =
 
 -- ---- how many
 
-abbrev tally : Bool → ℕ → Counted
-tally ok count = record { ok = ok; count = count }
-
-module _ (ss : List Words) (r : Counted) (is : r ≡ counted ss) where
-  counted-ok : r.ok ≡ not (any_out_of_range ss)
+module _ (ss : List Words) where
+  pub counted-none : None ≡ counted ss → any_out_of_range ss ≡ true
   unfolding counted
-  counted-ok = ap (λ (c : Counted). c.ok) is ∙ either_way (any_out_of_range ss)
-    where
-      either_way : (b : Bool) → (cond b (tally false 0) (tally true (length ss))).ok ≡ not b
-      either_way true = refl
-      either_way false = refl
+  counted-none e = on_bool (any_out_of_range ss) (λ t. t) (λ f. absurd (let s : None ≡ Some (length ss) = e ∙ if-false (any_out_of_range ss) _ _ f in cc))
 
-  pub counted-out_of_range : r.ok ≡ false → any_out_of_range ss ≡ true
-  counted-out_of_range e = not-false (any_out_of_range ss) (sym counted-ok ∙ e)
+  module _ (count : ℕ) (is : Some count ≡ counted ss) where
+    pub counted-in_range : any_out_of_range ss ≡ false
+    unfolding counted
+    counted-in_range = on_bool (any_out_of_range ss) (λ t. absurd (let s : Some count ≡ None = is ∙ if-true (any_out_of_range ss) _ _ t in cc)) (λ f. f)
 
-  pub counted-in_range : r.ok ≡ true → any_out_of_range ss ≡ false
-  counted-in_range e = not-true (any_out_of_range ss) (sym counted-ok ∙ e)
-
-  pub counted-valid : r.ok ≡ true → AllValid ss
-  counted-valid e = none_out_of_range ss (counted-in_range e)
-
-  pub counted-all : r.ok ≡ true → r.count ≡ length ss
-  unfolding counted
-  counted-all e = ap (λ (c : Counted). c.count) (is ∙ if-false (any_out_of_range ss) _ _ (counted-in_range e))
+    pub counted-all : count ≡ length ss
+    unfolding counted
+    counted-all = let s : Some count ≡ Some (length ss) = is ∙ if-false (any_out_of_range ss) _ _ counted-in_range in cc
 
 -- ---- states that fit
+
+pub all_is : (count : ℕ) (l : List ℕ) → list_all (λ place. nat_lt place count) l ≡ not (any (λ place. leb count place) l)
+unfolding any
+all_is count [] = refl
+all_is count (place ∷ l) = rw (all_is count l) (either_way (nat_lt place count) (leb count place) (any (λ place. leb count place) l) (below_or_not place count))
+  where
+    below_or_not : (m n : ℕ) → nat_lt m n ≡ not (leb n m)
+    below_or_not m n = on-lt m n (λ h. simp (lt-ltb m n h, lt-leb n m h)) (λ h. simp (le-ltb m n h, le-leb n m h))
+
+    either_way : (a b c : Bool) → a ≡ not b → (a && not c) ≡ not (b || c)
+    either_way a true c e = rw e refl
+    either_way a false c e = rw e refl
 
 pub record StatesFit (ws : Words) (scratch_length : ℕ) (places : Words) : Type 0 where
   pub scratch_is : scratch_length ≡ length ws
   pub all_valid : AllValid (states_in ws)
   pub place_in : (i : ℕ) → i < length places → get_or places i 0 < length (states_in ws)
-  pub counted_is : counted (states_in ws) ≡ record { ok = true; count = length (states_in ws) }
+  pub counted_is : counted (states_in ws) ≡ Some (length (states_in ws))
 
 pub states_fit_lem : (ws : Words) (scratch_length : ℕ) (places : Words) → bad_states ws scratch_length places ≡ false
     → StatesFit ws scratch_length places

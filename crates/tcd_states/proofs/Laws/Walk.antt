@@ -1,6 +1,6 @@
 -- A walk from state to state: what is lent from a place on, and the step to the next one.
+use Rattle.std.specs.Prelude.{None, Some}
 use mathlib.Core.Path.{◌≡◌, sym, ap, ◌∙◌, subst}
-use mathlib.Core.Logic.{◌≢◌}
 use mathlib.Core.Bool.{true, false, not}
 use mathlib.Core.List.{List, [], ◌∷◌}
 use Prim.Native.Nat.{ℕ, ◌+◌, ◌-◌, ◌≤◌, ◌<◌}
@@ -15,9 +15,8 @@ use Rattle.t800.specs.Gathered.{states_in, state_at}
 use Rattle.t800_laws.proofs.Laws.Tests.{if-true, if-false, on-lt, drop_head}
 use Rattle.t800_laws.proofs.Laws.Checks.{on_bool}
 use Rattle.tcd_laws.proofs.Laws.AnyOf.{any_here, any_later}
-use Rattle.tcd_state.specs.Front.{words_in_front}
-use Rattle.tcd_state.proofs.Laws.Front.{thirteen_asked, ValidInFront, valid_in_front}
-use Rattle.tcd_states.specs.declared.Counted.{Counted}
+use Rattle.tcd_state.specs.Front.{words_in_front, unless_0}
+use Rattle.tcd_state.proofs.Laws.Front.{no_words, some_words, thirteen_asked, ValidInFront, valid_in_front}
 use Rattle.tcd_states.specs.States.{start_of, any_out_of_range, AllValid, counted}
 use Rattle.tcd_states.proofs.Laws.Starts.{start-turn, start-further, start-inside}
 use Rattle.tcd_states.proofs.Laws.Cuts.{asked, first_state, states_joined, states_from_lem, words_left}
@@ -66,7 +65,7 @@ module _ (ws : Words) (place at : ℕ) (here : at ≡ start_of (states_in ws) pl
 
   -- ---- what is found of the state at the place
 
-  module _ (more : at < length ws) (words : ℕ) (is : words ≡ words_in_front reader (from at ws)) where
+  module _ (more : at < length ws) where
     abbrev first : Words
     first = take (asked (from at ws)) (from at ws)
 
@@ -75,15 +74,23 @@ module _ (ws : Words) (place at : ℕ) (here : at ≡ start_of (states_in ws) pl
         sym states_behind
         ∙ first_state (from at ws) (omega (arith, more, ap length (from_is at ws), length-drop at ws))
 
-    pub found_out_of_range : words ≡ 0 → any_out_of_range (drop place (states_in ws)) ≡ true
+    pub found_out_of_range : None ≡ unless_0 (words_in_front reader (from at ws))
+        → any_out_of_range (drop place (states_in ws)) ≡ true
     unfolding any_out_of_range words_in_front
-    found_out_of_range z =
+    found_out_of_range e =
         let n : ℕ = asked (from at ws) in
+        let z = no_words (words_in_front reader (from at ws)) e in
         on_bool (valid_state reader first (length first))
-        (λ v. absurd (omega (arith, z, is, if-true (valid_state reader first (length first)) n 0 v, thirteen_asked (bands (from at ws)))))
+        (λ v. absurd (omega (arith, z, if-true (valid_state reader first (length first)) n 0 v, thirteen_asked (bands (from at ws)))))
         (λ f. any_here (λ s. not (valid_state reader s (length s))) _ first _ next (ap not f))
 
-    module _ (some : words ≢ 0) where
+    module _ (words : ℕ) (some : Some words ≡ unless_0 (words_in_front reader (from at ws))) where
+      is : (words ≡ words_in_front reader (from at ws)) × (1 ≤ words)
+      is = some_words (words_in_front reader (from at ws)) some
+
+      pub some_found : 1 ≤ words
+      some_found = is.1
+
       known : ValidInFront reader (from at ws)
       known = valid_in_front reader (from at ws) (omega (arith, is))
 
@@ -95,7 +102,7 @@ module _ (ws : Words) (place at : ℕ) (here : at ≡ start_of (states_in ws) pl
           omega (
             arith,
             one_on,
-            is,
+            is.0,
             known.words_are,
             ap (λ (ss : List Words). length (state_at ss 0)) (states_behind ∙ next),
             length-take-le (asked (from at ws)) (from at ws) known.there,
@@ -111,14 +118,14 @@ module _ (ws : Words) (place at : ℕ) (here : at ≡ start_of (states_in ws) pl
 
 -- ---- how many were found
 
-pub one_out_of_range : (ss : List Words) → any_out_of_range ss ≡ true → ◌≡◌ {A = Counted} (record { ok = false; count = 0 }) (counted ss)
+pub one_out_of_range : (ss : List Words) → any_out_of_range ss ≡ true → None ≡ counted ss
 unfolding counted
 one_out_of_range ss e = sym (if-true (any_out_of_range ss) _ _ e)
 
 pub all_counted : (ss : List Words) (count : ℕ) → count ≤ length ss → length ss ≤ count
-    → any_out_of_range (drop count ss) ≡ any_out_of_range ss → ◌≡◌ {A = Counted} (record { ok = true; count = count }) (counted ss)
+    → any_out_of_range (drop count ss) ≡ any_out_of_range ss → Some count ≡ counted ss
 unfolding counted any_out_of_range any
 all_counted ss count h l e =
     let none : any_out_of_range ss ≡ false = sym e ∙ ap any_out_of_range (drop_of_length-le ss {i = count} l) in
     let n : count ≡ length ss = omega arith in
-    ap {B = Counted} (λ (k : ℕ). record { ok = true; count = k }) n ∙ sym (if-false (any_out_of_range ss) _ _ none)
+    ap Some n ∙ sym (if-false (any_out_of_range ss) _ _ none)
