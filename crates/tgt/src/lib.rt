@@ -32,8 +32,7 @@ pub fn opj_tgt_row(levels: [Level; 7], depth: usize, y: usize, row: &mut [usize;
 {
     let mut below: usize = 0;
     let mut place = y;
-    let mut i: usize = 0;
-    while i < depth {
+    for i in 0..depth {
         let l = levels[i];
         let w = l.w as usize;
         let h = l.h as usize;
@@ -42,7 +41,6 @@ pub fn opj_tgt_row(levels: [Level; 7], depth: usize, y: usize, row: &mut [usize;
         let size = w * h;
         below += size;
         place /= 2;
-        i += 1;
     }
 }
 

@@ -12,14 +12,11 @@ pub fn opj_tgt_reset(words: &mut [u32], from: usize, nodes: usize, fresh: u32)
     requires { from + 3 * nodes ≤ length words.old }
     ensures { words.new ≡ sets words.old from (fresh_nodes fresh nodes) }
 {
-    let mut at = from;
-    let mut left = nodes;
-    while 0 < left {
+    for i in 0..nodes {
+        let at = from + 3 * i;
         words[at] = fresh;
         words[at + 1] = 0;
         words[at + 2] = 0;
-        at += 3;
-        left -= 1;
     }
 }
 
@@ -35,13 +32,11 @@ pub fn opj_tgt_setvalue(
     requires { PathIn (length words.old) base row.now depth x }
     ensures { words.new ≡ set_value base (path_over row.now depth x) value words.old }
 {
-    let mut i: usize = 0;
-    while i < depth {
+    for i in 0..depth {
         let at = tgt::first_word(base, row[i], x, i);
         if words[at] <= value {
             return;
         }
         words[at] = value;
-        i += 1;
     }
 }

@@ -1,9 +1,9 @@
-use mathlib.Core.Path.{◌≡◌, refl, sym, ap, ◌∙◌}
+use mathlib.Core.Path.{◌≡◌, sym, ap, ◌∙◌}
 use mathlib.Core.List.{List, [], ◌++◌, append_assoc, append-nil}
 use Prim.Native.Nat.{ℕ, suc, ◌+◌, ◌-◌, ◌*◌, ◌/◌, ◌<◌}
 use native.Mathlib.Nat.{mul-le-mul}
 use native.Mathlib.Omega.{arith}
-use lib.ListN.{length, get_or, set, take, drop, replicate, length-set, drop_of_length-le, take-append-drop}
+use lib.ListN.{length, get_or, set, take, drop, replicate, drop_of_length-le, take-append-drop}
 use lib.Seq.{length-take-le, drop-cons, drop-drop, drop-set-lt, get_or-take, take-suc-set}
 use Rattle.t800.specs.declared.Level.{Level}
 use Rattle.t800.specs.TagTree.{no_level}
@@ -27,44 +27,6 @@ rest-turn row i v h e =
     let q : 7 - i ≡ suc (7 - (i + 1)) = omega arith in
     drop-set-lt (i + 1) row i v (omega arith) ∙ sym (drop-drop 1 i row) ∙ ap (drop 1) e ∙ ap (λ (n : ℕ). drop 1 (replicate {A = ℕ} n 0)) q
 
-pub loop-i-init : goal.loop-i-init
-loop-i-init c = (ap length c.requires.2, omega arith, omega arith, c.requires.1, refl, c.requires.2)
-
-pub bounds-levels-i : goal.bounds-levels-i
-bounds-levels-i c = let s = c in let g : length s.args.levels ≡ 7 = search rules in omega (arith, s.requires.0.at_most_seven)
-
-pub overflow_mul-before : goal.overflow_mul-before
-overflow_mul-before c = let l = c.loop-i in
-    let s = c in
-    omega (arith, mul-le-mul l.invariant.3 (s.requires.0.across l.i c.loop-i-test.true))
-
-pub overflow_add-row : goal.overflow_add-row
-overflow_add-row c = let l = c.loop-i in
-    let s = c in
-    omega (arith, s.requires.0.at_most_seven, mul-le-mul l.invariant.3 (s.requires.0.across l.i c.loop-i-test.true))
-
-pub bounds-row-i : goal.bounds-row-i
-bounds-row-i c = omega (arith, c.requires.0.at_most_seven)
-
-pub overflow_mul-size : goal.overflow_mul-size
-overflow_mul-size c = let l = c.loop-i in
-    let s = c in
-    omega (
-      arith,
-      mul-le-mul (s.requires.0.across l.i c.loop-i-test.true)
-          (s.requires.0.down l.i c.loop-i-test.true),
-    )
-
-pub overflow_add-below : goal.overflow_add-below
-overflow_add-below c = let l = c.loop-i in
-    let s = c in
-    omega (
-      arith,
-      s.requires.0.at_most_seven,
-      mul-le-mul (s.requires.0.across l.i c.loop-i-test.true)
-          (s.requires.0.down l.i c.loop-i-test.true),
-    )
-
 pub loop-i-preserved : goal.loop-i-preserved
 loop-i-preserved c = let l = c.loop-i in
     let s = c in
@@ -73,14 +35,13 @@ loop-i-preserved c = let l = c.loop-i in
     let levels = s.args.levels in
     let depth = s.args.depth in
     let g : length levels ≡ 7 = search rules in
+    let r : length l.row ≡ 7 = search rules in
     let long : length (take depth levels) ≡ depth = length-take-le depth levels (omega arith) in (
-      simp length-set l.invariant.0,
-      omega arith,
       omega (arith, mul-le-mul (s.requires.0.across l.i here) (s.requires.0.down l.i here)),
       omega arith,
       row_turn (take depth levels) l.row (get_or levels l.i no_level) l.i l.below l.place (omega arith) (omega arith)
-          (sym (get_or-take depth levels l.i no_level here)) ∙ l.invariant.4,
-      rest-turn l.row l.i (l.below + l.place * (get_or levels l.i no_level).w) (omega arith) l.invariant.5,
+          (sym (get_or-take depth levels l.i no_level here)) ∙ l.invariant.2,
+      rest-turn l.row l.i (l.below + l.place * (get_or levels l.i no_level).w) (omega arith) l.invariant.3,
     )
 
 pub returns : goal.returns
@@ -95,20 +56,8 @@ returns c = let l = c.loop-i in
     let none : drop l.i (take depth levels) ≡ [] = drop_of_length-le (take depth levels) {i = l.i} (omega arith) in
     let stored : take l.i l.row ≡ row_from (take depth levels) 0 s.args.y =
     sym (append-nil (take l.i l.row))
-    ∙ sym (ap (λ (ls : List Level). take l.i l.row ++ row_from ls l.below l.place) none) ∙ l.invariant.4 in
+    ∙ sym (ap (λ (ls : List Level). take l.i l.row ++ row_from ls l.below l.place) none) ∙ l.invariant.2 in
     sym (take-append-drop l.i l.row)
     ∙ ap (λ (ns : List ℕ). ns ++ drop l.i l.row) stored
-    ∙ ap (λ (ns : List ℕ). row_from (take depth levels) 0 s.args.y ++ ns) l.invariant.5
+    ∙ ap (λ (ns : List ℕ). row_from (take depth levels) 0 s.args.y ++ ns) l.invariant.3
     ∙ ap (λ (n : ℕ). row_from (take depth levels) 0 s.args.y ++ replicate {A = ℕ} (7 - n) 0) e
-
-pub offset_bounds-levels-i : goal.offset_bounds-levels-i
-offset_bounds-levels-i c = omega arith
-
-pub offset_bounds-row-i : goal.offset_bounds-row-i
-offset_bounds-row-i c = omega arith
-
-pub overflow_add-i : goal.overflow_add-i
-overflow_add-i c = omega arith
-
-pub loop-i-smaller : goal.loop-i-smaller
-loop-i-smaller c = omega arith
