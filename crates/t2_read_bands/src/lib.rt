@@ -14,13 +14,6 @@ use t2_read_segments::Run;
 use t800::{Band, Level};
 use tcd_places::Grid;
 
-// The blocks of what is left of a row, or fewer.
-fn least(a: usize, b: usize) -> usize
-    ensures { result ≡ min a b }
-{
-    if a < b { a } else { b }
-}
-
 // Blocks of a band, whose first has number `block`: from its block i on, in row y from column x on, up to its block `end`.
 pub fn read_blocks(
     words: &mut [u32],
@@ -55,7 +48,7 @@ pub fn read_blocks(
         tgt::opj_tgt_row(tree, g.depth, line, &mut row);
         let start = tcd_places::row_place(g, line);
         let place = tcd_places::place_at(start, column);
-        let n = least(g.w - column, end - at);
+        let n = (g.w - column).min(end - at);
         let first = block + at;
         run = t2_read_block::read_row(
             words,
@@ -123,24 +116,20 @@ pub fn read_bands(
         ≡ next_blocks src.now layer 0 (blocks (take n bands))
         (reading words.old reports.old records.old r) }
 {
-    let trees = tcd_levels::band_levels(bands);
     let mut run = r;
-    let mut start: usize = 13;
-    let mut block: usize = 0;
-    let mut i: usize = 0;
-    while i < n {
-        let band = bands[i];
-        let tree = trees[i];
-        let g = tcd_places::grid_of(band, start);
+    let mut start = 13;
+    let mut block = 0;
+    for band in &bands[..n] {
+        let tree = tcd_levels::levels(band.across, band.down);
+        let g = tcd_places::grid_of(*band, start);
         run = read_band(
-            words, reports, records, src, run, band, tree, g, layer, block,
+            words, reports, records, src, run, *band, tree, g, layer, block,
         );
         if run.refusal != 0 {
             return run;
         }
-        start = tcd_places::grid_end(band, g);
-        block += tcd_layout::band_blocks(band);
-        i += 1;
+        start = tcd_places::grid_end(*band, g);
+        block += tcd_layout::band_blocks(*band);
     }
     run
 }

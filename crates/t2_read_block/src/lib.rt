@@ -117,8 +117,7 @@ pub fn read_row(
         (reading words.old reports.old records.old r) }
 {
     let mut run = r;
-    let mut i: usize = 0;
-    while i < n {
+    for i in 0..n {
         let place = tcd_places::place_at(p, i);
         let number = block + i;
         run = read_block(
@@ -127,7 +126,6 @@ pub fn read_row(
         if run.refusal != 0 {
             return run;
         }
-        i += 1;
     }
     run
 }

@@ -72,16 +72,13 @@ pub fn opj_t2_getcommacode(src: &[u8], b: Bio) -> Decoded
     ensures { decoded result ≡ read_comma_limited src.now b }
 {
     let mut bio = b;
-    let mut value = 0;
-    let mut left = ones_limit(src);
-    while 0 < left {
+    let limit = ones_limit(src);
+    for value in 0..limit {
         let r = bio_read_lent::bit_in(src, bio);
         bio = r.bio;
         if r.value == 0 {
             return Decoded { value, bio };
         }
-        value += 1;
-        left -= 1;
     }
-    Decoded { value, bio }
+    Decoded { value: limit, bio }
 }

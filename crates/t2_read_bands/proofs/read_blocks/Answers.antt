@@ -121,24 +121,24 @@ read_row-run-requires c =
     let ep = c.place_at-place.ensures
     ∙ ap (λ (q : Place). place_at q l.column) (c.row_place-start.ensures ∙ ap (λ (k : Grid). row_place k l.line) ge) in
     let er = c.opj_tgt_row.ensures ∙ (λ j. row_over (s.requires.4 j) (ge j).depth l.line) in
-    let m = in_row a.g.w a.band.across l.column a.end l.at c.least-n.result
-    (ap (λ (k : Grid). k.w) ge) c.least-n.ensures h.1 t in
+    let m = in_row a.g.w a.band.across l.column a.end l.at c.min-n.result
+    (ap (λ (k : Grid). k.w) ge) c.min-n.ensures h.1 t in
     let b = subst (λ (k : ℕ). BandIn k a.g.start a.band) (sym l.invariant.1) s.requires.2 in
-    let P : Place → List ℕ → Type 0 = λ p r. RowIn (length l.words) p r c.least-n.result in
-    let inside = part_in (length l.words) a.g.start a.band b l.line here l.column c.least-n.result m.0 in
+    let P : Place → List ℕ → Type 0 = λ p r. RowIn (length l.words) p r c.min-n.result in
+    let inside = part_in (length l.words) a.g.start a.band b l.line here l.column c.min-n.result m.0 in
     let at_words : a.g.start + 6 * band_nodes a.band + 4 * l.at
     ≡ a.g.start + 6 * band_nodes a.band + 4 * (l.line * a.band.across) + 4 * l.column = omega (arith, h.0) in
-    let fits = part_fits (length l.words) a.g.start a.band b l.line here l.column c.least-n.result m.0
+    let fits = part_fits (length l.words) a.g.start a.band b l.line here l.column c.min-n.result m.0
     l.words a.words.now a.i a.end s.requires.7 (omega (arith, h.0, l.invariant.7)) (omega (arith, h.0, m.1))
     (subst (λ (q : ℕ). drop q l.words ≡ drop q a.words.now) at_words l.invariant.0.after) in
-    let number = part_number (length l.words) a.g.start a.band b l.line here l.column c.least-n.result m.0
+    let number = part_number (length l.words) a.g.start a.band b l.line here l.column c.min-n.result m.0
     a.block s.requires.6 in (
       l.invariant.0.bits,
       l.invariant.4,
       at_part P _ _ _ _ ep er inside,
       s.requires.5,
       omega (arith, number, h.0),
-      subst (λ (p : Place). BlocksFit l.words p.at c.least-n.result) (sym ep) fits,
+      subst (λ (p : Place). BlocksFit l.words p.at c.min-n.result) (sym ep) fits,
     )
 
 pub shape_of-words-then-run-ne0 : goal.shape_of-words-then-run-ne0
@@ -162,14 +162,14 @@ returns-then-run-ne0 c =
     let ep = c.place_at-place.ensures
     ∙ ap (λ (q : Place). place_at q l.column) (c.row_place-start.ensures ∙ ap (λ (k : Grid). row_place k l.line) ge) in
     let er = c.opj_tgt_row.ensures ∙ (λ j. row_over (s.requires.4 j) (ge j).depth l.line) in
-    let m = in_row a.g.w a.band.across l.column a.end l.at c.least-n.result
-    (ap (λ (k : Grid). k.w) ge) c.least-n.ensures h.1 t in
+    let m = in_row a.g.w a.band.across l.column a.end l.at c.min-n.result
+    (ap (λ (k : Grid). k.w) ge) c.min-n.ensures h.1 t in
     let b = subst (λ (k : ℕ). BandIn k a.g.start a.band) (sym l.invariant.1) s.requires.2 in
     let u = reading l.words l.reports l.records l.run in
     let g = c.read_row-run in
     let e = g.ensures
-    ∙ (λ j. next_blocks a.src.now a.layer (a.block + l.at) (row_blocks (ep j) (er j) a.band.planes c.least-n.result 0) u) in
-    blocks-stop (length l.words) a.g.start a.band b l.line here l.column c.least-n.result m.0 a.src.now
+    ∙ (λ j. next_blocks a.src.now a.layer (a.block + l.at) (row_blocks (ep j) (er j) a.band.planes c.min-n.result 0) u) in
+    blocks-stop (length l.words) a.g.start a.band b l.line here l.column c.min-n.result m.0 a.src.now
     a.layer a.block l.at a.end h.0 m.1 u _ e l.invariant.4 c.if-run-ne0.true ∙ l.invariant.6
 
 pub overflow_add-at : goal.overflow_add-at
@@ -184,8 +184,8 @@ overflow_add-at c =
     let ep = c.place_at-place.ensures
     ∙ ap (λ (q : Place). place_at q l.column) (c.row_place-start.ensures ∙ ap (λ (k : Grid). row_place k l.line) ge) in
     let er = c.opj_tgt_row.ensures ∙ (λ j. row_over (s.requires.4 j) (ge j).depth l.line) in
-    let m = in_row a.g.w a.band.across l.column a.end l.at c.least-n.result
-    (ap (λ (k : Grid). k.w) ge) c.least-n.ensures h.1 t in
+    let m = in_row a.g.w a.band.across l.column a.end l.at c.min-n.result
+    (ap (λ (k : Grid). k.w) ge) c.min-n.ensures h.1 t in
     let b = subst (λ (k : ℕ). BandIn k a.g.start a.band) (sym l.invariant.1) s.requires.2 in
     omega (arith, m.1, s.requires.8, blocks-up_to_4096 a.band s.requires.2.sides)
 
@@ -211,8 +211,8 @@ loop-at-smaller c =
     let ep = c.place_at-place.ensures
     ∙ ap (λ (q : Place). place_at q l.column) (c.row_place-start.ensures ∙ ap (λ (k : Grid). row_place k l.line) ge) in
     let er = c.opj_tgt_row.ensures ∙ (λ j. row_over (s.requires.4 j) (ge j).depth l.line) in
-    let m = in_row a.g.w a.band.across l.column a.end l.at c.least-n.result
-    (ap (λ (k : Grid). k.w) ge) c.least-n.ensures h.1 t in
+    let m = in_row a.g.w a.band.across l.column a.end l.at c.min-n.result
+    (ap (λ (k : Grid). k.w) ge) c.min-n.ensures h.1 t in
     let b = subst (λ (k : ℕ). BandIn k a.g.start a.band) (sym l.invariant.1) s.requires.2 in
     omega (arith, m.1, m.2, t)
 
@@ -228,22 +228,22 @@ loop-at-preserved c =
     let ep = c.place_at-place.ensures
     ∙ ap (λ (q : Place). place_at q l.column) (c.row_place-start.ensures ∙ ap (λ (k : Grid). row_place k l.line) ge) in
     let er = c.opj_tgt_row.ensures ∙ (λ j. row_over (s.requires.4 j) (ge j).depth l.line) in
-    let m = in_row a.g.w a.band.across l.column a.end l.at c.least-n.result
-    (ap (λ (k : Grid). k.w) ge) c.least-n.ensures h.1 t in
+    let m = in_row a.g.w a.band.across l.column a.end l.at c.min-n.result
+    (ap (λ (k : Grid). k.w) ge) c.min-n.ensures h.1 t in
     let b = subst (λ (k : ℕ). BandIn k a.g.start a.band) (sym l.invariant.1) s.requires.2 in
     let u = reading l.words l.reports l.records l.run in
     let g = c.read_row-run in
     let e = g.ensures
-    ∙ (λ j. next_blocks a.src.now a.layer (a.block + l.at) (row_blocks (ep j) (er j) a.band.planes c.least-n.result 0) u) in (
-      blocks-kept (length l.words) a.g.start a.band b l.line here l.column c.least-n.result m.0 a.src.now
+    ∙ (λ j. next_blocks a.src.now a.layer (a.block + l.at) (row_blocks (ep j) (er j) a.band.planes c.min-n.result 0) u) in (
+      blocks-kept (length l.words) a.g.start a.band b l.line here l.column c.min-n.result m.0 a.src.now
           a.layer a.block l.at a.end h.0 m.1 u _ e a.words.now l.invariant.0,
       g.auto.words ∙ l.invariant.1,
       g.auto.reports ∙ l.invariant.2,
       g.auto.records ∙ l.invariant.3,
       c.if-run-ne0.false,
-      row_done a.g.w a.band.across l.column l.line a.end l.at c.least-n.result (ap (λ (k : Grid). k.w) ge)
-          c.least-n.ensures h.1 h.0,
-      blocks-on (length l.words) a.g.start a.band b l.line here l.column c.least-n.result m.0 a.src.now
+      row_done a.g.w a.band.across l.column l.line a.end l.at c.min-n.result (ap (λ (k : Grid). k.w) ge)
+          c.min-n.ensures h.1 h.0,
+      blocks-on (length l.words) a.g.start a.band b l.line here l.column c.min-n.result m.0 a.src.now
           a.layer a.block l.at a.end h.0 m.1 u _ e c.if-run-ne0.false ∙ l.invariant.6,
       omega (arith, l.invariant.7),
     )
@@ -265,6 +265,3 @@ returns c =
     sym (ap (λ (ks : List Block). next_blocks a.src.now a.layer (a.block + l.at) ks
     (reading l.words l.reports l.records l.run))
     (none_left a.g.start a.band a.end l.at c.loop-at-test.false)) ∙ l.invariant.6
-
-pub least-n-requires : goal.least-n-requires
-least-n-requires c = tt

@@ -22,7 +22,6 @@ loop-i-init c =
       refl,
       refl,
       refl,
-      omega arith,
       s.requires.1,
       (λ j. next_blocks a.src.now a.layer (z j) (row_blocks a.p a.row.now a.planes (e j) 0)
           (reading a.words.now a.reports.now a.records.now a.r)),
@@ -77,19 +76,7 @@ returns-then-run-ne0 c =
     c.place_at-place.ensures in
     reads_no_more a.src.now a.layer a.block a.p a.row.now a.planes a.n l.i
     c.loop-i-test.true u
-    _ e c.if-run-ne0.true ∙ l.invariant.6
-
-pub overflow_add-i : goal.overflow_add-i
-overflow_add-i c = omega (
-  arith,
-  c.loop-i-test.true,
-  c.requires.2.small,
-)
-
-pub loop-i-smaller : goal.loop-i-smaller
-loop-i-smaller c = let t =
-    c.loop-i-test.true in
-    omega arith
+    _ e c.if-run-ne0.true ∙ l.invariant.5
 
 pub loop-i-preserved : goal.loop-i-preserved
 loop-i-preserved c =
@@ -107,9 +94,8 @@ loop-i-preserved c =
       g.auto.words ∙ l.invariant.1,
       g.auto.reports ∙ l.invariant.2,
       g.auto.records ∙ l.invariant.3,
-      omega arith,
       c.if-run-ne0.false,
-      reads_then a.src.now a.layer a.block a.p a.row.now a.planes a.n l.i t u _ e c.if-run-ne0.false ∙ l.invariant.6,
+      reads_then a.src.now a.layer a.block a.p a.row.now a.planes a.n l.i t u _ e c.if-run-ne0.false ∙ l.invariant.5,
     )
 
 pub shape_of-words : goal.shape_of-words
@@ -129,4 +115,4 @@ returns c =
     sym
     (ap (λ (ks : List Block). next_blocks a.src.now a.layer (a.block + l.i) ks
     (reading l.words l.reports l.records l.run))
-    (row_end a.p a.row.now a.planes a.n l.i c.loop-i-test.false)) ∙ l.invariant.6
+    (row_end a.p a.row.now a.planes a.n l.i c.loop-i-test.false)) ∙ l.invariant.5

@@ -1,5 +1,5 @@
 use mathlib.Core.Path.{◌≡◌}
-use Prim.Native.Nat.{◌+◌, ◌-◌, ◌*◌, ◌≤◌}
+use Prim.Native.Nat.{◌+◌, ◌-◌, ◌*◌}
 use lib.ListN.{length}
 use Rattle.t2_read_segments.specs.Reading.{reading}
 use Rattle.t2_read_block_parts.specs.Blocks.{next_blocks}
@@ -13,10 +13,6 @@ invariant-loop-i l =
     × (length l.words ≡ length l.initial.words)
     × (length l.reports ≡ length l.initial.reports)
     × (length l.records ≡ length l.initial.records)
-    × (l.i ≤ l.n)
     × (l.run.refusal ≡ 0)
     × (next_blocks l.src l.layer (l.block + l.i) (row_blocks l.p l.row l.planes (l.n - l.i) l.i) (reading l.words l.reports l.records l.run)
     ≡ next_blocks l.src l.layer l.block (row_blocks l.p l.row l.planes l.n 0) (reading l.initial.words l.initial.reports l.initial.records l.initial.run))
-
-abbrev pub decreases-loop-i : goal.decreases-loop-i
-decreases-loop-i l = l.n - l.i
