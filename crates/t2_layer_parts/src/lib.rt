@@ -5,9 +5,10 @@ ghost use Rattle.std.specs.Prelude.{◌≡◌, ◌+◌, ◌≤◌, min, length};
 ghost use Rattle.t800.specs.State.{writer, layer, bands, blocks};
 ghost use Rattle.t800.specs.WriteHeader.{contribution};
 ghost use Rattle.tcd_state.specs.Front.{words_in_front};
+ghost use Rattle.t2_put_packet.specs.Put.{answer_of};
 ghost use Rattle.t2_layer_parts.specs.Front.{FrontIs, lists_of, rest, PutInFront, WrittenInFront};
 
-use t800::{Markers, Refusal, WriteAnswer};
+use t800::{Markers, Refusal};
 
 // A refusal; or 0, and then how much of the lists it has: words of the states, blocks, passes, body bytes, and bytes of the output.
 #[derive(Clone, Copy)]
@@ -85,15 +86,14 @@ fn in_front(states: &[u32], counts: &[u32], lengths: &[u32], marks: &[u8], bodie
     let b = lists.counts;
     let l = lists.lengths;
     let m = lists.marks;
-    let why = t2_refusals::refusal_of_valid(
+    if let Some(why) = t2_refusals::refusal_of_valid(
         &states[0..words],
         &counts[0..b],
         &lengths[0..l],
         &marks[0..m],
         lists.passes,
-    );
-    if why != 0 {
-        return refused(why);
+    ) {
+        return refused(u32::from(why));
     }
     let bytes = t2_narrow::total(&lengths[0..l]);
     if (bodies as u64) < bytes {
@@ -121,12 +121,12 @@ fn put_in_front(
     markers: Markers,
     number: u32,
     output: &mut [u8],
-) -> WriteAnswer
+) -> Result<usize, Refusal>
     requires { (FrontIs states.now (contribution counts.now lengths.now marks.now) (length bodies.now) front)
         × (front.refusal ≡ 0) × (length scratch.old ≡ length states.now) }
     ensures { PutInFront (rest states.now scratch.old
         (contribution counts.now lengths.now marks.now) bodies.now output.old)
-        markers number result scratch.new output.new }
+        markers number (answer_of result) scratch.new output.new }
 {
     let words = front.words;
     let blocks = front.blocks;
@@ -166,15 +166,13 @@ pub fn write_in_front(
     if front.refusal != 0 {
         return front;
     }
-    let r = put_in_front(
+    match put_in_front(
         front, states, scratch, counts, lengths, marks, bodies, markers, number, output,
-    );
-    Front {
-        refusal: r.refusal,
-        words: front.words,
-        blocks: front.blocks,
-        passes: front.passes,
-        bytes: front.bytes,
-        end: r.bytes as usize,
+    ) {
+        Ok(end) => Front { end, ..front },
+        Err(why) => Front {
+            refusal: u32::from(why),
+            ..front
+        },
     }
 }

@@ -20,13 +20,8 @@ pub fn measure(
         ≡ measure state.now scratch.old
         (contribution counts.now lengths.now marks.now) markers }
 {
-    let refusal = t2_refusals::measure_refusal(state, scratch.len(), counts, lengths, marks);
-    if refusal != 0 {
-        return MeasureAnswer {
-            refusal,
-            header: 0,
-            body: 0,
-        };
+    if let Some(why) = t2_refusals::measure_refusal(state, scratch.len(), counts, lengths, marks) {
+        return MeasureAnswer::refused(why);
     }
     let mut none: [u8; 1] = [0];
     let end = t2_write_packet::put_front(

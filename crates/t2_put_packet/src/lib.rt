@@ -5,9 +5,9 @@ ghost use Rattle.std.specs.Prelude.{◌≡◌, ◌+◌, ◌≤◌, length, set};
 ghost use Rattle.t800.specs.State.{layer};
 ghost use Rattle.t800.specs.WriteHeader.{contribution};
 ghost use Rattle.t2_refusal_laws.specs.Refusals.{measure_refusal_for};
-ghost use Rattle.t2_put_packet.specs.Put.{PacketPut};
+ghost use Rattle.t2_put_packet.specs.Put.{answer_of, PacketPut};
 
-use t800::{Markers, Refusal, WriteAnswer};
+use t800::{Markers, Refusal};
 
 // The scratch becomes the state after the packet. Without room for it the output holds what of it had room.
 pub fn put(
@@ -20,25 +20,18 @@ pub fn put(
     markers: Markers,
     number: u32,
     output: &mut [u8],
-) -> WriteAnswer
+) -> Result<usize, Refusal>
     requires { measure_refusal_for state.now (length scratch.old) (contribution counts.now lengths.now marks.now) ≡ 0 }
     ensures { PacketPut state.now (contribution counts.now lengths.now marks.now)
-        body.now markers number output.old result scratch.new output.new }
+        body.now markers number output.old (answer_of result) scratch.new output.new }
 {
     let end = t2_write_packet::put_front(
         state, scratch, output, counts, lengths, marks, markers, number,
     );
     if !t2_write_packet::has_room(output.len(), end, body.len()) {
-        return WriteAnswer {
-            refusal: Refusal::SPACE,
-            bytes: 0,
-        };
+        return Err(Refusal::Space);
     }
-    let bytes = t2_write_packet::put_body(output, end, body);
-    WriteAnswer {
-        refusal: 0,
-        bytes: bytes as u64,
-    }
+    Ok(t2_write_packet::put_body(output, end, body))
 }
 
 // The state becomes the scratch; without passes the next layer is the only word that differs.

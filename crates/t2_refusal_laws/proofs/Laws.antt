@@ -1,3 +1,4 @@
 pub mod WriterState
 pub mod NotRefused
 pub mod Accepted
+pub mod Numbers

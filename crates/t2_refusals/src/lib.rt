@@ -2,6 +2,7 @@
 #![tactic(auto)]
 
 ghost use Rattle.std.specs.Prelude.{◌≡◌, true, ◌≤◌, length};
+ghost use Rattle.t800.specs.RefusalNumbers.{word_of};
 ghost use Rattle.t800.specs.State.{writer};
 ghost use Rattle.t800.specs.Ranges.{valid_state};
 ghost use Rattle.t800.specs.Base.{sum};
@@ -24,16 +25,11 @@ fn passes_of(counts: &[u32]) -> u64
 }
 
 // From the lists' lengths alone.
+#[tactic(auto, unfolding(crate::specs::Lists::wrong_lengths))]
 fn wrong_lists(blocks: usize, counts: usize, lengths: usize, marks: usize, passes: u64) -> bool
     ensures { result ≡ wrong_lengths counts lengths marks blocks passes }
 {
-    if counts != blocks {
-        return true;
-    }
-    if lengths as u64 != passes {
-        return true;
-    }
-    marks as u64 != passes
+    counts != blocks || lengths as u64 != passes || marks as u64 != passes
 }
 
 // ---- all of them
@@ -45,20 +41,20 @@ fn contribution_refusal(
     lengths: &[u32],
     marks: &[u8],
     passes: u64,
-) -> u32
+) -> Option<Refusal>
     requires { (valid_state writer state.now (length state.now) ≡ true)
         × (length counts.now ≤ 12288 → passes ≡ sum counts.now) }
-    ensures { result ≡ contribution_refusal state.now
+    ensures { word_of result ≡ contribution_refusal state.now
         (contribution counts.now lengths.now marks.now) }
 {
     let bands = tcd_first_words::bands_of(state);
     let n = state[1] as usize;
     let blocks = tcd_layout::num_blocks(bands, n);
     if wrong_lists(blocks, counts.len(), lengths.len(), marks.len(), passes) {
-        return Refusal::LIST;
+        return Some(Refusal::List);
     }
     if tcd_shape::any_over(counts, 164) {
-        return Refusal::PASSES;
+        return Some(Refusal::Passes);
     }
     t2_widths::segments_refusal(state, bands, n, counts, lengths, marks)
 }
@@ -70,31 +66,31 @@ pub fn refusal_of_valid(
     lengths: &[u32],
     marks: &[u8],
     passes: u64,
-) -> u32
+) -> Option<Refusal>
     requires { (valid_state writer state.now (length state.now) ≡ true)
         × (length counts.now ≤ 12288 → passes ≡ sum counts.now) }
-    ensures { result ≡ measure_refusal_for state.now (length state.now)
+    ensures { word_of result ≡ measure_refusal_for state.now (length state.now)
         (contribution counts.now lengths.now marks.now) }
 {
     if state[3] == tcd_style::NOT_YET_INCLUDED {
-        return Refusal::LAYERS;
+        return Some(Refusal::Layers);
     }
     contribution_refusal(state, counts, lengths, marks, passes)
 }
 
-// The refusal of measuring, or 0.
+// The refusal of measuring.
 pub fn measure_refusal(
     state: &[u32],
     scratch_len: usize,
     counts: &[u32],
     lengths: &[u32],
     marks: &[u8],
-) -> u32
-    ensures { result ≡ measure_refusal_for state.now scratch_len
+) -> Option<Refusal>
+    ensures { word_of result ≡ measure_refusal_for state.now scratch_len
         (contribution counts.now lengths.now marks.now) }
 {
     if !tcd_state::valid_state(tcd_style::WRITER, state, scratch_len) {
-        return Refusal::STATE;
+        return Some(Refusal::State);
     }
     refusal_of_valid(state, counts, lengths, marks, passes_of(counts))
 }

@@ -3,6 +3,7 @@
 
 ghost use Rattle.std.specs.Prelude.{◌≡◌, false, ◌+◌, ◌*◌, ◌≤◌, length, take, ltb};
 ghost use Rattle.t800.specs.Base.{any};
+ghost use Rattle.t800.specs.RefusalNumbers.{word_of};
 ghost use Rattle.t800.specs.State.{blocks, blocks_from, blocks_in, band_length, state_length};
 ghost use Rattle.t800.specs.WriteHeader.{segment_too_long, field_too_wide};
 ghost use Rattle.tcd_laws.specs.Geometry.{SidesUpTo64, AllUpTo64};
@@ -139,24 +140,24 @@ pub fn segments_refusal(
     counts: &[u32],
     lengths: &[u32],
     marks: &[u8],
-) -> u32
+) -> Option<Refusal>
     requires { (n ≤ 3) × AllUpTo64 (take n bands) × (length state.now ≡ state_length (take n bands))
         × (length counts.now ≡ length (blocks (take n bands))) × PassesLeft counts.now lengths.now marks.now
         × (length lengths.now ≤ 4294967296) × (any (λ c. ltb 164 c) counts.now ≡ false) }
-    ensures { result ≡ segments_refusal state.now (blocks (take n bands)) counts.now lengths.now
+    ensures { word_of result ≡ segments_refusal state.now (blocks (take n bands)) counts.now lengths.now
         marks.now }
 {
-    if lengths.len() == 0 {
-        return 0;
+    if lengths.is_empty() {
+        return None;
     }
     if t2_narrow::surely_narrow(state, bands, n, lengths) {
-        return 0;
+        return None;
     }
     if segment_too_long(counts, lengths, marks) {
-        return Refusal::LENGTH;
+        return Some(Refusal::Length);
     }
     if field_too_wide(state, bands, n, counts, lengths, marks) {
-        return Refusal::WIDTH;
+        return Some(Refusal::Width);
     }
-    0
+    None
 }

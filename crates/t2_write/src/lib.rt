@@ -23,27 +23,26 @@ pub fn write(
         (contribution counts.now lengths.now marks.now) body.now markers number
         output.old }
 {
-    let why = t2_refusals::measure_refusal(state, scratch.len(), counts, lengths, marks);
-    if why != 0 {
-        return WriteAnswer {
-            refusal: why,
-            bytes: 0,
-        };
+    if let Some(why) = t2_refusals::measure_refusal(state, scratch.len(), counts, lengths, marks) {
+        return WriteAnswer::refused(why);
     }
     if body.len() as u64 != t2_narrow::total(lengths) {
-        return WriteAnswer {
-            refusal: Refusal::BODY,
-            bytes: 0,
-        };
+        return WriteAnswer::refused(Refusal::Body);
     }
-    let r = t2_put_packet::put(
+    match t2_put_packet::put(
         state, scratch, counts, lengths, marks, body, markers, number, output,
-    );
-    if r.refusal != 0 {
-        lists::wipe(scratch);
-        lists::wipe_bytes(output);
-        return r;
+    ) {
+        Ok(bytes) => {
+            t2_put_packet::settle(scratch, state, lengths.len());
+            WriteAnswer {
+                refusal: 0,
+                bytes: bytes as u64,
+            }
+        }
+        Err(why) => {
+            lists::wipe(scratch);
+            lists::wipe_bytes(output);
+            WriteAnswer::refused(why)
+        }
     }
-    t2_put_packet::settle(scratch, state, lengths.len());
-    r
 }

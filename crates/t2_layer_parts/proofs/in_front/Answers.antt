@@ -1,10 +1,13 @@
 use lib.ListN.{length}
 use mathlib.Core.Path.{◌∙◌, ◌≡◌, ap, sym}
+use mathlib.Core.Logic.{◌≢◌}
 use native.Mathlib.Omega.{arith}
+use Rattle.t800.specs.RefusalNumbers.{word_of}
 use Rattle.t800.specs.State.{writer}
 use Rattle.t800.specs.WriteHeader.{contribution}
 use Rattle.tcd_state.specs.Front.{words_in_front}
 use Rattle.tcd_state.proofs.Laws.Front.{no_words, some_words, valid_in_front}
+use Rattle.t2_refusal_laws.proofs.Laws.Numbers.{number-not_0}
 use Rattle.t2_layer_parts.specs.declared.Lists.{Lists}
 use Rattle.t2_layer_parts.proofs.Laws.Front.{valid_part, counts_add_up, why_is, front-state_refused}
 use Rattle.t2_layer_parts.proofs.Laws.Front.{front-refused, refused-front, body_refused_front, accepted_front, lengths_few}
@@ -41,25 +44,25 @@ pub slice_bounds-refusal_of_valid-end-4 : goal.slice_bounds-refusal_of_valid-end
 slice_bounds-refusal_of_valid-end-4 c = let e : _ ≡ _ = ap (λ (k : Lists). k.marks) c.lists_of-lists.ensures in omega
     (arith, e)
 
-pub refusal_of_valid-why-requires : goal.refusal_of_valid-why-requires
+pub refusal_of_valid-requires : goal.refusal_of_valid-requires
 unfolding writer
-refusal_of_valid-why-requires c =
+refusal_of_valid-requires c =
     let a = c.args in
     let f = some_words (words_in_front writer a.states.now) c.in-Some.ensures in (
       valid_part a.states.now _ f.0 f.1,
       λ h. counts_add_up a.states.now a.counts.now (length a.lengths.now) (length a.marks.now) _ c.lists_of-lists.ensures,
     )
 
-pub returns-then-why-ne0 : goal.returns-then-why-ne0
+pub returns-in-Some-refusal_of_valid : goal.returns-in-Some-refusal_of_valid
 unfolding writer
-returns-then-why-ne0 c =
+returns-in-Some-refusal_of_valid c =
     let a = c.args in
     let p = contribution a.counts.now a.lengths.now a.marks.now in
     let f = some_words (words_in_front writer a.states.now) c.in-Some.ensures in
-    refused-front a.states.now p a.bodies _ _ c.refused-then-why-ne0.ensures c.if-why-ne0.true
-    (front-refused a.states.now p a.bodies _
-    (why_is a.states.now p _ _ _ f.0 f.1 c.lists_of-lists.ensures
-    c.refusal_of_valid-why.ensures) c.if-why-ne0.true)
+    let e = c.from.ensures ∙ sym (ap word_of c.in-Some-refusal_of_valid.is) ∙ c.refusal_of_valid.ensures in
+    let n : c.from.result ≢ 0 = λ z. number-not_0 c.in-Some-refusal_of_valid.why (sym c.from.ensures ∙ z) in
+    refused-front a.states.now p a.bodies _ _ c.refused-in-Some-refusal_of_valid.ensures n
+    (front-refused a.states.now p a.bodies _ (why_is a.states.now p _ _ _ f.0 f.1 c.lists_of-lists.ensures e) n)
 
 pub slice_bounds-total-end : goal.slice_bounds-total-end
 slice_bounds-total-end c = let e : _ ≡ _ = ap (λ (k : Lists). k.lengths) c.lists_of-lists.ensures in
@@ -72,7 +75,7 @@ total-bytes-requires c =
     let p = contribution a.counts.now a.lengths.now a.marks.now in
     let f = some_words (words_in_front writer a.states.now) c.in-Some.ensures in
     lengths_few a.states.now p _ _ _ f.0 f.1 c.lists_of-lists.ensures
-    c.refusal_of_valid-why.ensures c.if-why-ne0.false
+    c.refusal_of_valid.ensures (ap word_of c.in_default-refusal_of_valid.is)
 
 pub returns-then-bodies-bytes : goal.returns-then-bodies-bytes
 unfolding writer
@@ -81,7 +84,7 @@ returns-then-bodies-bytes c =
     let p = contribution a.counts.now a.lengths.now a.marks.now in
     let f = some_words (words_in_front writer a.states.now) c.in-Some.ensures in
     body_refused_front a.states.now p _ _ _ f.0 f.1
-    c.lists_of-lists.ensures c.refusal_of_valid-why.ensures c.if-why-ne0.false a.bodies _ c.total-bytes.ensures _
+    c.lists_of-lists.ensures c.refusal_of_valid.ensures (ap word_of c.in_default-refusal_of_valid.is) a.bodies _ c.total-bytes.ensures _
     c.if-bodies-bytes.true c.refused-then-bodies-bytes.ensures
 
 pub returns : goal.returns
@@ -91,4 +94,4 @@ returns c =
     let p = contribution a.counts.now a.lengths.now a.marks.now in
     let f = some_words (words_in_front writer a.states.now) c.in-Some.ensures in
     accepted_front a.states.now p _ _ _ f.0 f.1
-    c.lists_of-lists.ensures c.refusal_of_valid-why.ensures c.if-why-ne0.false a.bodies _ c.total-bytes.ensures c.if-bodies-bytes.false
+    c.lists_of-lists.ensures c.refusal_of_valid.ensures (ap word_of c.in_default-refusal_of_valid.is) a.bodies _ c.total-bytes.ensures c.if-bodies-bytes.false

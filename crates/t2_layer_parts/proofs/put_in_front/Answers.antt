@@ -1,6 +1,7 @@
 use lib.ListN.{length}
 use native.Mathlib.Omega.{arith}
 use Rattle.t800.specs.WriteHeader.{contribution}
+use Rattle.t2_put_packet.specs.Put.{answer_of}
 use Rattle.t2_layer_parts.proofs.Laws.Put.{none_refused, words_asked, blocks-asked, passes_asked, bytes_asked, state_there}
 use Rattle.t2_layer_parts.proofs.Laws.Put.{counts_there, lengths_there, marks_there, body_there, parts_accepted, put_parts}
 use Rattle.t2_layer_parts.proofs.put_in_front.Goals as goal
@@ -92,4 +93,4 @@ returns c =
     let p = contribution a.counts.now a.lengths.now a.marks.now in
     let k = c.put in
     put_parts a.states.now p a.bodies.now a.front s.requires.0 s.requires.1 a.scratch.now s.requires.2 a.markers
-    a.number a.output.now k.result _ _ k.ensures k.auto.scratch k.auto.output
+    a.number a.output.now (answer_of k.result) _ _ k.ensures k.auto.scratch k.auto.output

@@ -15,8 +15,8 @@ returns-then-not-has_room c =
     put_without_room a.state.now p a.body.now a.markers a.number a.output.now _ k.ensures _
     c.has_room.ensures (ap not c.if-not-has_room.true) k.auto.output
 
-pub put_body-bytes-requires : goal.put_body-bytes-requires
-put_body-bytes-requires c = room_left _ _ _ c.has_room.ensures c.if-not-has_room.false
+pub put_body-requires : goal.put_body-requires
+put_body-requires c = room_left _ _ _ c.has_room.ensures c.if-not-has_room.false
 
 pub returns : goal.returns
 returns c =
@@ -26,4 +26,4 @@ returns c =
     let room : k.result + length a.body.now ≤ length k.new.output =
     room_left _ _ _ c.has_room.ensures c.if-not-has_room.false in
     put_done a.state.now p a.body.now a.markers a.number a.output.now _ k.ensures _
-    (omega (arith, room, k.auto.output)) c.put_body-bytes.ensures
+    (omega (arith, room, k.auto.output)) c.put_body.ensures

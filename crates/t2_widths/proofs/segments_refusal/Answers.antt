@@ -1,4 +1,5 @@
 use native.Mathlib.Omega.{arith}
+use borrow.Author.Tests.{eqb-true}
 use lib.ListN.{take}
 use mathlib.Core.Bool.{true, false}
 use mathlib.Core.Path.{◌∙◌, refl, sym}
@@ -6,11 +7,11 @@ use Rattle.t800.specs.State.{blocks}
 use Rattle.t2_widths.proofs.Laws.Refusal.{none_refused, few_not_refused, refusal_parts}
 use Rattle.t2_widths.proofs.segments_refusal.Goals as goal
 
-pub returns-then-lengths-eq0 : goal.returns-then-lengths-eq0
-returns-then-lengths-eq0 c =
+pub returns-then-is_empty : goal.returns-then-is_empty
+returns-then-is_empty c =
     let a = c.args in
     none_refused a.state.now (blocks (take a.n a.bands)) a.counts.now a.lengths.now a.marks.now
-    (omega (arith, c.if-lengths-eq0.true))
+    (eqb-true _ 0 (sym c.is_empty.ensures ∙ c.if-is_empty.true))
 
 pub returns-then-surely_narrow : goal.returns-then-surely_narrow
 returns-then-surely_narrow c =
