@@ -1,11 +1,31 @@
-// Where the words of three bands lie: lengths and starts, and numbers of blocks (tcd.rs).
+// Three bands from nine words; where the words of bands lie: lengths and starts, and numbers of blocks (tcd.rs).
 #![tactic(auto)]
 
-ghost use Rattle.std.specs.Prelude.{◌≡◌, ◌≤◌, length, take};
+ghost use Rattle.std.specs.Prelude.{◌≡◌, ◌+◌, ◌≤◌, length, get_or, take};
 ghost use Rattle.t800.specs.State.{blocks_in, band_nodes, band_length, state_length, blocks};
+ghost use Rattle.t800.specs.Exports.{bands_in};
 ghost use Rattle.tcd_laws.specs.Geometry.{SidesUpTo64, AllUpTo64};
 
 use t800::Band;
+
+fn band_at(words: &[u32], at: usize) -> Band
+    requires { at + 3 ≤ length words.now }
+    ensures { result ≡ record { across = get_or words.now at 0; down = get_or words.now (at + 1) 0; planes = get_or words.now (at + 2) 0 } }
+{
+    Band {
+        across: words[at],
+        down: words[at + 1],
+        planes: words[at + 2],
+    }
+}
+
+// The bands that nine words name, each by three.
+pub fn bands_in(words: &[u32]) -> [Band; 3]
+    requires { 9 ≤ length words.now }
+    ensures { result ≡ bands_in words.now }
+{
+    [band_at(words, 0), band_at(words, 3), band_at(words, 6)]
+}
 
 pub fn band_blocks(band: Band) -> usize
     ensures { result ≡ blocks_in band }

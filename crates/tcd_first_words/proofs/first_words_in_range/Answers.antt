@@ -18,7 +18,7 @@ returns-then-is_refused c =
     let shaped = styled in
     let s = shaped.args in
     let shape = sym styled.if-not-shape_in_range.false ∙ shaped.shape_in_range.ensures in
-    let style' = sym c.if-is_refused.true ∙ styled.is_refused.ensures ∙ ap bad_style styled.word-bits.ensures in
+    let style' = sym c.if-is_refused.true ∙ styled.is_refused.ensures ∙ ap bad_style styled.word.ensures in
     first_words_parts s.role s.state.now true true _ _ _ shape style' refl refl refl
 
 pub returns-then-word-gt-NOT_YET_INCLUDED : goal.returns-then-word-gt-NOT_YET_INCLUDED
@@ -28,8 +28,8 @@ returns-then-word-gt-NOT_YET_INCLUDED c =
     let shaped = styled in
     let s = shaped.args in
     let shape = sym styled.if-not-shape_in_range.false ∙ shaped.shape_in_range.ensures in
-    let style' = sym layered.if-is_refused.false ∙ styled.is_refused.ensures ∙ ap bad_style styled.word-bits.ensures in
-    let layer' = sym (lt-leb (layer s.state.now) not_yet_included (omega (arith, layered.word.ensures))) in
+    let style' = sym layered.if-is_refused.false ∙ styled.is_refused.ensures ∙ ap bad_style styled.word.ensures in
+    let layer' = sym (lt-leb (layer s.state.now) not_yet_included (omega (arith, layered.word-2.ensures))) in
     first_words_parts s.role s.state.now true false false _ _ shape style' layer' refl refl
 
 pub band_too_deep-requires : goal.band_too_deep-requires
@@ -49,8 +49,8 @@ returns-then-band_too_deep c =
     let s = shaped in
     let ws = s.args.state.now in
     let shape = sym styled.if-not-shape_in_range.false ∙ shaped.shape_in_range.ensures in
-    let style' = sym layered.if-is_refused.false ∙ styled.is_refused.ensures ∙ ap bad_style styled.word-bits.ensures in
-    let layer' = sym (le-leb (layer ws) not_yet_included (omega (arith, layered.word.ensures))) in
+    let style' = sym layered.if-is_refused.false ∙ styled.is_refused.ensures ∙ ap bad_style styled.word.ensures in
+    let layer' = sym (le-leb (layer ws) not_yet_included (omega (arith, layered.word-2.ensures))) in
     let depth = sym c.if-band_too_deep.true ∙ deep.band_too_deep.ensures
     ∙ ap band_too_deep (first_bands ws _ _ deep.word-n.ensures s.requires) in
     first_words_parts s.args.role ws true false true true _ shape style' layer' depth refl
@@ -64,8 +64,8 @@ returns c =
     let s = shaped in
     let ws = s.args.state.now in
     let shape = sym styled.if-not-shape_in_range.false ∙ shaped.shape_in_range.ensures in
-    let style' = sym layered.if-is_refused.false ∙ styled.is_refused.ensures ∙ ap bad_style styled.word-bits.ensures in
-    let layer' = sym (le-leb (layer ws) not_yet_included (omega (arith, layered.word.ensures))) in
+    let style' = sym layered.if-is_refused.false ∙ styled.is_refused.ensures ∙ ap bad_style styled.word.ensures in
+    let layer' = sym (le-leb (layer ws) not_yet_included (omega (arith, layered.word-2.ensures))) in
     let depth = sym c.if-band_too_deep.false ∙ deep.band_too_deep.ensures
     ∙ ap band_too_deep (first_bands ws _ _ deep.word-n.ensures s.requires) in
     first_words_parts s.args.role ws true false true false _ shape style' layer' depth

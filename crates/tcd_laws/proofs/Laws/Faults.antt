@@ -1,11 +1,13 @@
 -- Loops that gather a fault: it is 0 exactly as long as the test holds at each place passed.
 use mathlib.Core.Path.{◌≡◌, refl, ap₂, ◌∙◌}
 use mathlib.Core.Bool.{Bool, true, false, cond, ◌&&◌, ◌||◌}
-use Prim.Native.Nat.{ℕ, ◌+◌}
+use Prim.Native.Nat.{ℕ, zero, suc, ◌+◌, ◌<◌}
 use native.Mathlib.Numerals.{add-one}
+use native.Mathlib.Omega.{arith}
 use lib.Bits.{bit_or, bit_and, or_comm}
 use lib.Dec.{eqb}
 use Rattle.t800.specs.Base.{every}
+use Rattle.t800_laws.proofs.Laws.Tests.{on-eq}
 use Rattle.tcd_laws.specs.Parts.{fault}
 
 pub fault-both : (a b : Bool) → bit_or (fault a) (fault b) ≡ fault (a && b)
@@ -39,3 +41,20 @@ faults_turn f i faults m p q = rw (p, q, add-one) (or_comm (fault (every i f)) (
 -- at the loop's end
 pub faults_end : (f : ℕ → Bool) (n i faults : ℕ) → i ≡ n → faults ≡ fault (every i f) → eqb faults 0 ≡ every n f
 faults_end f n i faults e p = rw (p, e) (fault-is_zero (every n f))
+
+-- ---- `every`, from its places
+
+pub every_true : (n : ℕ) (f : ℕ → Bool) → ((k : ℕ) → k < n → f k ≡ true) → every n f ≡ true
+unfolding every
+every_true zero f h = refl
+every_true (suc n) f h = rw (h n (omega arith), every_true n f (λ k l. h k (omega arith)))
+
+pub every_false : (n : ℕ) (f : ℕ → Bool) (k : ℕ) → k < n → f k ≡ false → every n f ≡ false
+unfolding every
+every_false zero f k h e = absurd (omega arith)
+every_false (suc n) f k h e = on-eq k n (λ q. let here : f n ≡ false = rw q at e in rw here)
+    (λ q. rw (every_false n f k (omega arith) e) (either_way (f n)))
+  where
+    either_way : (t : Bool) → (t && false) ≡ false
+    either_way true = refl
+    either_way false = refl

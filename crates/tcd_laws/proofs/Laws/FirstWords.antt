@@ -1,15 +1,16 @@
 -- The parts of the first words' range check, as the code reads them, make the definition's.
-use mathlib.Core.Path.{◌≡◌}
+use mathlib.Core.Path.{◌≡◌, refl}
 use mathlib.Core.Bool.{Bool, true, not, ◌&&◌, ◌||◌}
-use mathlib.Core.List.{List}
+use mathlib.Core.List.{List, [], ◌∷◌}
 use Prim.Native.Nat.{ℕ, ◌+◌, ◌*◌, ◌≤◌, ◌<◌}
 use native.Mathlib.Omega.{arith}
-use lib.ListN.{get_or, take}
+use lib.ListN.{get_or, take, drop}
 use lib.Seq.{get_or-take}
 use lib.Dec.{ltb, leb, eqb}
 use borrow.Author.Tests.{not-true}
 use Rattle.t800.specs.declared.Band.{Band}
 use Rattle.t800.specs.Base.{every}
+use Rattle.t800.specs.Exports.{band_in, bands_in}
 use Rattle.t800.specs.State.{not_yet_included, role, band_count, style, layer, band_at, bands}
 use Rattle.t800.specs.Ranges.{bad_shape, bad_style, band_too_deep, unused_bands_zero}
 use Rattle.tcd_laws.specs.Geometry.{AllUpTo64}
@@ -17,13 +18,14 @@ use Rattle.tcd_laws.proofs.Laws.Bands.{shape_not_refused}
 use Rattle.tcd_laws.specs.Parts.{three_bands, shape_in_range, first_words_in_range}
 use Rattle.t800_laws.proofs.Laws.Tests.{and_right}
 
-pub band_words_lem : (ws : List ℕ) (i a d p : ℕ) → a ≡ get_or ws (4 + 3 * i) 0 → d ≡ get_or ws (4 + 3 * i + 1) 0 → p ≡ get_or ws (4 + 3 * i + 2) 0
-    → ◌≡◌ {A = Band} (record { across = a; down = d; planes = p }) (band_at ws i)
-unfolding band_at
-band_words_lem ws i a d p x y z =
-    let e₁ : 4 + 3 * i + 1 ≡ 5 + 3 * i = omega arith in
-    let e₂ : 4 + 3 * i + 2 ≡ 6 + 3 * i = omega arith in
-    rw (x, y, z, e₁, e₂)
+-- the nine words after the first four
+pub three_bands_lem : (ws : List ℕ) → bands_in (drop 4 ws) ≡ three_bands ws
+unfolding band_at band_in
+three_bands_lem [] = refl
+three_bands_lem (a ∷ []) = refl
+three_bands_lem (a ∷ b ∷ []) = refl
+three_bands_lem (a ∷ b ∷ c ∷ []) = refl
+three_bands_lem (a ∷ b ∷ c ∷ d ∷ ws) = refl
 
 pub first_bands : (ws : List ℕ) (n : ℕ) (bs : List Band) → n ≡ band_count ws → bs ≡ three_bands ws → take n bs ≡ bands ws
 unfolding bands

@@ -1,20 +1,15 @@
 -- Bands from nine words.
-use Prim.Native.Nat.{ℕ, ◌+◌, ◌*◌}
+use Prim.Native.Nat.{ℕ}
 use mathlib.Core.Bool.{true, false}
 use mathlib.Core.Path.{◌≡◌, sym}
 use mathlib.Core.Logic.{◌≢◌}
 use mathlib.Core.List.{List}
-use lib.ListN.{length, get_or, take}
+use lib.ListN.{length, take}
 use borrow.Author.Tests.{eq-eqb, ne_eqb}
 use Rattle.t800.specs.declared.Band.{Band}
 use Rattle.t800.specs.State.{state_length}
 use Rattle.t800.specs.Ranges.{bad_shape}
-use Rattle.t800.specs.Exports.{band_in, bands_in, state_length_of}
-
-pub band_is : (ws : List ℕ) (i a d p : ℕ) → a ≡ get_or ws (3 * i) 0 → d ≡ get_or ws (3 * i + 1) 0 → p ≡ get_or ws (3 * i + 2) 0
-    → ◌≡◌ {A = Band} (record { across = a; down = d; planes = p }) (band_in ws i)
-unfolding band_in
-band_is ws i a d p x y z = rw (x, y, z)
+use Rattle.t800.specs.Exports.{bands_in, state_length_of}
 
 module _ (n : ℕ) (bands : List ℕ) where
   pub length-unlisted : length bands ≢ 9 → 0 ≡ state_length_of n bands
