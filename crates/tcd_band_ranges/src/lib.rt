@@ -30,12 +30,10 @@ fn nodes_in_range(state: &[u32], at: usize, n: usize, most: u32) -> bool
     requires { at + 3 * n ≤ length state.now }
     ensures { result ≡ every n (λ i. node_in_range state.now most (at + 3 * i)) }
 {
-    let mut faults: u32 = 0;
-    let mut i: usize = 0;
-    while i < n {
+    let mut faults = 0;
+    for i in 0..n {
         let node = at + 3 * i;
-        faults = faults | node_fault(state[node], state[node + 1], state[node + 2], most);
-        i += 1;
+        faults |= node_fault(state[node], state[node + 1], state[node + 2], most);
     }
     faults == 0
 }
@@ -58,29 +56,23 @@ fn length_bits_fault(passes: u32, bits: u32) -> u32
 fn has_no_segment(role: u32, passes: u32) -> bool
     ensures { result ≡ (eqb passes 0 || eqb role writer) }
 {
-    if passes == 0 {
-        return true;
-    }
-    role == tcd_style::WRITER
+    passes == 0 || role == tcd_style::WRITER
 }
 
 fn limits_of(style: Style) -> Limits
     ensures { LimitsOf style.bits result }
 {
-    let first = style.first_limit();
-    let second = style.next_limit(2);
-    let third = style.next_limit(1);
     Limits {
-        first,
-        second,
-        third,
+        first: style.first_limit(),
+        second: style.next_limit(2),
+        third: style.next_limit(1),
     }
 }
 
 fn differs(a: u32, b: u32) -> u32
     ensures { result ≡ fault (eqb a b) }
 {
-    if a == b { 0 } else { 1 }
+    u32::from(a != b)
 }
 
 fn limit_fault(limits: Limits, limit: u32) -> u32
@@ -102,8 +94,7 @@ fn segment_fault(role: u32, limits: Limits, passes: u32, limit: u32, used: u32) 
 fn passes_fault(passes: u32, layer: u32) -> u32
     ensures { result ≡ fault (leb passes (164 * layer)) }
 {
-    let most = 164 * (layer as u64);
-    if most < passes as u64 { 1 } else { 0 }
+    u32::from(164 * u64::from(layer) < u64::from(passes))
 }
 
 fn block_fault(
@@ -122,6 +113,7 @@ fn block_fault(
         | segment_fault(role, limits, passes, limit, used)
 }
 
+// Looks at all blocks, so that the loop vectorises.
 fn blocks_in_range(state: &[u32], at: usize, n: usize) -> bool
     requires { at + 4 * n ≤ length state.now }
     ensures { result ≡ every n (λ i. block_in_range state.now (at + 4 * i)) }
@@ -130,21 +122,18 @@ fn blocks_in_range(state: &[u32], at: usize, n: usize) -> bool
     let bits = tcd_first_words::word(state, 2);
     let layer = tcd_first_words::word(state, 3);
     let limits = limits_of(Style { bits });
-    let mut faults: u32 = 0;
-    let mut i: usize = 0;
-    while i < n {
+    let mut faults = 0;
+    for i in 0..n {
         let block = at + 4 * i;
-        faults = faults
-            | block_fault(
-                role,
-                limits,
-                layer,
-                state[block],
-                state[block + 1],
-                state[block + 2],
-                state[block + 3],
-            );
-        i += 1;
+        faults |= block_fault(
+            role,
+            limits,
+            layer,
+            state[block],
+            state[block + 1],
+            state[block + 2],
+            state[block + 3],
+        );
     }
     faults == 0
 }

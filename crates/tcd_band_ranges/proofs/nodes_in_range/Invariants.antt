@@ -1,12 +1,8 @@
-use Prim.Native.Nat.{◌*◌, ◌+◌, ◌-◌, ◌≤◌}
-use mathlib.Core.Path.{◌≡◌}
+use Rattle.std.proofs.Common.{◌≡◌, ◌+◌, ◌*◌}
 use Rattle.t800.specs.Base.{every}
 use Rattle.t800.specs.Ranges.{node_in_range}
 use Rattle.tcd_laws.specs.Parts.{fault}
 use Rattle.tcd_band_ranges.proofs.nodes_in_range.Given as goal
 
 abbrev pub invariant-loop-i : goal.invariant-loop-i
-invariant-loop-i l = (l.i ≤ l.n) × (l.faults ≡ fault (every l.i (λ k. node_in_range l.state l.most (l.at + 3 * k))))
-
-abbrev pub decreases-loop-i : goal.decreases-loop-i
-decreases-loop-i l = l.n - l.i
+invariant-loop-i l = l.faults ≡ fault (every l.i (λ k. node_in_range l.state l.most (l.at + 3 * k)))
