@@ -13,12 +13,9 @@ pub fn total(list: &[u32]) -> u64
     requires { length list.now ≤ 4294967296 }
     ensures { result ≡ sum list.now }
 {
-    let mut all: u64 = 0;
-    let mut i: usize = 0;
-    while i < list.len() {
-        let one = list[i] as u64;
-        all += one;
-        i += 1;
+    let mut all = 0;
+    for one in list {
+        all += u64::from(*one);
     }
     all
 }
@@ -28,12 +25,10 @@ fn blocks_up_to_25_bits(state: &[u32], at: usize, n: usize) -> bool
     requires { at + 4 * n ≤ length state.now }
     ensures { result ≡ every n (λ i. leb (length_bits state.now (at + 4 * i)) 25) }
 {
-    let mut faults: u32 = 0;
-    let mut i: usize = 0;
-    while i < n {
+    let mut faults = 0;
+    for i in 0..n {
         let block = at + 4 * i;
-        faults = faults | tcd_shape::over(state[block + 1], 25);
-        i += 1;
+        faults |= tcd_shape::over(state[block + 1], 25);
     }
     faults == 0
 }
@@ -42,18 +37,14 @@ fn bands_up_to_25_bits(state: &[u32], bands: [Band; 3], n: usize) -> bool
     requires { (n ≤ 3) × AllUpTo64 (take n bands) × (length state.now ≡ state_length (take n bands)) }
     ensures { result ≡ bits_up_to25 state.now 13 (take n bands) }
 {
-    let mut at: usize = 13;
-    let mut i: usize = 0;
-    while i < n {
-        let band = bands[i];
-        let nodes = tcd_layout::band_nodes(band);
-        let size = tcd_layout::band_blocks(band);
-        let first = at + 6 * nodes;
+    let mut at = 13;
+    for band in &bands[..n] {
+        let first = at + 6 * tcd_layout::band_nodes(*band);
+        let size = tcd_layout::band_blocks(*band);
         if !blocks_up_to_25_bits(state, first, size) {
             return false;
         }
         at = first + 4 * size;
-        i += 1;
     }
     true
 }

@@ -17,17 +17,14 @@ pub fn segment_at(lengths: &[u32], marks: &[u8], at: usize) -> CodedSegment
     requires { PassLists lengths.now marks.now × (at ≤ length lengths.now) }
     ensures { segment result.passes result.bytes ≡ first_segment (drop at lengths.now) (drop at marks.now) }
 {
-    let mut passes: u32 = 0;
-    let mut bytes: u64 = 0;
-    let mut i = at;
-    while i < lengths.len() {
-        let one = lengths[i] as u64;
+    let mut passes = 0;
+    let mut bytes = 0;
+    for i in at..lengths.len() {
         passes += 1;
-        bytes += one;
+        bytes += u64::from(lengths[i]);
         if marks[i] != 0 {
             return CodedSegment { passes, bytes };
         }
-        i += 1;
     }
     CodedSegment { passes, bytes }
 }
@@ -39,27 +36,21 @@ pub fn field_width(length_bits: u64, passes: u32) -> u64
     requires { length_bits ≤ 8589934592 }
     ensures { result ≡ width length_bits passes }
 {
-    let log = math::opj_uint_floorlog2(passes);
-    length_bits + log as u64
+    length_bits + u64::from(math::opj_uint_floorlog2(passes))
 }
 
 fn bit_length(bytes: u32) -> u32
     ensures { result ≡ bit_length bytes }
 {
-    let log = math::opj_uint_floorlog2(bytes);
-    1 + log
+    1 + math::opj_uint_floorlog2(bytes)
 }
 
 // The bits by which a segment's length is wider than its field.
 pub fn bits_missing(bytes: u32, passes: u32, length_bits: u32) -> u32
     ensures { result ≡ bit_length bytes - width length_bits passes }
 {
-    let bits = bit_length(bytes);
-    let given = field_width(length_bits as u64, passes);
-    if bits as u64 <= given {
-        return 0;
-    }
-    bits - given as u32
+    let given = field_width(u64::from(length_bits), passes);
+    u64::from(bit_length(bytes)).saturating_sub(given) as u32
 }
 
 // The increment of a block's length bits.
@@ -67,12 +58,11 @@ pub fn segment_increment(lengths: &[u32], marks: &[u8], length_bits: u32) -> u32
     requires { PassLists lengths.now marks.now × (any_too_long (segments_of lengths.now marks.now) ≡ false) }
     ensures { result ≡ increment length_bits (segments_of lengths.now marks.now) }
 {
-    let mut most: u32 = 0;
-    let mut at: usize = 0;
+    let mut most = 0;
+    let mut at = 0;
     while at < lengths.len() {
         let s = segment_at(lengths, marks, at);
-        let bytes = s.bytes as u32;
-        let missing = bits_missing(bytes, s.passes, length_bits);
+        let missing = bits_missing(s.bytes as u32, s.passes, length_bits);
         most = math::opj_uint_max(most, missing);
         at += s.passes as usize;
     }

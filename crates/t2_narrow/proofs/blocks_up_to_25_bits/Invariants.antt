@@ -1,4 +1,4 @@
-use Prim.Native.Nat.{◌*◌, ◌+◌, ◌-◌, ◌≤◌}
+use Prim.Native.Nat.{◌*◌, ◌+◌}
 use lib.Dec.{leb}
 use mathlib.Core.Path.{◌≡◌}
 use Rattle.t800.specs.Base.{every}
@@ -7,7 +7,4 @@ use Rattle.tcd_laws.specs.Parts.{fault}
 use Rattle.t2_narrow.proofs.blocks_up_to_25_bits.Given as goal
 
 abbrev pub invariant-loop-i : goal.invariant-loop-i
-invariant-loop-i l = (l.i ≤ l.n) × (l.faults ≡ fault (every l.i (λ k. leb (length_bits l.state (l.at + 4 * k)) 25)))
-
-abbrev pub decreases-loop-i : goal.decreases-loop-i
-decreases-loop-i l = l.n - l.i
+invariant-loop-i l = l.faults ≡ fault (every l.i (λ k. leb (length_bits l.state (l.at + 4 * k)) 25))

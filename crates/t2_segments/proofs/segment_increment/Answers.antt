@@ -15,8 +15,8 @@ next c = next_segment_lem _ _ _ _ _ (omega arith) (omega arith) c.segment_at-s.e
 pub loop-at-init : goal.loop-at-init
 loop-at-init c = let s = c in (omega arith, omega arith, s.requires.1)
 
-pub overflow_cast-bytes : goal.overflow_cast-bytes
-overflow_cast-bytes c = omega (arith, (first_not_long _ _ _ (next (goal.at.overflow_cast-bytes c).After-segment_at-s).is c.loop-at.invariant.2).0)
+pub overflow_cast-s : goal.overflow_cast-s
+overflow_cast-s c = omega (arith, (first_not_long _ _ _ (next (goal.at.overflow_cast-s c).After-segment_at-s).is c.loop-at.invariant.2).0)
 
 pub overflow_cast-at : goal.overflow_cast-at
 overflow_cast-at c = omega (arith, (next (goal.at.overflow_cast-at c).After-segment_at-s).enough)
