@@ -14,28 +14,24 @@ ghost use Rattle.t2_write_block.specs.Runs.{running, code_all, AllFit};
 ghost use Rattle.t2_write_bands.specs.Bands.{code_band};
 ghost use Rattle.tcd_places.specs.Places.{BandIn, band_blocks, grid_of};
 
-use t2_write_block::Run;
+use t2_write_block::{Coding, Run};
 use t800::{Band, Bio, Level};
 use tcd_places::Grid;
 
 fn code_blocks(
-    codes: &[u16; 328],
     words: &mut [u32],
     out: &mut [u8],
     r: Run,
     band: Band,
     tree: [Level; 7],
     g: Grid,
-    layer: u32,
-    counts: &[u32],
-    lengths: &[u32],
-    marks: &[u8],
+    by: &Coding<'_>,
 ) -> Run
-    requires { (T (is_pass_table codes.now)) × (FreeBitsClear r.bio) × (BandIn (length words.old) g.start band)
-        × (g ≡ grid_of g.start band) × (tree ≡ padded (levels band.across band.down)) × (layer < not_yet_included)
-        × (AllFit counts.now lengths.now marks.now words.old (band_blocks g.start band) r.block r.pass) }
+    requires { (FreeBitsClear r.bio) × (BandIn (length words.old) g.start band)
+        × (g ≡ grid_of g.start band) × (tree ≡ padded (levels band.across band.down))
+        × (AllFit by.now.counts.now by.now.lengths.now by.now.marks.now words.old (band_blocks g.start band) r.block r.pass) }
     ensures { running words.new out.new result
-        ≡ code_all layer counts.now lengths.now marks.now (band_blocks g.start band)
+        ≡ code_all by.now.layer by.now.counts.now by.now.lengths.now by.now.marks.now (band_blocks g.start band)
         (running words.old out.old r) }
 {
     let mut run = r;
@@ -43,62 +39,50 @@ fn code_blocks(
         let mut row = [0usize; 7];
         tgt::opj_tgt_row(tree, g.depth, y, &mut row);
         let place = tcd_places::row_place(g, y);
-        run = t2_write_block::code_row(
-            codes, words, out, run, place, g.w, &row, layer, counts, lengths, marks,
-        );
+        run = t2_write_block::code_row(words, out, run, place, g.w, &row, by);
     }
     run
 }
 
 // The band's new blocks are set before its first is coded.
 fn code_band(
-    codes: &[u16; 328],
     words: &mut [u32],
     out: &mut [u8],
     r: Run,
     band: Band,
     tree: [Level; 7],
     g: Grid,
-    layer: u32,
-    counts: &[u32],
-    lengths: &[u32],
-    marks: &[u8],
+    by: &Coding<'_>,
 ) -> Run
-    requires { (T (is_pass_table codes.now)) × (FreeBitsClear r.bio) × (BandIn (length words.old) g.start band)
-        × (g ≡ grid_of g.start band) × (tree ≡ padded (levels band.across band.down)) × (layer < not_yet_included)
-        × (r.block + blocks_in band ≤ length counts.now)
-        × (AllFit counts.now lengths.now marks.now words.old (band_blocks g.start band) r.block r.pass) }
+    requires { (FreeBitsClear r.bio) × (BandIn (length words.old) g.start band)
+        × (g ≡ grid_of g.start band) × (tree ≡ padded (levels band.across band.down))
+        × (r.block + blocks_in band ≤ length by.now.counts.now)
+        × (AllFit by.now.counts.now by.now.lengths.now by.now.marks.now words.old (band_blocks g.start band) r.block r.pass) }
     ensures { running words.new out.new result
-        ≡ code_band layer counts.now lengths.now marks.now g.start band
+        ≡ code_band by.now.layer by.now.counts.now by.now.lengths.now by.now.marks.now g.start band
         (running words.old out.old r) }
 {
-    t2_write_new_blocks::set_new_blocks(words, band, tree, g, layer, counts, r.block);
-    code_blocks(
-        codes, words, out, r, band, tree, g, layer, counts, lengths, marks,
-    )
+    t2_write_new_blocks::set_new_blocks(words, band, tree, g, by.layer, by.counts, r.block);
+    code_blocks(words, out, r, band, tree, g, by)
 }
 
 // The blocks of the first n bands.
 pub fn code_bands(
-    codes: &[u16; 328],
     words: &mut [u32],
     out: &mut [u8],
     b: Bio,
     bands: [Band; 3],
     n: usize,
-    layer: u32,
-    counts: &[u32],
-    lengths: &[u32],
-    marks: &[u8],
+    by: &Coding<'_>,
 ) -> Bio
-    requires { (T (is_pass_table codes.now)) × (FreeBitsClear b) × (n ≤ 3) × (AllUpTo64 (take n bands))
-        × (length words.old ≡ state_length (take n bands)) × (layer < not_yet_included)
-        × (length counts.now ≡ length (blocks (take n bands)))
-        × (AllFit counts.now lengths.now marks.now words.old (blocks (take n bands)) 0 0) }
+    requires { (FreeBitsClear b) × (n ≤ 3) × (AllUpTo64 (take n bands))
+        × (length words.old ≡ state_length (take n bands))
+        × (length by.now.counts.now ≡ length (blocks (take n bands)))
+        × (AllFit by.now.counts.now by.now.lengths.now by.now.marks.now words.old (blocks (take n bands)) 0 0) }
     ensures { leaf_coded words.new out.new result
         ≡ put_coded (output out.old b)
-        (code_blocks layer (blocks (take n bands)) counts.now lengths.now marks.now
-        (set_new_blocks layer (blocks (take n bands)) counts.now words.old)) }
+        (code_blocks by.now.layer (blocks (take n bands)) by.now.counts.now by.now.lengths.now by.now.marks.now
+        (set_new_blocks by.now.layer (blocks (take n bands)) by.now.counts.now words.old)) }
 {
     let trees = tcd_levels::band_levels(bands);
     let mut run = Run {
@@ -109,9 +93,7 @@ pub fn code_bands(
     let mut start: usize = 13;
     for (band, tree) in bands[..n].iter().zip(&trees) {
         let g = tcd_places::grid_of(*band, start);
-        run = code_band(
-            codes, words, out, run, *band, *tree, g, layer, counts, lengths, marks,
-        );
+        run = code_band(words, out, run, *band, *tree, g, by);
         start = tcd_places::grid_end(*band, g);
     }
     run.bio

@@ -15,6 +15,18 @@ ghost use Rattle.t800.specs.State.{not_yet_included};
 use t800::Bio;
 use tcd_places::Place;
 
+// What a packet's blocks are coded by: the table of pass codes, the layer, and the caller's counts, lengths and marks.
+#[derive(Clone, Copy)]
+pub struct Coding<'a> {
+    pub codes: &'a [u16; 328],
+    pub layer: u32,
+    pub counts: &'a [u32],
+    pub lengths: &'a [u32],
+    pub marks: &'a [u8],
+    ghost table: { T (is_pass_table codes.now) },
+    ghost early: { layer < not_yet_included },
+}
+
 // Where the bits stand, and how many blocks and passes of the caller's lists are done.
 #[derive(Clone, Copy)]
 pub struct Run {
@@ -56,39 +68,35 @@ fn code_block(
 // ---- a row of blocks
 
 fn code_next(
-    codes: &[u16; 328],
     words: &mut [u32],
     out: &mut [u8],
     r: Run,
     p: Place,
     row: &[usize; 7],
-    layer: u32,
-    counts: &[u32],
-    lengths: &[u32],
-    marks: &[u8],
+    by: &Coding<'_>,
 ) -> Run
-    requires { (T (is_pass_table codes.now)) × (FreeBitsClear r.bio) × (BlockIn (length words.old) p row.now)
-        × (layer < not_yet_included) × (NextFits counts.now lengths.now marks.now words.old p.at r.block r.pass) }
+    requires { (FreeBitsClear r.bio) × (BlockIn (length words.old) p row.now)
+        × (NextFits by.now.counts.now by.now.lengths.now by.now.marks.now words.old p.at r.block r.pass) }
     ensures { running words.new out.new result
-        ≡ code_next layer counts.now lengths.now marks.now (block_in p row.now 0)
+        ≡ code_next by.now.layer by.now.counts.now by.now.lengths.now by.now.marks.now (block_in p row.now 0)
         (running words.old out.old r) }
 {
     let block = r.block;
     let next = block + 1;
     let from = r.pass;
-    let count = counts[block];
+    let count = by.counts[block];
     let to = from + count as usize;
     let bio = code_block(
-        codes,
+        by.codes,
         words,
         out,
         r.bio,
         p,
         row,
-        layer,
+        by.layer,
         count,
-        &lengths[from..to],
-        &marks[from..to],
+        &by.lengths[from..to],
+        &by.marks[from..to],
     );
     Run {
         bio,
@@ -99,31 +107,24 @@ fn code_next(
 
 // n blocks.
 pub fn code_row(
-    codes: &[u16; 328],
     words: &mut [u32],
     out: &mut [u8],
     r: Run,
     p: Place,
     n: usize,
     row: &[usize; 7],
-    layer: u32,
-    counts: &[u32],
-    lengths: &[u32],
-    marks: &[u8],
+    by: &Coding<'_>,
 ) -> Run
-    requires { (T (is_pass_table codes.now)) × (FreeBitsClear r.bio) × (RowIn (length words.old) p row.now n)
-        × (layer < not_yet_included)
-        × (AllFit counts.now lengths.now marks.now words.old (row_blocks p row.now 0 n 0) r.block r.pass) }
+    requires { (FreeBitsClear r.bio) × (RowIn (length words.old) p row.now n)
+        × (AllFit by.now.counts.now by.now.lengths.now by.now.marks.now words.old (row_blocks p row.now 0 n 0) r.block r.pass) }
     ensures { running words.new out.new result
-        ≡ code_all layer counts.now lengths.now marks.now (row_blocks p row.now 0 n 0)
+        ≡ code_all by.now.layer by.now.counts.now by.now.lengths.now by.now.marks.now (row_blocks p row.now 0 n 0)
         (running words.old out.old r) }
 {
     let mut run = r;
     for i in 0..n {
         let place = tcd_places::place_at(p, i);
-        run = code_next(
-            codes, words, out, run, place, row, layer, counts, lengths, marks,
-        );
+        run = code_next(words, out, run, place, row, by);
     }
     run
 }

@@ -8,6 +8,8 @@ ghost use Rattle.t800.specs.WriteHeader.{contribution, code_present, code_absent
 ghost use Rattle.t2_refusal_laws.specs.Refusals.{measure_refusal_for};
 ghost use Rattle.t2_write_header.specs.Header.{header_coded, put_at, put_header};
 
+use t2_write_block::Coding;
+
 // One byte, whose first bit is the only one.
 fn encode_absent(words: &mut [u32], out: &mut [u8], start: usize) -> usize
     requires { (13 ≤ length words.old) × (layer words.old < not_yet_included) × (start ≤ 6) }
@@ -15,7 +17,7 @@ fn encode_absent(words: &mut [u32], out: &mut [u8], start: usize) -> usize
         ≡ put_at (code_absent words.old) start out.old }
 {
     bio_bytes::store(out, start, 0);
-    words[3] = words[3] + 1;
+    words[3] += 1;
     start + 1
 }
 
@@ -36,12 +38,16 @@ fn encode_present(
     let bands = tcd_first_words::bands_of(words);
     let n = words[1] as usize;
     let layer = words[3];
-    let codes = t2_write_codes::pass_codes::PASS_CODES;
+    let by = Coding {
+        codes: &t2_write_codes::pass_codes::PASS_CODES,
+        layer,
+        counts,
+        lengths,
+        marks,
+    };
     let b = bio_bytes::opj_bio_init_enc(start);
     let first = bio_write_lent::bit_out(out, b, 1);
-    let last = t2_write_bands::code_bands(
-        &codes, words, out, first, bands, n, layer, counts, lengths, marks,
-    );
+    let last = t2_write_bands::code_bands(words, out, first, bands, n, &by);
     let end = bio_write::opj_bio_flush(out, last);
     words[3] = layer + 1;
     end.bp
@@ -62,7 +68,7 @@ pub fn encode_header(
         ≡ put_header (contribution counts.now lengths.now marks.now) words.old start
         out.old }
 {
-    if lengths.len() == 0 {
+    if lengths.is_empty() {
         return encode_absent(words, out, start);
     }
     encode_present(words, out, start, counts, lengths, marks)

@@ -12,15 +12,13 @@ code_blocks-requires c =
     let s = c in
     let a = s.args in
     let g = c.set_new_blocks in
-    let f = band_fits a.g.start a.band a.layer a.counts.now a.lengths.now a.marks.now a.words.now
-    a.r.block a.r.block a.r.pass s.requires.7 in (
+    let f = band_fits a.g.start a.band a.by.now.layer a.by.now.counts.now a.by.now.lengths.now a.by.now.marks.now a.words.now
+    a.r.block a.r.block a.r.pass s.requires.5 in (
       s.requires.0,
-      s.requires.1,
-      subst (λ (k : ℕ). BandIn k a.g.start a.band) (sym g.auto.words) s.requires.2,
+      subst (λ (k : ℕ). BandIn k a.g.start a.band) (sym g.auto.words) s.requires.1,
+      s.requires.2,
       s.requires.3,
-      s.requires.4,
-      s.requires.5,
-      subst (λ (ws : List ℕ). AllFit a.counts.now a.lengths.now a.marks.now ws (band_blocks a.g.start a.band)
+      subst (λ (ws : List ℕ). AllFit a.by.now.counts.now a.by.now.lengths.now a.by.now.marks.now ws (band_blocks a.g.start a.band)
           a.r.block a.r.pass) (sym g.ensures) f,
     )
 
@@ -30,5 +28,5 @@ returns c =
     let a = c.args in
     let g = c.set_new_blocks in
     c.code_blocks.ensures
-    ∙ ap (λ (ws : List ℕ). code_all a.layer a.counts.now a.lengths.now a.marks.now
+    ∙ ap (λ (ws : List ℕ). code_all a.by.now.layer a.by.now.counts.now a.by.now.lengths.now a.by.now.marks.now
     (band_blocks a.g.start a.band) (running ws a.out.now a.r)) g.ensures

@@ -45,7 +45,7 @@ next c =
 sides : (c : In-Some) → SidesUpTo64 c.in-Some.band.now
 sides c =
     let t = turn c in
-    subst SidesUpTo64 (sym (t.2 no_band)) (sides_of (take c.args.n c.args.bands) _ t.0 c.requires.3)
+    subst SidesUpTo64 (sym (t.2 no_band)) (sides_of (take c.args.n c.args.bands) _ t.0 c.requires.2)
 
 tree_levels : (c : In-Some) → c.in-Some.tree.now ≡ padded (levels c.in-Some.band.now.across c.in-Some.band.now.down)
 tree_levels c =
@@ -61,19 +61,19 @@ tree_levels c =
 
 still_fit : (c : In-Some) →
     let l = c.loop-band in
-    AllFit c.args.counts.now c.args.lengths.now c.args.marks.now l.words (blocks_at l.start (c.in-Some.band.now ∷ left c))
+    AllFit c.args.by.now.counts.now c.args.by.now.lengths.now c.args.by.now.marks.now l.words (blocks_at l.start (c.in-Some.band.now ∷ left c))
     l.run.block l.run.pass
 still_fit c =
     let a = c.args in
     let l = c.loop-band in
-    subst (λ (z : List Band). AllFit a.counts.now a.lengths.now a.marks.now l.words (blocks_at l.start z) l.run.block
+    subst (λ (z : List Band). AllFit a.by.now.counts.now a.by.now.lengths.now a.by.now.marks.now l.words (blocks_at l.start z) l.run.block
     l.run.pass) (next c) l.invariant.5
 
 still_counted : (c : In-Some) → c.loop-band.run.block + length (blocks_at c.loop-band.start (c.in-Some.band.now ∷ left c))
-    ≡ length c.args.counts.now
+    ≡ length c.args.by.now.counts.now
 still_counted c =
     let l = c.loop-band in
-    subst (λ (z : List Band). l.run.block + length (blocks_at l.start z) ≡ length c.args.counts.now) (next c) l.invariant.4
+    subst (λ (z : List Band). l.run.block + length (blocks_at l.start z) ≡ length c.args.by.now.counts.now) (next c) l.invariant.4
 
 ends : (c : In-Some) → end_of (c.loop-band.start + band_length c.in-Some.band.now) (left c) ≡ length c.args.words.now
 unfolding end_of
@@ -85,7 +85,7 @@ pub loop-band-init : goal.loop-band-init
 unfolding blocks state_length
 loop-band-init c =
     let s = c in
-    (s.requires.1, refl, refl, sym s.requires.4, omega (arith, s.requires.6), s.requires.7, refl)
+    (s.requires.0, refl, refl, sym s.requires.3, omega (arith, s.requires.4), s.requires.5, refl)
 
 pub grid_of-g-requires : goal.grid_of-g-requires
 grid_of-g-requires c = sides (goal.at.grid_of-g-requires c).In-Some
@@ -97,7 +97,6 @@ code_band-run-requires c =
     let here = (goal.at.code_band-run-requires c).In-Some in
     let band : Band = c.in-Some.band.now in
     let ge = c.grid_of-g.ensures in (
-      c.requires.0,
       l.invariant.0,
       subst (λ (k : Grid). BandIn (length l.words) k.start band) (sym ge) (record {
         sides = sides here;
@@ -105,11 +104,10 @@ code_band-run-requires c =
       }),
       subst (λ (k : Grid). k ≡ grid_of k.start band) (sym ge) refl,
       tree_levels here,
-      c.requires.5,
       omega (arith, blocks-of_first l.start band (left here), still_counted here),
-      subst (λ (k : Grid). AllFit a.counts.now a.lengths.now a.marks.now l.words (band_blocks k.start band)
+      subst (λ (k : Grid). AllFit a.by.now.counts.now a.by.now.lengths.now a.by.now.marks.now l.words (band_blocks k.start band)
           l.run.block l.run.pass) (sym ge)
-          (first_band_fits l.start band a.layer a.counts.now a.lengths.now a.marks.now (left here)
+          (first_band_fits l.start band a.by.now.layer a.by.now.counts.now a.by.now.lengths.now a.by.now.marks.now (left here)
           (running l.words l.out l.run) (still_fit here)),
     )
 
@@ -134,22 +132,22 @@ loop-band-preserved c =
     let rest : List Band = left here in
     let u = running l.words l.out l.run in
     let st : ℕ = l.start + band_length band in
-    let ke = k.ensures ∙ ap (λ (z : Grid). code_band a.layer a.counts.now a.lengths.now a.marks.now z.start band u) ge in
+    let ke = k.ensures ∙ ap (λ (z : Grid). code_band a.by.now.layer a.by.now.counts.now a.by.now.lengths.now a.by.now.marks.now z.start band u) ge in
     let p : c.grid_end-start.result ≡ st = c.grid_end-start.ensures ∙ ap (λ (z : Grid). z.start + band_length band) ge in
     rw (length_push l.yielded (c.in-Some.band, c.in-Some.tree)) (
-      band_clear a.layer a.counts.now a.lengths.now a.marks.now l.start band u _ ke l.invariant.0,
+      band_clear a.by.now.layer a.by.now.counts.now a.by.now.lengths.now a.by.now.marks.now l.start band u _ ke l.invariant.0,
       k.auto.words ∙ l.invariant.1,
       k.auto.out ∙ l.invariant.2,
       ap (λ (z : ℕ). end_of z rest) p ∙ ends here,
       ap (λ (z : ℕ). k.result.block + length (blocks_at z rest)) p
           ∙ omega (
             arith,
-            band_blocks_lem a.layer a.counts.now a.lengths.now a.marks.now l.start band u _ ke,
+            band_blocks_lem a.by.now.layer a.by.now.counts.now a.by.now.lengths.now a.by.now.marks.now l.start band u _ ke,
             blocks-of_first l.start band rest,
             still_counted here,
           ),
-      other_bands_fit l.start band a.layer a.counts.now a.lengths.now a.marks.now rest u (still_fit here) _ _ p ke,
-      bands-turn a.layer a.counts.now a.lengths.now a.marks.now l.start band _ rest _ u _ (next here) p ke ∙ l.invariant.6,
+      other_bands_fit l.start band a.by.now.layer a.by.now.counts.now a.by.now.lengths.now a.by.now.marks.now rest u (still_fit here) _ _ p ke,
+      bands-turn a.by.now.layer a.by.now.counts.now a.by.now.lengths.now a.by.now.marks.now l.start band _ rest _ u _ (next here) p ke ∙ l.invariant.6,
     )
 
 pub returns : goal.returns
@@ -162,8 +160,8 @@ returns c =
     let trees : length c.band_levels-trees.result ≡ 3 = search rules in
     let all : length l.yielded ≡ _ = zip_end (take a.n a.bands) c.band_levels-trees.result l.yielded c.into_iter-band-iterator.result _
     c.next.new.self _ (search rules) (search rules) l.yielded_by c.in-None.is c.next.ensures.steps in
-    let e : code_bands a.layer a.counts.now a.lengths.now a.marks.now l.start (drop (length l.yielded) (take a.n a.bands)) u
-    ≡ u = ap (λ (z : List Band). code_bands a.layer a.counts.now a.lengths.now a.marks.now l.start z u)
-    (no_more_bands a.bands a.n (length l.yielded) (omega (arith, all, length-take a.n a.bands, c.requires.2, trees))) in
-    bands-coded a.layer a.counts.now a.lengths.now a.marks.now a.words.now a.out.now a.b
-    (take a.n a.bands) u (sym e ∙ l.invariant.6) (omega (arith, c.requires.4)) (omega (arith, c.requires.6))
+    let e : code_bands a.by.now.layer a.by.now.counts.now a.by.now.lengths.now a.by.now.marks.now l.start (drop (length l.yielded) (take a.n a.bands)) u
+    ≡ u = ap (λ (z : List Band). code_bands a.by.now.layer a.by.now.counts.now a.by.now.lengths.now a.by.now.marks.now l.start z u)
+    (no_more_bands a.bands a.n (length l.yielded) (omega (arith, all, length-take a.n a.bands, c.requires.1, trees))) in
+    bands-coded a.by.now.layer a.by.now.counts.now a.by.now.lengths.now a.by.now.marks.now a.words.now a.out.now a.b
+    (take a.n a.bands) u (sym e ∙ l.invariant.6) (omega (arith, c.requires.3)) (omega (arith, c.requires.4))

@@ -18,15 +18,13 @@ code_next-run-requires c =
     let l = c.loop-i in
     let e = c.place_at-place.ensures in
     let u = running l.words l.out l.run in
-    let r = subst (λ (k : ℕ). RowIn k a.p a.row.now a.n) (sym l.invariant.1) s.requires.2 in
+    let r = subst (λ (k : ℕ). RowIn k a.p a.row.now a.n) (sym l.invariant.1) s.requires.1 in
     let f = fits_now (length l.words) a.n l.i a.p a.row.now c.loop-i-test.true r
-    a.layer a.counts.now a.lengths.now a.marks.now u l.invariant.3 in (
-      s.requires.0,
+    a.by.now.layer a.by.now.counts.now a.by.now.lengths.now a.by.now.marks.now u l.invariant.3 in (
       l.invariant.0,
       subst (λ (k : Place). BlockIn (length l.words) k a.row.now) (sym e)
           (block_in-inside (length l.words) a.n l.i a.p a.row.now c.loop-i-test.true r),
-      s.requires.3,
-      subst (λ (k : Place). NextFits a.counts.now a.lengths.now a.marks.now l.words k.at l.run.block
+      subst (λ (k : Place). NextFits a.by.now.counts.now a.by.now.lengths.now a.by.now.marks.now l.words k.at l.run.block
           l.run.pass) (sym e) f,
     )
 
@@ -38,18 +36,18 @@ loop-i-preserved c =
     let t = c.loop-i-test.true in
     let g = c.code_next-run in
     let u = running l.words l.out l.run in
-    let r = subst (λ (k : ℕ). RowIn k a.p a.row.now a.n) (sym l.invariant.1) s.requires.2 in
+    let r = subst (λ (k : ℕ). RowIn k a.p a.row.now a.n) (sym l.invariant.1) s.requires.1 in
     let e = g.ensures ∙ ap
-    (λ (k : Place). code_next a.layer a.counts.now a.lengths.now a.marks.now (block_in k a.row.now 0) u)
+    (λ (k : Place). code_next a.by.now.layer a.by.now.counts.now a.by.now.lengths.now a.by.now.marks.now (block_in k a.row.now 0) u)
     c.place_at-place.ensures in (
       subst FreeBitsClear (sym (ap (λ (x : Running). x.output.bio) g.ensures))
-          (next_clear a.layer a.counts.now a.lengths.now a.marks.now _ u l.invariant.0),
+          (next_clear a.by.now.layer a.by.now.counts.now a.by.now.lengths.now a.by.now.marks.now _ u l.invariant.0),
       g.auto.words ∙ l.invariant.1,
       g.auto.out ∙ l.invariant.2,
-      fits_then (length l.words) a.n l.i a.p a.row.now t r a.layer a.counts.now a.lengths.now
-          a.marks.now u _ e l.invariant.3,
-      codes_then (length l.words) a.n l.i a.p a.row.now t r a.layer a.counts.now a.lengths.now
-          a.marks.now u _ e ∙ l.invariant.4,
+      fits_then (length l.words) a.n l.i a.p a.row.now t r a.by.now.layer a.by.now.counts.now a.by.now.lengths.now
+          a.by.now.marks.now u _ e l.invariant.3,
+      codes_then (length l.words) a.n l.i a.p a.row.now t r a.by.now.layer a.by.now.counts.now a.by.now.lengths.now
+          a.by.now.marks.now u _ e ∙ l.invariant.4,
     )
 
 pub returns : goal.returns
@@ -58,5 +56,5 @@ returns c =
     let a = c.args in
     let l = c.loop-i in
     sym
-    (ap (λ (ks : List Block). code_all a.layer a.counts.now a.lengths.now a.marks.now ks
+    (ap (λ (ks : List Block). code_all a.by.now.layer a.by.now.counts.now a.by.now.lengths.now a.by.now.marks.now ks
     (running l.words l.out l.run)) (row_end a.p a.row.now 0 a.n l.i c.loop-i-test.false)) ∙ l.invariant.4

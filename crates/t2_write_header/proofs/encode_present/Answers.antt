@@ -43,7 +43,7 @@ overflow_cast-n c =
     let a = s.args in
     let ws = a.words.now in
     let r = not_refused_for ws (length ws) (contribution a.counts.now a.lengths.now a.marks.now) s.requires.0 in
-    omega (arith, first_words_lem ws (length ws) r.valid, c.slice_known-3-1.given 1)
+    let small = c.type_inv.words 1 in omega (arith, first_words_lem ws (length ws) r.valid, small)
 
 pub bounds-words-3 : goal.bounds-words-3
 bounds-words-3 c =
@@ -58,8 +58,15 @@ bit_out-first-requires c =
     let a = c.args in
     (subst FreeBitsClear (sym c.opj_bio_init_enc-b.ensures) (empty_at-clear a.start), omega arith)
 
-pub code_bands-last-requires : goal.code_bands-last-requires
+pub invariant_of-by : goal.invariant_of-by
 unfolding is_pass_table is_codeword same_bits every bits_of pass_bits
+invariant_of-by c =
+    let a = c.args in
+    let ws = a.words.now in
+    let r = not_refused_for ws (length ws) (contribution a.counts.now a.lengths.now a.marks.now) c.requires.0 in
+    record { table = tt; early = layer-left ws (length ws) _ r }
+
+pub code_bands-last-requires : goal.code_bands-last-requires
 code_bands-last-requires c =
     let s = c in
     let a = s.args in
@@ -72,14 +79,12 @@ code_bands-last-requires c =
     let sides = sides_are ws (length ws) r.valid n bs refl three in
     let first = c.bit_out-first in
     let clear : FreeBitsClear (empty_at a.start) = empty_at-clear a.start in (
-      tt,
       subst FreeBitsClear (sym (ap (λ (o : Output). o.bio) first.ensures))
           (put_bit-clear (output a.out.now c.opj_bio_init_enc-b.result) _
           (subst FreeBitsClear (sym c.opj_bio_init_enc-b.ensures) clear)),
       sides.0,
       sides.1,
       length-is ws (length ws) r.valid n bs refl three,
-      layer-left ws (length ws) _ r,
       r.counts_are ∙ ap (λ (l : List Band). length (blocks l)) (sym e),
       subst (λ (l : List Band). AllFit a.counts.now a.lengths.now a.marks.now ws (blocks l) 0 0) (sym e)
           (all_fit ws (length ws) _ r),
