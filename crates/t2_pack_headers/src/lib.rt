@@ -9,10 +9,10 @@ ghost use Rattle.t2_pack_headers.specs.Packing.{opening, packed_length, place_of
 // The most header bytes of one segment, and of all segments.
 const MOST_BYTES: usize = 65532;
 
-const MOST_OF_ALL: usize = 256 * MOST_BYTES;
+pub const MOST_OF_ALL: usize = 256 * MOST_BYTES;
 
 // The bytes of a segment before its header bytes.
-const FRONT: usize = 5;
+pub const FRONT: usize = 5;
 
 // How many header bytes are put, where the next one goes, and how many more the last segment takes.
 #[derive(Clone, Copy)]
@@ -28,7 +28,7 @@ fn segments_for(count: usize) -> usize
     requires { count ≤ most_segments * most_bytes }
     ensures { result ≡ segments_for count }
 {
-    (count + (MOST_BYTES - 1)) / MOST_BYTES
+    count.div_ceil(MOST_BYTES)
 }
 
 // The bytes of the segments of so many header bytes.
@@ -105,10 +105,8 @@ pub fn put_header(headers: &mut [u8], count: usize, bytes: &[u8])
     ensures { headers.new ≡ put_header headers.old count bytes.now }
 {
     let mut p = place_of(count);
-    let mut i = 0;
-    while i < bytes.len() {
-        p = put_byte(headers, p, bytes[i]);
-        i += 1;
+    for &byte in bytes {
+        p = put_byte(headers, p, byte);
     }
 }
 
