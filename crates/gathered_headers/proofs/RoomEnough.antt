@@ -65,7 +65,7 @@ module _ (src : List ℕ) (room : ℕ) where
       (either UpTo12 (ltb (value w.words (k.incl_tree + 3 * k.leaf)) (t + 1)) _ _ (included_up_to i k _ h g) h)
       (either UpTo12 (eqb (get_bit src r.bio).value 0) _ _ h (included_up_to i k _ h g))
 
-  blocks-up_to : (t i : ℕ) (ks : List Block) (r : HeaderRead) → UpTo12 r → Fits r (164 * length ks)
+  pub blocks-up_to : (t i : ℕ) (ks : List Block) (r : HeaderRead) → UpTo12 r → Fits r (164 * length ks)
       → UpTo12 (read_blocks src room t i ks r)
   unfolding read_blocks
   blocks-up_to t i [] r h g = h
@@ -74,7 +74,7 @@ module _ (src : List ℕ) (room : ℕ) where
       let one = block_up_to t i k r h (omega arith) in
       either UpTo12 (eqb s.refusal 0) _ _ (blocks-up_to t (i + 1) ks s one (omega (arith, block_few src room t i k r))) one
 
-  header_up_to_lem : (ws : List ℕ) (b : Bio) → 164 * length (blocks (bands ws)) ≤ room → UpTo12 (read_header src room ws b)
+  pub header_up_to_lem : (ws : List ℕ) (b : Bio) → 164 * length (blocks (bands ws)) ≤ room → UpTo12 (read_header src room ws b)
   unfolding read_header
   header_up_to_lem ws b h =
       let r : HeaderRead = record { refusal = 0; words = ws; bio = b; reports = []; records = [] } in

@@ -2,39 +2,23 @@
 #![tactic(auto)]
 
 ghost use Rattle.std.specs.Prelude.{◌≡◌, ◌*◌, ◌≤◌, length};
+ghost use Rattle.t800.specs.RefusalNumbers.{number_of};
 ghost use Rattle.t800.specs.PackedHeaders.{most_bytes, most_segments};
 ghost use Rattle.t800.specs.Gathered.{gather};
 ghost use Rattle.t2_pack_headers.specs.Packing.{packed_length, closed};
-ghost use Rattle.t2_gather.specs.Answers.{row_refusal, gather_result, refused_move};
+ghost use Rattle.t2_gather.specs.Answers.{gather_result, refused_move};
 
 use t2_gather_packet::Moved;
 use t800::{GatherAnswer, Markers, Refusal};
 
-// 10 for what is left of the row.
-fn row_refusal(g: Moved, bytes: usize) -> u32
-    ensures { result ≡ row_refusal g bytes }
-{
-    if g.refusal != 0 {
-        return g.refusal;
-    }
-    if g.taken < bytes {
-        return Refusal::BODY;
-    }
-    0
-}
-
-fn refuse(scratch: &mut [u32], headers: &mut [u8], bodies: &mut [u8], why: u32) -> GatherAnswer
+fn refuse(scratch: &mut [u32], headers: &mut [u8], bodies: &mut [u8], why: Refusal) -> GatherAnswer
     ensures { gather_result result scratch.new headers.new bodies.new
-        ≡ refused_move why scratch.old headers.old bodies.old }
+        ≡ refused_move (number_of why) scratch.old headers.old bodies.old }
 {
     lists::wipe(scratch);
     lists::wipe_bytes(headers);
     lists::wipe_bytes(bodies);
-    GatherAnswer {
-        refusal: why,
-        headers: 0,
-        bodies: 0,
-    }
+    GatherAnswer::refused(why)
 }
 
 // The last segment's length field, and the answer.
@@ -67,13 +51,15 @@ pub fn gather(
         headers.old bodies.old }
 {
     if !tcd_states::states_fit(states, scratch.len(), places) {
-        return refuse(scratch, headers, bodies, Refusal::STATE);
+        return refuse(scratch, headers, bodies, Refusal::State);
     }
     lists::copy(states, scratch);
-    let g = t2_gather_row::gather_packets(row, states, scratch, places, m, headers, bodies);
-    let why = row_refusal(g, row.len());
-    if why != 0 {
-        return refuse(scratch, headers, bodies, why);
+    let g = match t2_gather_row::gather_packets(row, states, scratch, places, m, headers, bodies) {
+        Ok(g) => g,
+        Err(why) => return refuse(scratch, headers, bodies, why),
+    };
+    if g.taken < row.len() {
+        return refuse(scratch, headers, bodies, Refusal::Body);
     }
     close(headers, g)
 }

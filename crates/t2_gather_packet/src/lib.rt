@@ -1,24 +1,22 @@
 // One packet of a row gathered: its header put into segments, SOP and body behind those before them, and its reader's state moved on.
 #![tactic(auto)]
 
-ghost use Rattle.std.specs.Prelude.{◌≡◌, true, not, ◌||◌, ◌+◌, ◌*◌, ◌^◌, ◌<◌, ◌≤◌, length, take, drop, ltb};
+ghost use Rattle.std.specs.Prelude.{Ok, ◌≡◌, true, not, ◌||◌, ◌+◌, ◌*◌, ◌^◌, ◌<◌, ◌≤◌, length, take, drop, ltb};
 ghost use Rattle.std.proofs.lemmas.List.Edits.{sets};
 ghost use Rattle.t800.specs.State.{reader};
 ghost use Rattle.t800.specs.Ranges.{valid_state};
 ghost use Rattle.t800.specs.PackedHeaders.{most_bytes, most_segments, segments_for};
 ghost use Rattle.t2_pack_headers.specs.Packing.{packed_length, put_header};
+ghost use Rattle.t2_skip_packet.specs.Parts.{number_in, skipped};
 ghost use Rattle.t2_gather_packet.specs.Moving.{sizes_refusal, body_parts, GathersPacket};
 
-use t2_skip_packet::Skipped;
+use t2_pack_headers::MOST_OF_ALL;
+use t2_skip_packet::Parts;
 use t800::{Markers, Refusal};
 
-// The most header bytes of all segments.
-const MOST_HEADERS: usize = 256 * 65532;
-
-// Where a move stands: bytes of the row taken, header bytes and other bytes put; or a refusal.
+// Where a move stands: bytes of the row taken, header bytes and other bytes put.
 #[derive(Clone, Copy)]
 pub struct Moved {
-    pub refusal: u32,
     pub taken: usize,
     pub headers: usize,
     pub bodies: usize,
@@ -26,33 +24,19 @@ pub struct Moved {
 
 // ---- 10, 15, 11
 
-// Whether a packet with these parts ends within so many bytes.
-fn ends_within(p: Skipped, left: usize) -> bool
-    ensures { result ≡ not (ltb left (p.sop + p.header + p.body)) }
-{
-    if left < p.sop {
-        return false;
-    }
-    let behind = left - p.sop;
-    if behind < p.header {
-        return false;
-    }
-    p.body <= (behind - p.header) as u64
-}
-
 // Whether these header bytes are too many behind those before them.
-fn needs_more_segments(p: Skipped, g: Moved) -> bool
+fn needs_more_segments(p: Parts, g: Moved) -> bool
     requires { g.headers ≤ most_segments * most_bytes }
     ensures { result ≡ ltb most_segments (segments_for (g.headers + p.header)) }
 {
-    if MOST_HEADERS < p.header {
+    if MOST_OF_ALL < p.header {
         return true;
     }
     t2_pack_headers::needs_more_segments(g.headers + p.header)
 }
 
 // Whether header bytes and the others have room behind those before them.
-fn has_room(p: Skipped, g: Moved, headers_room: usize, bodies_room: usize) -> bool
+fn has_room(p: Parts, g: Moved, headers_room: usize, bodies_room: usize) -> bool
     requires { (g.headers + p.header ≤ most_segments * most_bytes) × (g.bodies ≤ bodies_room) × (p.sop + p.body < 2 ^ 64) }
     ensures { result
         ≡ not (ltb headers_room (packed_length (g.headers + p.header)) || ltb bodies_room (g.bodies + p.sop + p.body)) }
@@ -67,31 +51,34 @@ fn has_room(p: Skipped, g: Moved, headers_room: usize, bodies_room: usize) -> bo
     sop + p.body <= left as u64
 }
 
-fn sizes_refusal(p: Skipped, g: Moved, left: usize, headers_room: usize, bodies_room: usize) -> u32
+fn sizes_fit(
+    p: Parts,
+    g: Moved,
+    left: usize,
+    headers_room: usize,
+    bodies_room: usize,
+) -> Result<(), Refusal>
     requires { (g.headers ≤ most_segments * most_bytes) × (g.bodies ≤ bodies_room) }
-    ensures { result ≡ sizes_refusal p g left headers_room bodies_room }
+    ensures { number_in result ≡ sizes_refusal (skipped (Ok p)) g left headers_room bodies_room }
 {
-    if p.refusal != 0 {
-        return p.refusal;
-    }
-    if !ends_within(p, left) {
-        return Refusal::BODY;
+    if !p.end_within(left) {
+        return Err(Refusal::Body);
     }
     if needs_more_segments(p, g) {
-        return Refusal::SEGMENTS;
+        return Err(Refusal::Segments);
     }
     if !has_room(p, g, headers_room, bodies_room) {
-        return Refusal::SPACE;
+        return Err(Refusal::Space);
     }
-    0
+    Ok(())
 }
 
 // ---- the bytes
 
 // SOP and the body, from the packet in front of `row`.
-fn put_bodies(row: &[u8], p: Skipped, bodies: &mut [u8], at: usize)
+fn put_bodies(row: &[u8], p: Parts, bodies: &mut [u8], at: usize)
     requires { (p.sop + p.header + p.body ≤ length row.now) × (at + p.sop + p.body ≤ length bodies.old) }
-    ensures { bodies.new ≡ sets bodies.old at (body_parts p row.now) }
+    ensures { bodies.new ≡ sets bodies.old at (body_parts (skipped (Ok p)) row.now) }
 {
     let sop = p.sop;
     let end = t2_write_packet::put_body(bodies, at, &row[..sop]);
@@ -108,22 +95,14 @@ pub fn gather_packet(
     headers: &mut [u8],
     bodies: &mut [u8],
     g: Moved,
-) -> Moved
+) -> Result<Moved, Refusal>
     requires { (valid_state reader words.old (length words.old) ≡ true) × (g.taken + length row.now < 2 ^ 64)
         × (g.headers ≤ most_segments * most_bytes) × (g.bodies ≤ length bodies.old) }
     ensures { GathersPacket row.now m words.old headers.old bodies.old g
         words.new headers.new bodies.new result }
 {
-    let p = t2_skip_packet::opj_t2_skip_packet(words, row, m);
-    let why = sizes_refusal(p, g, row.len(), headers.len(), bodies.len());
-    if why != 0 {
-        return Moved {
-            refusal: why,
-            taken: 0,
-            headers: 0,
-            bodies: 0,
-        };
-    }
+    let p = t2_skip_packet::opj_t2_skip_packet(words, row, m)?;
+    sizes_fit(p, g, row.len(), headers.len(), bodies.len())?;
     let sop = p.sop;
     let end = sop + p.header;
     let count = g.headers;
@@ -131,10 +110,9 @@ pub fn gather_packet(
     let at = g.bodies;
     put_bodies(row, p, bodies, at);
     let body = p.body as usize;
-    Moved {
-        refusal: 0,
+    Ok(Moved {
         taken: g.taken + (end + body),
         headers: count + p.header,
         bodies: at + (sop + body),
-    }
+    })
 }

@@ -1,14 +1,16 @@
 -- The packets of a row gathered, in the code's lists and counts.
-use Rattle.std.specs.Prelude.{◌≡◌, ℕ, ◌+◌, ◌-◌, ◌*◌, ◌≤◌, length, take, drop}
+use Rattle.std.specs.Prelude.{Result, IfOk, ◌≡◌, ℕ, ◌+◌, ◌-◌, ◌*◌, ◌≤◌, length, take, drop}
 use mathlib.Core.List.{List, [], ◌++◌, flat_map}
 use Rattle.std.proofs.lemmas.List.Edits.{sets}
 use Rattle.t800.specs.declared.Markers.{Markers}
+use Rattle.t800.specs.declared.Refusal.{Refusal}
 use Rattle.t800.specs.Base.{Words, Bytes}
 use Rattle.t800.specs.PackedHeaders.{most_bytes, most_segments}
 use Rattle.t800.specs.Gathered.{Gathering, states_in, gather_packets}
 use Rattle.tcd_states.specs.declared.Found.{Found}
 use Rattle.tcd_states.specs.States.{start_of, AllValid, words_at}
 use Rattle.t2_pack_headers.specs.Packing.{packed_length, put_header}
+use Rattle.t2_skip_packet.specs.Parts.{number_in}
 use Rattle.t2_gather_packet.specs.declared.Moved.{Moved}
 use Rattle.t2_gather_packet.specs.Moving.{GathersPacket}
 
@@ -16,7 +18,7 @@ use Rattle.t2_gather_packet.specs.Moving.{GathersPacket}
 
 -- as GathersPacket has it, with its state in these words of the scratch
 pub record GathersAt (row : Bytes) (m : Markers) (f : Found) (ws : Words) (hs bs : Bytes) (g : Moved) (ws' : Words) (hs' bs' : Bytes)
-    (o : Moved) : Type 0 where
+    (o : Result Moved Refusal) : Type 0 where
   pub after : Words
   pub packet : GathersPacket row m (words_at f ws) hs bs g after hs' bs' o
   pub replaced : ws' ≡ take f.start ws ++ (after ++ drop (f.start + f.words - f.start) (drop f.start ws))
@@ -45,7 +47,7 @@ from_start row states = record { refusal = 0; states = states_in states; row = r
 abbrev pub all_gathered : (row : Bytes) → Markers → (states places : Words) (hs bs : Bytes) → Gathering
 all_gathered row m states places hs bs = gather_packets m (length hs) (length bs) places (from_start row states)
 
-pub record GathersPackets (row : Bytes) (m : Markers) (states places : Words) (hs bs : Bytes) (ws : Words) (hs' bs' : Bytes) (o : Moved)
-    : Type 0 where
-  pub refuses : o.refusal ≡ (all_gathered row m states places hs bs).refusal
-  pub stands : o.refusal ≡ 0 → Stands (states_in states) row hs bs (all_gathered row m states places hs bs) ws hs' bs' o
+pub record GathersPackets (row : Bytes) (m : Markers) (states places : Words) (hs bs : Bytes) (ws : Words) (hs' bs' : Bytes)
+    (o : Result Moved Refusal) : Type 0 where
+  pub refuses : number_in o ≡ (all_gathered row m states places hs bs).refusal
+  pub stands : IfOk o (λ g. Stands (states_in states) row hs bs (all_gathered row m states places hs bs) ws hs' bs' g)

@@ -10,7 +10,7 @@ ghost use Rattle.tcd_states.specs.States.{Indexed, words_at};
 ghost use Rattle.t2_gather_row.specs.Standing.{GathersAt, GathersPackets};
 
 use t2_gather_packet::Moved;
-use t800::Markers;
+use t800::{Markers, Refusal};
 use tcd_states::Found;
 
 // The packet in front of what is left of the row, with these words of the scratch for its state.
@@ -22,7 +22,7 @@ fn gather_at(
     headers: &mut [u8],
     bodies: &mut [u8],
     g: Moved,
-) -> Moved
+) -> Result<Moved, Refusal>
     requires { (f.start + f.words ≤ length scratch.old)
         × (valid_state reader (words_at f scratch.old) (length (words_at f scratch.old)) ≡ true)
         × (g.taken ≤ length row.now) × (g.headers ≤ most_segments * most_bytes) × (g.bodies ≤ length bodies.old) }
@@ -46,28 +46,22 @@ fn gather_places(
     m: Markers,
     headers: &mut [u8],
     bodies: &mut [u8],
-) -> Moved
+) -> Result<Moved, Refusal>
     requires { (bad_states states.now (length scratch.old) places.now ≡ false)
         × Indexed (states_in states.now) stride starts.now × (scratch.old ≡ states.now) }
     ensures { GathersPackets row.now m states.now places.now headers.old
         bodies.old scratch.new headers.new bodies.new result }
 {
     let mut g = Moved {
-        refusal: 0,
         taken: 0,
         headers: 0,
         bodies: 0,
     };
-    let mut i: usize = 0;
-    while i < places.len() {
-        let f = tcd_states::find_state(states, starts, stride, places[i] as usize);
-        g = gather_at(row, scratch, f, m, headers, bodies, g);
-        if g.refusal != 0 {
-            return g;
-        }
-        i += 1;
+    for &place in places {
+        let f = tcd_states::find_state(states, starts, stride, place as usize);
+        g = gather_at(row, scratch, f, m, headers, bodies, g)?;
     }
-    g
+    Ok(g)
 }
 
 // The same, with an index of the states; after a refusal the lists hold anything.
@@ -79,7 +73,7 @@ pub fn gather_packets(
     m: Markers,
     headers: &mut [u8],
     bodies: &mut [u8],
-) -> Moved
+) -> Result<Moved, Refusal>
     requires { (bad_states states.now (length scratch.old) places.now ≡ false) × (scratch.old ≡ states.now) }
     ensures { GathersPackets row.now m states.now places.now headers.old
         bodies.old scratch.new headers.new bodies.new result }

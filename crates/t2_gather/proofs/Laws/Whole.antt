@@ -1,5 +1,5 @@
 -- A whole move, by its tests in order.
-use Prim.Native.Nat.{ℕ, ◌+◌, ◌*◌, ◌≤◌}
+use Prim.Native.Nat.{ℕ, ◌+◌, ◌-◌, ◌*◌, ◌≤◌, ◌<◌}
 use mathlib.Core.Path.{◌≡◌, sym, ap, ◌∙◌, subst}
 use mathlib.Core.Logic.{◌≢◌}
 use mathlib.Core.Bool.{Bool, true, false, cond, not}
@@ -9,7 +9,11 @@ use lib.ListN.{length, drop, length-drop}
 use lib.Seq.{sets-eq}
 use lib.Dec.{eqb, ltb}
 use borrow.Author.Tests.{eq-eqb, ne_eqb, lt-ltb, le-ltb}
+use Rattle.std.proofs.Common.{Ok, Err}
 use Rattle.t800.specs.declared.Markers.{Markers}
+use Rattle.t800.specs.declared.Refusal.{Refusal}
+use Rattle.t800.specs.RefusalNumbers.{number_of}
+use Rattle.t2_skip_packet.proofs.Laws.Numbers.{refusal_counts}
 use Rattle.t800.specs.declared.GatherAnswer.{GatherAnswer}
 use Rattle.t800.specs.Base.{Words, Bytes, overwrite}
 use Rattle.t800.specs.Refusals.{check, first_of, body_refusal}
@@ -20,7 +24,7 @@ use Rattle.t2_pack_headers.specs.Packing.{packed_length, closed}
 use Rattle.t2_pack_headers.proofs.Laws.Packed.{packed-length, put_keeps_length, closed-is_packed}
 use Rattle.t2_gather_packet.specs.declared.Moved.{Moved}
 use Rattle.t2_gather_row.specs.Standing.{Stands, all_gathered, GathersPackets}
-use Rattle.t2_gather.specs.Answers.{row_refusal, gather_result, refused_move}
+use Rattle.t2_gather.specs.Answers.{gather_result, refused_move}
 
 -- lists as long are wiped alike
 pub wiped-alike : (why : ℕ) (ws ws' : Words) (hs hs' bs bs' : Bytes) → length ws' ≡ length ws → length hs' ≡ length hs
@@ -54,45 +58,36 @@ module _ (row : Bytes) (states scratch places : Words) (m : Markers) (hs bs : By
 
     -- ---- with what the packets leave
 
-    module _ (ws : Words) (hs' bs' : Bytes) (g : Moved) (k : GathersPackets row m states places hs bs ws hs' bs' g) where
-      row_behind : Stands (states_in states) row hs bs all ws hs' bs' g → not (eqb (length all.row) 0) ≡ ltb g.taken (length row)
-      row_behind s =
-          let n = ap length s.row_left in
-          on-lt g.taken (length row)
-          (λ l. ap not (ne_eqb (length all.row) 0 (omega (arith, n, length-drop g.taken row)))
-          ∙ sym (lt-ltb g.taken (length row) l))
-          (λ l. ap not (eq-eqb (length all.row) 0 (omega (arith, n, length-drop g.taken row)))
-          ∙ sym (le-ltb g.taken (length row) l))
+    pub packets-refused : (ws : Words) (hs' bs' : Bytes) (why : Refusal)
+        → GathersPackets row m states places hs bs ws hs' bs' (Err why) → refused_move (number_of why) scratch hs bs ≡ moved
+    packets-refused ws hs' bs' why k =
+        let n : all.refusal ≢ 0 = λ z. refusal_counts why (k.refuses ∙ z) in
+        let number : late_number ≡ all.refusal = if-true (not (eqb all.refusal 0)) _ _ (ap not (ne_eqb all.refusal 0 n)) in
+        ap (λ (w : ℕ). refused_move w scratch hs bs) (k.refuses ∙ sym number)
+        ∙ sym (by_number ∙ if-ne late_number 0 _ _ (λ z. n (sym number ∙ z)))
 
-      late_is : row_refusal g (length row) ≡ late_number
-      unfolding row_refusal
-      late_is =
-          on-eq g.refusal 0
-          (λ z. if-false (not (eqb g.refusal 0)) _ _ (ap not (eq-eqb g.refusal 0 z))
-          ∙ ap (λ (t : Bool). cond t body_refusal 0) (sym (row_behind (k.stands z)))
-          ∙ sym (if-false (not (eqb all.refusal 0)) _ _ (ap not (eq-eqb all.refusal 0 (sym k.refuses ∙ z)))))
-          (λ n. if-true (not (eqb g.refusal 0)) _ _ (ap not (ne_eqb g.refusal 0 n))
-          ∙ k.refuses
-          ∙ sym (if-true (not (eqb all.refusal 0)) _ _ (ap not (ne_eqb all.refusal 0 (λ z. n (k.refuses ∙ z))))))
+    module _ (ws : Words) (hs' bs' : Bytes) (g : Moved) (k : GathersPackets row m states places hs bs ws hs' bs' (Ok g)) where
+      stands : Stands (states_in states) row hs bs all ws hs' bs' g
+      stands = k.stands
 
-      pub refused-late : (why : ℕ) → why ≡ row_refusal g (length row) → why ≢ 0 → refused_move why scratch hs bs ≡ moved
-      refused-late why e ne =
-          let n : why ≡ late_number = e ∙ late_is in
-          ap (λ (w : ℕ). refused_move w scratch hs bs) n
-          ∙ sym (by_number ∙ if-ne late_number 0 _ _ (λ z. ne (n ∙ z)))
+      -- what is left of the row alone
+      late_is : late_number ≡ cond (not (eqb (length all.row) 0)) body_refusal 0
+      late_is = if-false (not (eqb all.refusal 0)) _ _ (ap not (eq-eqb all.refusal 0 (sym k.refuses)))
 
-      module _ (why : ℕ) (e : why ≡ row_refusal g (length row)) (z : why ≡ 0) where
+      row_behind : length all.row ≡ length row - g.taken
+      row_behind = sym (ap length stands.row_left) ∙ length-drop g.taken row
+
+      pub row_left-over : g.taken < length row → refused_move body_refusal scratch hs bs ≡ moved
+      row_left-over l =
+          let number : late_number ≡ body_refusal =
+          late_is ∙ if-true (not (eqb (length all.row) 0)) _ _ (ap not (ne_eqb (length all.row) 0 (omega (arith, row_behind)))) in
+          ap (λ (w : ℕ). refused_move w scratch hs bs) (sym number)
+          ∙ sym (by_number ∙ if-ne late_number 0 _ _ (omega (arith, number)))
+
+      module _ (whole : length row ≤ g.taken) where
         none : late_number ≡ 0
-        none = sym late_is ∙ sym e ∙ z
-
-        pub accepted : g.refusal ≡ 0
-        unfolding row_refusal
-        accepted =
-            on-eq g.refusal 0 (λ q. q)
-            (λ n. absurd (n (sym (if-true (not (eqb g.refusal 0)) _ _ (ap not (ne_eqb g.refusal 0 n))) ∙ sym e ∙ z)))
-
-        stands : Stands (states_in states) row hs bs all ws hs' bs' g
-        stands = k.stands accepted
+        none =
+            late_is ∙ if-false (not (eqb (length all.row) 0)) _ _ (ap not (eq-eqb (length all.row) 0 (omega (arith, row_behind))))
 
         pub room_to_close : (packed_length g.headers ≤ length hs') × (g.headers ≤ most_segments * most_bytes)
         room_to_close =

@@ -6,15 +6,18 @@ use mathlib.Core.List.{◌++◌}
 use native.Mathlib.Omega.{arith}
 use lib.ListN.{length, take, drop, length-take, length-drop}
 use lib.Seq.{sets}
+use Rattle.std.proofs.Common.{Ok, Err}
 use Rattle.t800.specs.declared.Markers.{Markers}
+use Rattle.t800.specs.declared.Refusal.{Refusal}
+use Rattle.t800.specs.RefusalNumbers.{number_of}
 use Rattle.t800.specs.Base.{Words, Bytes}
 use Rattle.t800.specs.Gathered.{Parts, parts_in_row}
 use Rattle.t800_laws.proofs.Laws.Tests.{on-eq}
 use Rattle.t2_write_packet.specs.Front.{BytesPut, bytes_put, put_bytes}
 use Rattle.t2_write_packet.proofs.Laws.Front.{put_append}
 use Rattle.t2_pack_headers.specs.Packing.{put_header}
-use Rattle.t2_skip_packet.specs.declared.Skipped.{Skipped}
-use Rattle.t2_skip_packet.specs.Parts.{SkipsPacket}
+use Rattle.t2_skip_packet.specs.Parts.{Skipped, SkipsPacket}
+use Rattle.t2_skip_packet.proofs.Laws.Numbers.{refusal_counts}
 use Rattle.t2_gather_packet.specs.declared.Moved.{Moved}
 use Rattle.t2_gather_packet.specs.Moving.{sizes_refusal, header_part, body_parts, counts_of, GathersPacket}
 use Rattle.t2_gather_packet.proofs.Laws.Sizes.{by_reader, parts_fit}
@@ -58,38 +61,37 @@ module _ (row : Bytes) (m : Markers) (ws : Words) (hs bs : Bytes) (g : Moved) (v
       ∙ k.refuses
       ∙ by_reader (counts_of parts) g (length row) (length hs) (length bs) n)
 
-  pub turned_away : (hs' bs' : Bytes) (why : ℕ) → why ≡ why_for p → why ≢ 0
-      → GathersPacket row m ws hs bs g vs hs' bs' (record { refusal = why; taken = 0; headers = 0; bodies = 0 })
-  turned_away hs' bs' why e n =
+  pub turned_away : (hs' bs' : Bytes) (why : Refusal) → number_of why ≡ why_for p
+      → GathersPacket row m ws hs bs g vs hs' bs' (Err why)
+  turned_away hs' bs' why e =
+      let n = refusal_counts why in
       record {
         refuses = e ∙ same_refusal;
         state = λ z. absurd (n z);
         headers-put = λ z. absurd (n z);
         bodies_put = λ z. absurd (n z);
-        moved = λ z. absurd (n z);
+        moved = tt;
       }
 
-  pub gathered : (hs' bs' : Bytes) (why : ℕ) → why ≡ why_for p → why ≡ 0
+  pub gathered : (hs' bs' : Bytes) → 0 ≡ why_for p
       → hs' ≡ put_header hs g.headers (take (p.sop + p.header - p.sop) (drop p.sop row))
       → bs' ≡ sets bs g.bodies (body_parts p row)
-      → GathersPacket row m ws hs bs g vs hs' bs' (record {
-        refusal = 0;
+      → GathersPacket row m ws hs bs g vs hs' bs' (Ok (record {
         taken = g.taken + (p.sop + p.header + p.body);
         headers = g.headers + p.header;
         bodies = g.bodies + (p.sop + p.body);
-      })
-  gathered hs' bs' why e z x y =
-      let none : parts.refusal ≡ 0 = sym k.refuses ∙ (parts_fit p g (length row) (length hs) (length bs) (sym e ∙ z)).accepted in
+      }))
+  gathered hs' bs' e x y =
+      let none : parts.refusal ≡ 0 = sym k.refuses ∙ (parts_fit p g (length row) (length hs) (length bs) (sym e)).accepted in
       let same : p ≡ counts_of parts = counts none in
       let n : p.sop + p.header - p.sop ≡ p.header = omega arith in
       record {
-        refuses = sym z ∙ e ∙ same_refusal;
+        refuses = e ∙ same_refusal;
         state = λ _. (k.holds none).0;
         headers-put = λ _. x ∙ ap (λ (h : ℕ). put_header hs g.headers (take h (drop p.sop row))) n
             ∙ ap (λ (q : Skipped). put_header hs g.headers (header_part q row)) same;
         bodies_put = λ _. y ∙ ap (λ (q : Skipped). sets bs g.bodies (body_parts q row)) same;
-        moved = λ _ i. record {
-          refusal = 0;
+        moved = λ i. record {
           taken = g.taken + ((same i).sop + (same i).header + (same i).body);
           headers = g.headers + (same i).header;
           bodies = g.bodies + ((same i).sop + (same i).body);

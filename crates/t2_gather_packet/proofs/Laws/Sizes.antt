@@ -11,24 +11,14 @@ use Rattle.t800.specs.PackedHeaders.{most_bytes, most_segments, segments_for}
 use Rattle.t800_laws.proofs.Laws.Tests.{on-eq, on-le, or_left, or_right, not_refused}
 use Rattle.t2_pack_headers.specs.Packing.{packed_length}
 use Rattle.t2_pack_headers.proofs.Laws.Steps.{more_than_all}
-use Rattle.t2_skip_packet.specs.declared.Skipped.{Skipped}
+use Rattle.t2_skip_packet.specs.Parts.{Skipped}
 use Rattle.t2_gather_packet.specs.declared.Moved.{Moved}
 use Rattle.t2_gather_packet.specs.Moving.{sizes_refusal, PartsFit}
-
-pub within : (left sop header body : ℕ) → sop ≤ left → header ≤ left - sop
-    → leb body (left - sop - header) ≡ not (ltb left (sop + header + body))
-within left sop header body h k =
-    on-le body (left - sop - header)
-    (λ l. le-leb body (left - sop - header) l ∙ sym (ap not (le-ltb left (sop + header + body) (omega arith))))
-    (λ l. lt-leb body (left - sop - header) l ∙ sym (ap not (lt-ltb left (sop + header + body) (omega arith))))
 
 pub header_too_long : (before header : ℕ) → most_segments * most_bytes < header
     → true ≡ ltb most_segments (segments_for (before + header))
 header_too_long before header h =
     sym (sym (more_than_all (before + header)) ∙ lt-ltb (most_segments * most_bytes) (before + header) (omega arith))
-
-pub not_within : (left n : ℕ) → left < n → false ≡ not (ltb left n)
-not_within left n h = sym (ap not (lt-ltb left n h))
 
 -- the test of the first list
 pub no_header_room : (room bytes bodies more : ℕ) → room < bytes → false ≡ not (ltb room bytes || ltb bodies more)

@@ -3,6 +3,8 @@ use native.Mathlib.Omega.{arith}
 use lib.ListN.{length-take, length-drop}
 use lib.Seq.{length-take-le}
 use Rattle.t2_write_packet.specs.Front.{BytesPut, bytes_put}
+use Rattle.std.proofs.Common.{Ok}
+use Rattle.t2_skip_packet.specs.Parts.{skipped}
 use Rattle.t2_gather_packet.proofs.Laws.Moving.{parts_put}
 use Rattle.t2_gather_packet.proofs.put_bodies.Goals as goal
 
@@ -23,5 +25,5 @@ pub returns : goal.returns
 returns c =
     let r = c in
     let a = r.args in
-    parts_put a.bodies.now a.row.now a.at a.p _ (bytes_put _ c.put_body.result) r.put_body-end.ensures
+    parts_put a.bodies.now a.row.now a.at (skipped (Ok a.p)) _ (bytes_put _ c.put_body.result) r.put_body-end.ensures
     c.put_body.ensures

@@ -7,7 +7,10 @@ use mathlib.Core.List.{List, ◌++◌, append_assoc}
 use native.Mathlib.Omega.{arith}
 use lib.ListN.{length, get_or, take, drop, set, length-drop, length-set, drop_of_length-le}
 use lib.Seq.{sets, length-sets, drop-drop}
+use Rattle.std.proofs.Common.{Result, Ok}
+use Rattle.std.proofs.lemmas.Result.{IfOk-at_ok}
 use Rattle.t800.specs.declared.Markers.{Markers}
+use Rattle.t800.specs.declared.Refusal.{Refusal}
 use Rattle.t800.specs.Base.{Words, Bytes}
 use Rattle.t800.specs.State.{reader}
 use Rattle.t800.specs.Ranges.{valid_state}
@@ -26,6 +29,7 @@ use Rattle.tcd_states.proofs.Laws.Valid.{valid_with}
 use Rattle.t2_write_packet.proofs.Laws.Front.{sets_append}
 use Rattle.t2_pack_headers.specs.Packing.{packed_length, put_header}
 use Rattle.t2_pack_headers.proofs.Laws.Packed.{put_append, put_keeps_length}
+use Rattle.t2_skip_packet.specs.Parts.{number_in}
 use Rattle.t2_gather_packet.specs.declared.Moved.{Moved}
 use Rattle.t2_gather_packet.specs.Moving.{sizes_refusal, counts_of, header_part, PartsFit, GathersPacket}
 use Rattle.t2_gather_packet.proofs.Laws.Sizes.{parts_fit}
@@ -67,7 +71,7 @@ module _ (ss : List Words) (row hs bs : Bytes) (gs : Gathering) (ws : Words) (hs
 
     -- ---- a packet
 
-    module _ (m : Markers) (ws' : Words) (hs' bs' : Bytes) (o : Moved) (p : GathersAt (drop g.taken row) m f ws hs₁ bs₁ g ws' hs' bs' o)
+    module _ (m : Markers) (ws' : Words) (hs' bs' : Bytes) (o : Result Moved Refusal) (p : GathersAt (drop g.taken row) m f ws hs₁ bs₁ g ws' hs' bs' o)
       where
         abbrev next : Gathering
         next = gather_packet m (length hs) (length bs) place gs
@@ -80,13 +84,23 @@ module _ (ss : List Words) (row hs bs : Bytes) (gs : Gathering) (ws : Words) (hs
             subst (λ (r : Bytes). GathersPacket r m state hs₁ bs₁ g p.after hs' bs' o) k.row_left
             (subst (λ (s : Words). GathersPacket (drop g.taken row) m s hs₁ bs₁ g p.after hs' bs' o) state_is p.packet)
 
-        pub number_is : o.refusal ≡ next.refusal
+        pub number_is : number_in o ≡ next.refusal
         number_is =
             gathers.refuses
             ∙ (λ i. sizes_refusal (counts_of parts) g (length gs.row) (headers-as_long i) (bodies_as_long i))
             ∙ same_number m (length hs) (length bs) place gs g k.header_bytes_lem k.body_bytes
 
-        module _ (accepted : o.refusal ≡ 0) where
+        module _ (q : Moved) (is : o ≡ Ok q) where
+          accepted : number_in o ≡ 0
+          accepted = ap number_in is
+
+          moved : q ≡ record {
+            taken = g.taken + (parts.sop + parts.header + parts.body);
+            headers = g.headers + parts.header;
+            bodies = g.bodies + (parts.sop + parts.body);
+          }
+          moved = IfOk-at_ok _ is gathers.moved
+
           fit : PartsFit (counts_of parts) g (length gs.row) (length hs₁) (length bs₁)
           fit = parts_fit (counts_of parts) g (length gs.row) (length hs₁) (length bs₁) (sym gathers.refuses ∙ accepted)
 
@@ -107,9 +121,9 @@ module _ (ss : List Words) (row hs bs : Bytes) (gs : Gathering) (ws : Words) (hs
           abbrev whole : ℕ
           whole = parts.sop + parts.header + parts.body
 
-          row_behind : drop o.taken row ≡ drop whole gs.row
+          row_behind : drop q.taken row ≡ drop whole gs.row
           row_behind =
-              ap (λ (x : Moved). drop x.taken row) (gathers.moved accepted)
+              ap (λ (x : Moved). drop x.taken row) moved
               ∙ sym (drop-drop whole g.taken row)
               ∙ ap (drop whole) k.row_left
 
@@ -132,18 +146,17 @@ module _ (ss : List Words) (row hs bs : Bytes) (gs : Gathering) (ws : Words) (hs
               ∙ sets_append gs.bodies (sop ++ body) bs 0
               ∙ ap (sets bs 0) (sym (append_assoc gs.bodies sop body))
 
-          pub stands_next : Stands ss row hs bs next ws' hs' bs' o
+          pub stands_next : Stands ss row hs bs next ws' hs' bs' q
           unfolding gather_packet
           stands_next =
-              let o_is = gathers.moved accepted in
-              let taken_is = ap (λ (x : Moved). x.taken) o_is in
-              let headers-is = ap (λ (x : Moved). x.headers) o_is in
-              let bodies_is = ap (λ (x : Moved). x.bodies) o_is in
+              let taken_is = ap (λ (x : Moved). x.taken) moved in
+              let headers-is = ap (λ (x : Moved). x.headers) moved in
+              let bodies_is = ap (λ (x : Moved). x.bodies) moved in
               record {
                 states_are = moved_states;
                 all_valid = valid_with gs.states place parts.state k.all_valid stays.in_range;
                 as_many = length-set gs.states place parts.state ∙ k.as_many;
-                same_starts = λ q. starts_kept gs.states place parts.state stays.as_long q ∙ k.same_starts q;
+                same_starts = λ n. starts_kept gs.states place parts.state stays.as_long n ∙ k.same_starts n;
                 row_left = row_behind;
                 in_row = omega (arith, taken_is, fit.in_row, ap length k.row_left, length-drop g.taken row, k.in_row);
                 headers-put = headers-behind;

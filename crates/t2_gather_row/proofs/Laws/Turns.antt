@@ -6,7 +6,9 @@ use mathlib.Core.Bool.{true, false}
 use native.Mathlib.Omega.{arith}
 use lib.ListN.{length, get_or, take, drop, length-drop}
 use lib.Seq.{take_all}
+use Rattle.std.proofs.Common.{Ok, Err}
 use Rattle.t800.specs.declared.Markers.{Markers}
+use Rattle.t800.specs.declared.Refusal.{Refusal}
 use Rattle.t800.specs.Base.{Words, Bytes}
 use Rattle.t800.specs.State.{reader}
 use Rattle.t800.specs.Ranges.{valid_state}
@@ -15,6 +17,7 @@ use Rattle.t800.specs.Gathered.{state_at, states_in, bad_states, Gathering, gath
 use Rattle.tcd_states.specs.declared.Found.{Found}
 use Rattle.tcd_states.specs.States.{start_of, words_at}
 use Rattle.tcd_states.proofs.Laws.Valid.{states_fit_lem}
+use Rattle.t2_skip_packet.proofs.Laws.Numbers.{refusal_counts}
 use Rattle.t2_gather_packet.specs.declared.Moved.{Moved}
 use Rattle.t2_gather_row.specs.Standing.{GathersAt, Stands, from_start, all_gathered, GathersPackets}
 use Rattle.t2_gather_row.proofs.Laws.Packets.{state_in_scratch, state_in_range, bodies_as_long, number_is, stands_next}
@@ -26,28 +29,26 @@ pub record Underway (row : Bytes) (m : Markers) (states places : Words) (hs bs :
   pub so_far : Gathering
   pub stands : Stands (states_in states) row hs bs so_far ws hs₁ bs₁ g
   pub rest : gather_packets m (length hs) (length bs) (drop i places) so_far ≡ all_gathered row m states places hs bs
-  pub accepted : g.refusal ≡ 0
   pub accepted_so_far : so_far.refusal ≡ 0
 
 module _ (row : Bytes) (m : Markers) (states places : Words) (hs bs : Bytes) (n : ℕ) (good : bad_states states n places ≡ false) where
   pub first_one : (ws : Words) → ws ≡ states
-      → Underway row m states places hs bs 0 ws hs bs (record { refusal = 0; taken = 0; headers = 0; bodies = 0 })
+      → Underway row m states places hs bs 0 ws hs bs (record { taken = 0; headers = 0; bodies = 0 })
   first_one ws e =
       record {
         so_far = from_start row states;
         stands = stands_first row states hs bs ws _ (states_fit_lem states n places good).all_valid e refl refl refl;
         rest = refl;
-        accepted = refl;
         accepted_so_far = refl;
       }
 
   module _ (i : ℕ) (ws : Words) (hs₁ bs₁ : Bytes) (g : Moved) (u : Underway row m states places hs bs i ws hs₁ bs₁ g) where
-    pub last_one : length places ≤ i → GathersPackets row m states places hs bs ws hs₁ bs₁ g
+    pub last_one : length places ≤ i → GathersPackets row m states places hs bs ws hs₁ bs₁ (Ok g)
     last_one h =
         let all = sym (none_left m (length hs) (length bs) places i h u.so_far) ∙ u.rest in
         record {
-          refuses = u.accepted ∙ sym u.accepted_so_far ∙ ap (λ (x : Gathering). x.refusal) all;
-          stands = λ _. subst (λ (x : Gathering). Stands (states_in states) row hs bs x ws hs₁ bs₁ g) all u.stands;
+          refuses = sym u.accepted_so_far ∙ ap (λ (x : Gathering). x.refusal) all;
+          stands = subst (λ (x : Gathering). Stands (states_in states) row hs bs x ws hs₁ bs₁ g) all u.stands;
         }
 
     module _ (h : i < length places) where
@@ -73,29 +74,27 @@ module _ (row : Bytes) (m : Markers) (states places : Words) (hs bs : Bytes) (n 
                 omega (arith, s.bodies_room, bodies_as_long (states_in states) row hs bs u.so_far ws hs₁ bs₁ g s),
               )
 
-          module _ (ws' : Words) (hs' bs' : Bytes) (o : Moved) (p : GathersAt (drop g.taken row) m f ws hs₁ bs₁ g ws' hs' bs' o) where
-            number : o.refusal ≡ (gather_packet m (length hs) (length bs) place u.so_far).refusal
-            number =
+          module _ (ws' : Words) (hs' bs' : Bytes) where
+            pub ended : (why : Refusal) → GathersAt (drop g.taken row) m f ws hs₁ bs₁ g ws' hs' bs' (Err why)
+                → GathersPackets row m states places hs bs ws' hs' bs' (Err why)
+            ended why p =
+                let number =
                 number_is (states_in states) row hs bs u.so_far ws hs₁ bs₁ g u.stands place place_there f found.0 found.1
-                m ws' hs' bs' o p
-
-            pub ended : o.refusal ≢ 0 → GathersPackets row m states places hs bs ws' hs' bs' o
-            ended ne =
+                m ws' hs' bs' (Err why) p in
+                let ne = refusal_counts why in
                 let all = sym (packets-end m (length hs) (length bs) places i h u.so_far (λ z. ne (number ∙ z))) ∙ u.rest in
-                record {
-                  refuses = number ∙ ap (λ (x : Gathering). x.refusal) all;
-                  stands = λ z. absurd (ne z);
-                }
+                record { refuses = number ∙ ap (λ (x : Gathering). x.refusal) all; stands = tt }
 
-            pub next_one : o.refusal ≡ 0 → Underway row m states places hs bs (i + 1) ws' hs' bs' o
-            next_one z =
-                let none = sym number ∙ z in
+            pub next_one : (o : Moved) → GathersAt (drop g.taken row) m f ws hs₁ bs₁ g ws' hs' bs' (Ok o)
+                → Underway row m states places hs bs (i + 1) ws' hs' bs' o
+            next_one o p =
+                let none = sym (number_is (states_in states) row hs bs u.so_far ws hs₁ bs₁ g u.stands place place_there f found.0
+                found.1 m ws' hs' bs' (Ok o) p) in
                 record {
                   so_far = gather_packet m (length hs) (length bs) place u.so_far;
                   stands = stands_next (states_in states) row hs bs u.so_far ws hs₁ bs₁ g u.stands place place_there f
-                      found.0 found.1 m ws' hs' bs' o p z;
+                      found.0 found.1 m ws' hs' bs' (Ok o) p o refl;
                   rest = sym (packets-turn m (length hs) (length bs) places i h u.so_far none) ∙ u.rest;
-                  accepted = z;
                   accepted_so_far = none;
                 }
 

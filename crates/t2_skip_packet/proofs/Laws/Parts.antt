@@ -3,28 +3,34 @@ use mathlib.Core.Path.{◌≡◌, refl, sym, ap, ◌∙◌, subst}
 use mathlib.Core.Logic.{◌≢◌}
 use mathlib.Core.Bool.{true, false, not}
 use mathlib.Core.List.{List, [], ◌++◌, append-nil}
-use Prim.Native.Nat.{ℕ, ◌+◌, ◌-◌, ◌*◌}
+use Prim.Native.Nat.{ℕ, ◌+◌, ◌-◌, ◌*◌, ◌≤◌}
 use native.Mathlib.Omega.{arith}
 use lib.Dec.{eqb}
+use Rattle.std.proofs.Common.{Err}
 use lib.ListN.{length, set, length-replicate, drop_of_length-le}
 use borrow.Author.Tests.{eq-eqb, ne_eqb}
 use Rattle.t800.specs.declared.Markers.{Markers}
+use Rattle.t800.specs.declared.Refusal.{Refusal}
+use Rattle.t800.specs.declared.Refusal.TheVariants.{Layers}
+use Rattle.t800.specs.RefusalNumbers.{number_of}
 use Rattle.t800.specs.declared.SegmentRecord.{SegmentRecord}
 use Rattle.t800.specs.Base.{overwrite}
 use Rattle.t800.specs.Bits.{Decoded, bio_at, get_bit}
 use Rattle.t800.specs.MarkerSegments.{MarkerRead, read_marker, read_sop, read_eph}
 use Rattle.t800.specs.State.{reader, not_yet_included, layer, bands, blocks}
 use Rattle.t800.specs.Ranges.{valid_state}
-use Rattle.t800.specs.Reports.{report_width, body_bytes, as_found}
+use Rattle.t800.specs.Reports.{report_width, body_bytes, as_found, room_for_all}
 use Rattle.t800.specs.ReadHeader.{HeaderRead}
 use Rattle.t800.specs.Packet.{ReadResult, read_refusal, read, read_with, read_absent, read_present, first_bit}
 use Rattle.t800.specs.Gathered.{Parts, reports_for, parts_in_row}
-use Rattle.t800_laws.proofs.Laws.Tests.{if-true, if-false, if-eq, if-ne, on-eq}
+use Rattle.t800_laws.proofs.Laws.Tests.{either, if-true, if-false, if-eq, if-ne, on-eq}
+use Rattle.tcd_laws.proofs.Laws.ValidStates.{blocks-of_valid}
+use Rattle.gathered_headers.proofs.RoomEnough.{header_up_to_lem}
 use Rattle.t2_read_refusals.proofs.Laws.Refusals.{refusal_6, no_refusal}
 use Rattle.t2_skip_header.specs.declared.Skipped as Header
 use Rattle.t2_skip_header.specs.Skipping.{whole_header}
-use Rattle.t2_skip_packet.specs.declared.Skipped.{Skipped}
-use Rattle.t2_skip_packet.specs.Parts.{SkipsPacket, SkipsFrom, header_from, header_bytes}
+use Rattle.t2_skip_packet.proofs.Laws.Numbers.{refusal_counts}
+use Rattle.t2_skip_packet.specs.Parts.{SkipsPacket, skipped, SkipsFrom, header_from, header_bytes}
 
 -- records stored in a list of none are that list
 over_none : (rs : List SegmentRecord) → overwrite [] rs ≡ rs
@@ -152,14 +158,10 @@ module _ (ws : List ℕ) (m : Markers) (src : List ℕ) (valid : valid_state rea
   abbrev parts : Parts
   parts = parts_in_row ws m src
 
-  pub layers_refused : (vs : List ℕ) (o : Skipped) → layer ws ≡ not_yet_included → o ≡ record { refusal = 6; sop = 0; header = 0; body = 0 }
-      → SkipsPacket parts vs o
-  layers_refused vs o e is =
+  pub layers_refused : (vs : List ℕ) → layer ws ≡ not_yet_included → SkipsPacket parts vs (skipped (Err Layers))
+  layers_refused vs e =
       let six = no_more_layers ws m src valid e in
-      record {
-        refuses = ap (λ (x : Skipped). x.refusal) is ∙ sym six;
-        holds = λ z. absurd (omega (arith, sym six ∙ z));
-      }
+      record { refuses = sym six; holds = λ z. absurd (omega (arith, sym six ∙ z)) }
 
   module _ (more : layer ws ≢ not_yet_included) (s : MarkerRead) (sop : s ≡ read_marker m.sop 6 0x91 src 0) (first : Decoded)
       (bit : first ≡ get_bit src (bio_at s.skip)) (vs : List ℕ) (h : Header.Skipped) (skips : SkipsFrom src ws first vs h) where
@@ -179,14 +181,10 @@ module _ (ws : List ℕ) (m : Markers) (src : List ℕ) (valid : valid_state rea
     alike : parts.refusal ≡ read-header.refusal
     alike = refused-alike ws m src valid more
 
-    pub header_refused : (us : List ℕ) (o : Skipped) → h.refusal ≢ 0
-        → o ≡ record { refusal = h.refusal; sop = 0; header = 0; body = 0 } → SkipsPacket parts us o
-    header_refused us o n is =
-        let why = skips_first.refuses in
-        record {
-          refuses = ap (λ (x : Skipped). x.refusal) is ∙ why ∙ sym alike;
-          holds = λ z. absurd (n (why ∙ sym alike ∙ z));
-        }
+    pub header_refused : (us : List ℕ) (why : Refusal) → number_of why ≡ h.refusal → SkipsPacket parts us (skipped (Err why))
+    header_refused us why e =
+        let number = e ∙ skips_first.refuses ∙ sym alike in
+        record { refuses = number; holds = λ z. absurd (refusal_counts why (number ∙ z)) }
 
     pub packet-skipped : (us : List ℕ) (bytes : ℕ) → h.refusal ≡ 0 → us ≡ set vs 3 (layer ws + 1)
         → bytes ≡ header_bytes src m.eph s.skip h.bio
@@ -205,3 +203,14 @@ module _ (ws : List ℕ) (m : Markers) (src : List ℕ) (valid : valid_state rea
             k.2 ∙ sym (ap (λ (x : Parts). x.body) p),
           );
         }
+
+-- ---- the header's number
+
+pub header_number : (src ws : List ℕ) (valid : valid_state reader ws (length ws) ≡ true) (first : Decoded) (vs : List ℕ)
+    (h : Header.Skipped) → SkipsFrom src ws first vs h → h.refusal ≤ 12
+unfolding header_from
+header_number src ws valid first vs h k =
+    let one = header_up_to_lem src room_for_all ws first.bio (omega (arith, blocks-of_valid reader ws (length ws) valid)) in
+    let all : (header_from src ws first).refusal ≤ 12 =
+    either (λ (r : HeaderRead). r.refusal ≤ 12) (eqb first.value 0) _ _ (omega arith) one in
+    omega (arith, k.refuses, all)
