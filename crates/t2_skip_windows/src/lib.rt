@@ -158,16 +158,18 @@ struct At {
     y: usize,
 }
 
-// Those of the next block, in rows of w.
-fn next_at(at: At, w: usize) -> At
-    requires { (at.x < w) × (at.y ≤ 64) }
-    ensures { (result.y * w + result.x ≡ at.y * w + at.x + 1) × (result.x < w) }
-{
-    let x = at.x + 1;
-    if x < w {
-        return At { x, y: at.y };
+impl At {
+    // Those of the next block, in rows of w.
+    fn next(self, w: usize) -> At
+        requires { (self.x < w) × (self.y ≤ 64) }
+        ensures { (result.y * w + result.x ≡ self.y * w + self.x + 1) × (result.x < w) }
+    {
+        let x = self.x + 1;
+        if x < w {
+            return At { x, y: self.y };
+        }
+        At { x: 0, y: self.y + 1 }
     }
-    At { x: 0, y: at.y + 1 }
 }
 
 // The band's first block has number `block`.
@@ -192,16 +194,14 @@ fn skip_band(
     let end = tcd_layout::band_blocks(band);
     let mut stand = s;
     let mut at = At { x: 0, y: 0 };
-    let mut i: usize = 0;
-    while i < end {
+    for i in 0..end {
         stand = next_block(
             words, segments, window, stand, band, tree, g, layer, block, at.x, at.y, i,
         );
         if stand.run.refusal != 0 {
             return stand;
         }
-        at = next_at(at, g.w);
-        i += 1;
+        at = at.next(g.w);
     }
     stand
 }
@@ -226,8 +226,7 @@ pub fn skip_bands(
     let mut stand = s;
     let mut start: usize = 13;
     let mut block: usize = 0;
-    let mut i: usize = 0;
-    while i < n {
+    for i in 0..n {
         let band = bands[i];
         let tree = trees[i];
         let g = tcd_places::grid_of(band, start);
@@ -237,7 +236,6 @@ pub fn skip_bands(
         }
         start = tcd_places::grid_end(band, g);
         block += tcd_layout::band_blocks(band);
-        i += 1;
     }
     stand
 }

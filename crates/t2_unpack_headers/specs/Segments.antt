@@ -1,8 +1,9 @@
 -- A segment at a place of the list, in the code's own numbers.
-use Rattle.std.specs.Prelude.{ℕ, ◌+◌, ◌-◌, ◌*◌, ◌≤◌, ◌≡◌, Bool, cond, ◌||◌, not, length, get_or, drop, ltb, eqb}
+use Rattle.std.specs.Prelude.{Result, MatchResult, Option, None, Some, ℕ, ◌+◌, ◌-◌, ◌*◌, ◌≤◌, ◌≡◌, Bool, cond, ◌||◌, not, length, get_or, drop, ltb, eqb}
+use Rattle.t800.specs.declared.Refusal.{Refusal}
+use Rattle.t800.specs.RefusalNumbers.{number_of}
 use Rattle.t800.specs.Base.{Bytes}
 use Rattle.t800.specs.PackedHeaders.{Unpacked, unpacked_from, unpacked}
-use Rattle.t2_unpack_headers.specs.declared.Plain.{Plain}
 
 -- the length field
 abbrev pub field_at : (segments : Bytes) (at : ℕ) → ℕ
@@ -26,15 +27,17 @@ bad_at segments index at =
     || not (eqb (get_or segments (at + 1) 0) 0x61)
     || not (eqb (get_or segments (at + 4) 0) index)
 
--- how many bytes it has, and 0 where it isn't right
-abbrev pub size_at : (segments : Bytes) (index at : ℕ) → ℕ
-size_at segments index at = cond (bad_at segments index at) 0 (2 + field_at segments at)
+-- how many bytes it has, where it is right
+abbrev pub size_at : (segments : Bytes) (index at : ℕ) → Option ℕ
+size_at segments index at = cond (bad_at segments index at) None (Some (2 + field_at segments at))
 
 -- the segments from a place on, the first of them with this index
 abbrev pub unpacked_at : (segments : Bytes) (index at : ℕ) → Unpacked
 unpacked_at segments index at = unpacked_from (length segments) index (drop at segments)
 
 -- the answer of a look at all of them
-pub record LookedAt (segments : Bytes) (r : Plain) : Type 0 where
-  pub refusal : r.refusal ≡ (unpacked segments).refusal
-  pub bytes_if : r.refusal ≡ 0 → r.bytes ≡ length (unpacked segments).bytes
+abbrev pub LookedAt : (segments : Bytes) → Result ℕ Refusal → Type 0
+LookedAt segments r =
+    MatchResult r
+    (λ bytes. ((unpacked segments).refusal ≡ 0) × (bytes ≡ length (unpacked segments).bytes))
+    (λ why. number_of why ≡ (unpacked segments).refusal)

@@ -1,24 +1,15 @@
 // PPT marker segments looked at, and the header bytes in them copied out (T.800, A.7.5).
 #![tactic(auto)]
 
-ghost use Rattle.std.specs.Prelude.{◌≡◌, ◌+◌, ◌-◌, ◌≤◌, ◌<◌, min, length, drop};
+ghost use Rattle.std.specs.Prelude.{◌≡◌, ◌+◌, ◌-◌, ◌≤◌, ◌<◌, length, drop};
 ghost use Rattle.std.proofs.Math.Seq.{paste};
 ghost use Rattle.t800.specs.PackedHeaders.{unpacked};
 ghost use Rattle.t2_unpack_headers.specs.Segments.{field_at, FieldOf, held_at, size_at, LookedAt};
 ghost use Rattle.t2_unpack_headers.specs.Cursors.{CursorAt, Sought};
 ghost use Rattle.t2_unpack_headers.specs.Windows.{window_of, PiecesOf};
 
+use t2_pack_headers::FRONT;
 use t800::Refusal;
-
-// The bytes of a segment before its header bytes.
-const FRONT: usize = 5;
-
-// What the segments hold: a refusal or 0, and how many header bytes.
-#[derive(Clone, Copy)]
-pub struct Plain {
-    pub refusal: u32,
-    pub bytes: usize,
-}
 
 // A segment's place in the list, and the header bytes before it.
 #[derive(Clone, Copy)]
@@ -29,55 +20,42 @@ pub struct Cursor {
 
 // ---- one segment
 
-fn wide(byte: u8) -> usize
-    ensures { result ≡ byte }
-{
-    byte as usize
-}
-
-fn smaller(a: usize, b: usize) -> usize
-    ensures { result ≡ min a b }
-{
-    if a < b { a } else { b }
-}
-
 // The length field.
 fn field_at(segments: &[u8], at: usize) -> usize
     requires { at + 4 ≤ length segments.now }
     ensures { FieldOf segments.now at result }
 {
-    let high = wide(segments[at + 2]);
-    let low = wide(segments[at + 3]);
+    let high = usize::from(segments[at + 2]);
+    let low = usize::from(segments[at + 3]);
     high * 256 + low
 }
 
-// How many bytes the segment has, and 0 where it isn't right.
-fn size_at(segments: &[u8], index: usize, at: usize) -> usize
+// How many bytes the segment has, where it is right.
+fn size_at(segments: &[u8], index: usize, at: usize) -> Option<usize>
     requires { at ≤ length segments.now }
     ensures { result ≡ size_at segments.now index at }
 {
     let left = segments.len() - at;
     if left < FRONT + 1 {
-        return 0;
+        return None;
     }
     let field = field_at(segments, at);
     if left < 2 + field {
-        return 0;
+        return None;
     }
     if field < 4 {
-        return 0;
+        return None;
     }
     if segments[at] != 0xff {
-        return 0;
+        return None;
     }
     if segments[at + 1] != 0x61 {
-        return 0;
+        return None;
     }
-    let told = wide(segments[at + 4]);
-    if told != index {
-        return 0;
+    if usize::from(segments[at + 4]) != index {
+        return None;
     }
-    2 + field
+    Some(2 + field)
 }
 
 // How many header bytes a segment holds.
@@ -90,25 +68,22 @@ fn held_at(segments: &[u8], at: usize) -> usize
 
 // ---- all segments
 
-pub fn unpack(segments: &[u8]) -> Plain
+// How many header bytes the segments hold.
+pub fn unpack(segments: &[u8]) -> Result<usize, Refusal>
     ensures { LookedAt segments.now result }
 {
     let mut at = 0;
     let mut index = 0;
     let mut bytes = 0;
     while at < segments.len() {
-        let size = size_at(segments, index, at);
-        if size == 0 {
-            return Plain {
-                refusal: Refusal::PACKED,
-                bytes: 0,
-            };
-        }
+        let Some(size) = size_at(segments, index, at) else {
+            return Err(Refusal::Packed);
+        };
         at += size;
         bytes += size - FRONT;
         index += 1;
     }
-    Plain { refusal: 0, bytes }
+    Ok(bytes)
 }
 
 // On to the segment that holds header byte `from`, or to the end of the list.
@@ -140,7 +115,7 @@ fn copy_piece(segments: &[u8], from: usize, to: &mut [u8], at: usize, n: usize)
 {
     let from_end = from + n;
     let end = at + n;
-    lists::copy_bytes(&segments[from..from_end], &mut to[at..end]);
+    lists::copy(&segments[from..from_end], &mut to[at..end]);
 }
 
 // The header bytes from `from` on, as many as there are: the first of them is in the segment at `place`.
@@ -156,7 +131,7 @@ fn copy_pieces(segments: &[u8], place: usize, before: usize, from: usize, to: &m
             return done;
         }
         let held = held_at(segments, at);
-        let n = smaller(held - skip, to.len() - done);
+        let n = (held - skip).min(to.len() - done);
         let first = at + FRONT + skip;
         copy_piece(segments, first, to, done, n);
         done += n;
@@ -173,5 +148,5 @@ pub fn copy_headers(segments: &[u8], c: Cursor, from: usize, to: &mut [u8])
 {
     let s = seek(segments, c, from);
     let done = copy_pieces(segments, s.at, s.before, from, to);
-    lists::wipe_bytes(&mut to[done..]);
+    lists::wipe(&mut to[done..]);
 }

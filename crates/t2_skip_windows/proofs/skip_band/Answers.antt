@@ -28,7 +28,6 @@ loop-i-init c =
       subst (λ (k : ℕ). Somewhere k a.words.now a.s) (sym z) s.requires.1,
       refl,
       refl,
-      omega arith,
       refl,
       omega arith,
       some_column a.band,
@@ -51,10 +50,10 @@ next_block-stand-requires c =
       s.requires.4,
       s.requires.5,
       s.requires.6,
-      block_fits q q l.words a.words.now l.invariant.5 (omega arith) (s.requires.7 l.i t),
+      block_fits q q l.words a.words.now l.invariant.4 (omega arith) (s.requires.7 l.i t),
       t,
-      l.invariant.6,
-      l.invariant.7 t,
+      l.invariant.5,
+      l.invariant.6 t,
     )
 
 pub shape_of-words-then-stand-ne0 : goal.shape_of-words-then-stand-ne0
@@ -72,34 +71,22 @@ returns-then-stand-ne0 c =
     let b = c.next_block-stand in
     record {
       window_on = b.ensures.window_on;
-      skips = l.invariant.8 b.new.words b.result
+      skips = l.invariant.7 b.new.words b.result
           (blocks-stop a.segments.now a.layer a.block a.g.start a.band l.i t l.words l.stand _ b.new.words
           b.result b.ensures c.if-stand-ne0.true);
       after = blocks_end a.segments.now a.layer a.block a.g.start a.band l.i t l.words l.stand _ b.new.words
-          b.result b.ensures a.words.now l.invariant.5;
+          b.result b.ensures a.words.now l.invariant.4;
     }
 
-pub next_at-at-requires : goal.next_at-at-requires
-next_at-at-requires c =
+pub next-at-requires : goal.next-at-requires
+next-at-requires c =
     let s = c in
     let a = s.args in
     let l = c.loop-i in
     let t : l.i < blocks_in a.band = subst (λ (k : ℕ). l.i < k) c.band_blocks-end.ensures c.loop-i-test.true in (
-      subst (λ (k : ℕ). l.at.x < k) (sym (ap (λ (k : Grid). k.w) s.requires.3)) (l.invariant.7 t),
-      omega (arith, row_there a.band l.at.x l.at.y l.i _ t (le_refl _) l.invariant.6, s.requires.2.sides.1),
+      subst (λ (k : ℕ). l.at.x < k) (sym (ap (λ (k : Grid). k.w) s.requires.3)) (l.invariant.6 t),
+      omega (arith, row_there a.band l.at.x l.at.y l.i _ t (le_refl _) l.invariant.5, s.requires.2.sides.1),
     )
-
-pub overflow_add-i : goal.overflow_add-i
-overflow_add-i c =
-    let l = c.loop-i in
-    let s = c in
-    omega (arith, l.invariant.4, s.requires.6)
-
-pub loop-i-smaller : goal.loop-i-smaller
-loop-i-smaller c =
-    let e = c.band_blocks-end.ensures in
-    let t = c.loop-i-test.true in
-    omega (arith, e, t)
 
 pub loop-i-preserved : goal.loop-i-preserved
 loop-i-preserved c =
@@ -109,20 +96,19 @@ loop-i-preserved c =
     let t : l.i < blocks_in a.band = subst (λ (k : ℕ). l.i < k) c.band_blocks-end.ensures c.loop-i-test.true in
     let b = c.next_block-stand in
     let z = c.if-stand-ne0.false in
-    let o : At = c.next_at-at.result in
+    let o : At = c.next-at.result in
     let n = subst (λ (k : ℕ). (o.y * k + o.x ≡ l.at.y * k + l.at.x + 1) × (o.x < k)) (ap (λ (k : Grid). k.w) s.requires.3)
-    c.next_at-at.ensures in (
+    c.next-at.ensures in (
       b.ensures.window_on,
       blocks-somewhere a.segments.now a.layer a.block a.g.start a.band l.i t l.words l.stand _ b.new.words
           b.result b.ensures z l.invariant.1,
       b.auto.words ∙ l.invariant.2,
       b.auto.window ∙ l.invariant.3,
-      omega (arith, t),
       blocks-after a.segments.now a.layer a.block a.g.start a.band l.i t l.words l.stand _ b.new.words
-          b.result b.ensures (l.i + 1) a.words.now (omega arith) l.invariant.5,
-      ap (λ (k : ℕ). k + 1) l.invariant.6 ∙ sym n.0,
+          b.result b.ensures (l.i + 1) a.words.now (omega arith) l.invariant.4,
+      ap (λ (k : ℕ). k + 1) l.invariant.5 ∙ sym n.0,
       λ _. n.1,
-      λ us x f. l.invariant.8 us x
+      λ us x f. l.invariant.7 us x
           (blocks-on a.segments.now a.layer a.block a.g.start a.band l.i t l.words l.stand _ b.new.words
           b.result b.ensures z us x f),
     )
@@ -140,11 +126,11 @@ returns c =
     let bytes = (unpacked a.segments.now).bytes in
     let d : blocks_in a.band ≤ l.i = subst (λ (k : ℕ). k ≤ l.i) c.band_blocks-end.ensures c.loop-i-test.false in
     let q : a.g.start + 6 * band_nodes a.band + 4 * l.i ≡ a.g.start + band_length a.band =
-    omega (arith, d, l.invariant.4, band_length_lem a.band) in
+    omega (arith, d, l.auto.i-end, c.band_blocks-end.ensures, band_length_lem a.band) in
     record {
       window_on = l.invariant.0;
-      skips = l.invariant.8 l.words l.stand
+      skips = l.invariant.7 l.words l.stand
           (subst (λ (ks : List Block). Skips bytes a.layer (a.block + l.i) ks l.words l.stand l.words l.stand)
           (sym (none_left a.g.start a.band l.i d)) (skips_none bytes a.layer (a.block + l.i) l.words l.stand));
-      after = subst (λ (k : ℕ). drop k l.words ≡ drop k a.words.now) q l.invariant.5;
+      after = subst (λ (k : ℕ). drop k l.words ≡ drop k a.words.now) q l.invariant.4;
     }

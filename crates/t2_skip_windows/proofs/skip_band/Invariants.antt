@@ -16,13 +16,9 @@ invariant-loop-i l =
     × (Somewhere (l.block + l.i) l.words l.stand)
     × (length l.words ≡ length l.initial.words)
     × (length l.window ≡ length l.initial.window)
-    × (l.i ≤ blocks_in l.band)
     × (drop (l.g.start + 6 * band_nodes l.band + 4 * l.i) l.words ≡ drop (l.g.start + 6 * band_nodes l.band + 4 * l.i) l.initial.words)
     × (l.i ≡ l.at.y * l.band.across + l.at.x)
     × (l.i < blocks_in l.band → l.at.x < l.band.across)
     × ((vs : List ℕ) (o : InWindow)
     → Skips (unpacked l.segments).bytes l.layer (l.block + l.i) (left l.g.start l.band l.i) l.words l.stand vs o
     → Skips (unpacked l.segments).bytes l.layer l.block (band_blocks l.g.start l.band) l.initial.words l.initial.stand vs o)
-
-abbrev pub decreases-loop-i : goal.decreases-loop-i
-decreases-loop-i l = blocks_in l.band - l.i

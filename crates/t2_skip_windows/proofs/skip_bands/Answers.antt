@@ -54,15 +54,6 @@ blocks-then block i r m e f h = omega arith
 ends-then : (a b c : ℕ) → a ≡ b → b ≤ c → a ≤ c
 ends-then a b c e h = omega arith
 
-counted : (i n : ℕ) → i < n → n ≤ 3 → Fits w64 (i + 1)
-counted i n h k = omega arith
-
-next : (i n : ℕ) → i < n → i + 1 ≤ n
-next i n h = omega arith
-
-fewer : (i n : ℕ) → i < n → n - (i + 1) < n - i
-fewer i n h = omega arith
-
 start-after : (start n : ℕ) → start ≤ start + n
 start-after start n = omega arith
 
@@ -79,7 +70,7 @@ pub loop-i-init : goal.loop-i-init
 unfolding blocks
 loop-i-init c =
     let s = c in
-    (s.requires.0, s.requires.1, refl, refl, omega arith, refl, omega arith, s.requires.4, s.requires.6, λ vs o f. f)
+    (s.requires.0, s.requires.1, refl, refl, refl, omega arith, s.requires.4, s.requires.6, λ vs o f. f)
 
 pub offset_bounds-bands-i : goal.offset_bounds-bands-i
 offset_bounds-bands-i c = omega (arith, c.loop-i-test.true, c.requires.2)
@@ -114,15 +105,15 @@ skip_band-stand-requires c =
       l.invariant.0,
       l.invariant.1,
       subst (λ (k : Grid). BandIn (length l.words) k.start b) (sym ge)
-          (record { sides = m; inside = band-ends _ _ _ _ _ after v l.invariant.7 l.invariant.2 }),
+          (record { sides = m; inside = band-ends _ _ _ _ _ after v l.invariant.6 l.invariant.2 }),
       subst (λ (k : Grid). k ≡ grid_of k.start b) (sym ge) refl,
       ap (λ (ts : List (List Level)). get_or ts l.i []) c.band_levels-trees.ensures
           ∙ band_levels_at a.bands l.i (band-there _ _ _ t (all_three (goal.at.skip_band-stand-requires c).Start)),
       s.requires.5,
-      blocks-before l.block l.i a.n (blocks_in b) (blocks-up_to_4096 b m) l.invariant.6 t s.requires.2,
+      blocks-before l.block l.i a.n (blocks_in b) (blocks-up_to_4096 b m) l.invariant.5 t s.requires.2,
       subst (λ (k : Grid). BandFits l.words k.start b) (sym ge)
-          (band_still_fits l.start b l.words a.words.now l.invariant.5
-          (subst (BandsFit a.words.now l.start) nb l.invariant.8).0),
+          (band_still_fits l.start b l.words a.words.now l.invariant.4
+          (subst (BandsFit a.words.now l.start) nb l.invariant.7).0),
     )
 
 pub shape_of-words-then-stand-ne0 : goal.shape_of-words-then-stand-ne0
@@ -143,7 +134,7 @@ returns-then-stand-ne0 c =
     let h = at-start a.segments.now a.layer l.block l.start b _ l.words l.stand _ f.new.words f.result
     c.grid_of-g.ensures f.ensures in (
       h.window_on,
-      l.invariant.9 f.new.words f.result
+      l.invariant.8 f.new.words f.result
           (bands-stop (unpacked a.segments.now).bytes a.layer l.start l.block _ b (drop (l.i + 1) (take a.n a.bands)) nb
           l.words l.stand f.new.words f.result h.skips c.if-stand-ne0.true),
     )
@@ -158,7 +149,7 @@ grid_end-start-requires c =
     subst (λ (k : Grid). SidesUpTo64 b × (k ≡ grid_of k.start b) × (k.start < 2 ^ 63)) (sym c.grid_of-g.ensures) (
       sides_of_first a.bands a.n l.i (all_three (goal.at.grid_end-start-requires c).Start) t s.requires.3,
       refl,
-      starts-below l.start _ _ (end_after l.start (drop l.i (take a.n a.bands))) l.invariant.7 (room (goal.at.grid_end-start-requires c).Start),
+      starts-below l.start _ _ (end_after l.start (drop l.i (take a.n a.bands))) l.invariant.6 (room (goal.at.grid_end-start-requires c).Start),
     )
 
 pub overflow_add-block : goal.overflow_add-block
@@ -170,13 +161,7 @@ overflow_add-block c =
     let t = c.loop-i-test.true in
     let b : Band = get_or a.bands l.i no_band in
     let m = sides_of_first a.bands a.n l.i (all_three (goal.at.overflow_add-block c).Start) t s.requires.3 in
-    blocks-fit l.block l.i a.n _ _ c.band_blocks-block.ensures (blocks-up_to_4096 b m) l.invariant.6 t s.requires.2
-
-pub overflow_add-i : goal.overflow_add-i
-overflow_add-i c = let s = c in counted c.loop-i.i s.args.n c.loop-i-test.true s.requires.2
-
-pub loop-i-smaller : goal.loop-i-smaller
-loop-i-smaller c = fewer c.loop-i.i c.args.n c.loop-i-test.true
+    blocks-fit l.block l.i a.n _ _ c.band_blocks-block.ensures (blocks-up_to_4096 b m) l.invariant.5 t s.requires.2
 
 pub loop-i-preserved : goal.loop-i-preserved
 loop-i-preserved c =
@@ -204,14 +189,13 @@ loop-i-preserved c =
           l.invariant.1),
       f.auto.words ∙ l.invariant.2,
       f.auto.window ∙ l.invariant.3,
-      next l.i a.n t,
       subst (λ (k : ℕ). drop k f.new.words ≡ drop k a.words.now) (sym el)
           (after_then l.start (l.start + band_length b) (l.start + band_length b) a.words.now l.words f.new.words
-          (start-after l.start (band_length b)) (le_refl (l.start + band_length b)) l.invariant.5 h.after),
-      blocks-then l.block l.i _ _ eb (blocks-up_to_4096 b m) l.invariant.6,
-      subst (λ (k : ℕ). end_of k later ≤ length a.words.now) (sym el) (ends-then _ _ _ v l.invariant.7),
-      subst (λ (k : ℕ). BandsFit a.words.now k later) (sym el) (subst (BandsFit a.words.now l.start) nb l.invariant.8).1,
-      λ us x g. l.invariant.9 us x
+          (start-after l.start (band_length b)) (le_refl (l.start + band_length b)) l.invariant.4 h.after),
+      blocks-then l.block l.i _ _ eb (blocks-up_to_4096 b m) l.invariant.5,
+      subst (λ (k : ℕ). end_of k later ≤ length a.words.now) (sym el) (ends-then _ _ _ v l.invariant.6),
+      subst (λ (k : ℕ). BandsFit a.words.now k later) (sym el) (subst (BandsFit a.words.now l.start) nb l.invariant.7).1,
+      λ us x g. l.invariant.8 us x
           (bands-on bytes a.layer l.start l.block _ b later nb l.words l.stand f.new.words f.result h.skips z us x
           (subst (λ (k : ℕ). Skips bytes a.layer (l.block + k) (blocks_at (l.start + band_length b) later) f.new.words f.result
           us x) eb
@@ -232,7 +216,7 @@ returns c =
     let l = c.loop-i in
     let bytes = (unpacked a.segments.now).bytes in (
       l.invariant.0,
-      l.invariant.9 l.words l.stand
+      l.invariant.8 l.words l.stand
           (subst (λ (bs : List Band). Skips bytes a.layer l.block (blocks_at l.start bs) l.words l.stand l.words
           l.stand) (sym (no_more_bands a.bands a.n l.i c.loop-i-test.false))
           (skips_none bytes a.layer l.block l.words l.stand)),

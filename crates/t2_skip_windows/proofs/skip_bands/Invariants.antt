@@ -15,7 +15,6 @@ invariant-loop-i l =
     × (Somewhere l.block l.words l.stand)
     × (length l.words ≡ length l.initial.words)
     × (length l.window ≡ length l.initial.window)
-    × (l.i ≤ l.n)
     × (drop l.start l.words ≡ drop l.start l.initial.words)
     × (l.block ≤ 4096 * l.i)
     × (end_of l.start (drop l.i (take l.n l.bands)) ≤ length l.initial.words)
@@ -23,6 +22,3 @@ invariant-loop-i l =
     × ((vs : List ℕ) (o : InWindow)
     → Skips (unpacked l.segments).bytes l.layer l.block (blocks_at l.start (drop l.i (take l.n l.bands))) l.words l.stand vs o
     → Skips (unpacked l.segments).bytes l.layer 0 (blocks (take l.n l.bands)) l.initial.words l.initial.stand vs o)
-
-abbrev pub decreases-loop-i : goal.decreases-loop-i
-decreases-loop-i l = l.n - l.i

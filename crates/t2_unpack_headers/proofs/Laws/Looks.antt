@@ -7,8 +7,9 @@ use mathlib.Core.List.{◌++◌}
 use native.Mathlib.Omega.{arith}
 use lib.ListN.{length, take, drop, length-append, length-drop}
 use lib.Seq.{length-take-le}
+use Rattle.std.proofs.Common.{Option, None, Some, Ok, Err}
+use Rattle.t800.specs.declared.Refusal.TheVariants.{Packed}
 use Rattle.t800.specs.Base.{Bytes}
-use Rattle.t800.specs.Refusals.{packed_refusal}
 use Rattle.t800.specs.PackedHeaders.{Unpacked, unpacked}
 use Rattle.t800_laws.proofs.Laws.Checks.{on_bool}
 use Rattle.t800_laws.proofs.Laws.Tests.{if-true, if-false}
@@ -28,32 +29,26 @@ unfolding unpacked
 looking_first segments = record { within = omega arith; indices = omega arith; fewer = omega arith; refusal = refl; all = omega arith }
 
 module _ (segments : Bytes) (index at bytes : ℕ) (h : Looking segments index at bytes) where
-  pub looked_none : length segments ≤ at → LookedAt segments (record { refusal = 0; bytes = bytes })
+  pub looked_none : length segments ≤ at → LookedAt segments (Ok bytes)
   looked_none l =
       let e = none_here segments index at l in
-      record {
-        refusal = sym (ap (λ (u : Unpacked). u.refusal) e) ∙ h.refusal;
-        bytes_if = λ _. omega (arith, h.all, ap (λ (u : Unpacked). length u.bytes) e);
-      }
+      (sym (sym (ap (λ (u : Unpacked). u.refusal) e) ∙ h.refusal), omega (arith, h.all, ap (λ (u : Unpacked). length u.bytes) e))
 
-  module _ (l : at < length segments) (size : ℕ) (s : size ≡ size_at segments index at) where
-    pub looked_bad : size ≡ 0 → LookedAt segments (record { refusal = packed_refusal; bytes = 0 })
+  module _ (l : at < length segments) where
+    pub looked_bad : None ≡ size_at segments index at → LookedAt segments (Err Packed)
     looked_bad z =
         on_bool (bad_at segments index at)
-        (λ b.
-        record {
-          refusal = sym (ap (λ (u : Unpacked). u.refusal) (bad_here segments index at l b)) ∙ h.refusal;
-          bytes_if = λ r. absurd (omega arith);
-        })
-        (λ b. absurd (omega (arith, s ∙ if-false (bad_at segments index at) 0 (2 + field_at segments at) b)))
+        (λ b. sym (ap (λ (u : Unpacked). u.refusal) (bad_here segments index at l b)) ∙ h.refusal)
+        (λ b. absurd (cc (z, if-false (bad_at segments index at) None (Some (2 + field_at segments at)) b)))
 
-    module _ (z : size ≢ 0) where
+    module _ (size : ℕ) (z : Some size ≡ size_at segments index at) where
       pub right_segment : (size ≡ 2 + field_at segments at) × (6 ≤ size) × (at + size ≤ length segments) × (bad_at segments index at ≡ false)
       right_segment =
           on_bool (bad_at segments index at)
-          (λ b. absurd (z (s ∙ if-true (bad_at segments index at) 0 (2 + field_at segments at) b)))
+          (λ b. absurd (cc (z, if-true (bad_at segments index at) None (Some (2 + field_at segments at)) b)))
           (λ b.
-          let e : size ≡ 2 + field_at segments at = s ∙ if-false (bad_at segments index at) 0 (2 + field_at segments at) b in
+          let e : size ≡ 2 + field_at segments at =
+          cc (z, if-false (bad_at segments index at) None (Some (2 + field_at segments at)) b) in
           let sizes = good_size segments index at b in
           (e, omega (arith, sizes), omega (arith, sizes), b))
 

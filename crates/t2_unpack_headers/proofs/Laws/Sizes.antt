@@ -5,28 +5,29 @@ use mathlib.Core.Logic.{◌≢◌}
 use native.Mathlib.Omega.{arith}
 use lib.ListN.{length, get_or}
 use borrow.Author.Tests.{eq-eqb, ne_eqb, le-ltb, lt-ltb}
+use Rattle.std.proofs.Common.{Option, None, Some}
 use Rattle.t800.specs.Base.{Bytes}
 use Rattle.t800_laws.proofs.Laws.Tests.{if-true}
 use Rattle.t2_unpack_headers.specs.Segments.{field_at, bad_at, size_at}
 use Rattle.t2_unpack_headers.proofs.Laws.Segments.{too_short}
 
 module _ (segments : Bytes) (index at : ℕ) where
-  pub no_front : length segments - at < 6 → 0 ≡ size_at segments index at
+  pub no_front : length segments - at < 6 → None ≡ size_at segments index at
   no_front h = sym (if-true (bad_at segments index at) _ _ (too_short segments index at h))
 
   module _ (field : ℕ) (f : field ≡ field_at segments at) where
-    pub cut_short : length segments - at < 2 + field → 0 ≡ size_at segments index at
+    pub cut_short : length segments - at < 2 + field → None ≡ size_at segments index at
     unfolding bad_at
     cut_short h = simp (lt-ltb (length segments - at) (2 + field_at segments at) (omega arith))
 
     module _ (a : 2 + field ≤ length segments - at) where
-      pub low_field : field < 4 → 0 ≡ size_at segments index at
+      pub low_field : field < 4 → None ≡ size_at segments index at
       unfolding bad_at
       low_field h =
           simp (le-ltb (length segments - at) (2 + field_at segments at) (omega arith), lt-ltb (field_at segments at) 4 (omega arith))
 
       module _ (b : 4 ≤ field) where
-        pub no_ff : get_or segments at 0 ≢ 0xff → 0 ≡ size_at segments index at
+        pub no_ff : get_or segments at 0 ≢ 0xff → None ≡ size_at segments index at
         unfolding bad_at
         no_ff h =
             simp (
@@ -35,7 +36,7 @@ module _ (segments : Bytes) (index at : ℕ) where
               ne_eqb (get_or segments at 0) 0xff h,
             )
 
-        pub no_marker : get_or segments at 0 ≡ 0xff → get_or segments (at + 1) 0 ≢ 0x61 → 0 ≡ size_at segments index at
+        pub no_marker : get_or segments at 0 ≡ 0xff → get_or segments (at + 1) 0 ≢ 0x61 → None ≡ size_at segments index at
         unfolding bad_at
         no_marker m h =
             simp (
@@ -45,9 +46,8 @@ module _ (segments : Bytes) (index at : ℕ) where
               ne_eqb (get_or segments (at + 1) 0) 0x61 h,
             )
 
-        module _ (m : get_or segments at 0 ≡ 0xff) (n : get_or segments (at + 1) 0 ≡ 0x61) (told : ℕ) (t : told ≡ get_or segments (at + 4) 0)
-          where
-            pub other_index : told ≢ index → 0 ≡ size_at segments index at
+        module _ (m : get_or segments at 0 ≡ 0xff) (n : get_or segments (at + 1) 0 ≡ 0x61) where
+            pub other_index : get_or segments (at + 4) 0 ≢ index → None ≡ size_at segments index at
             unfolding bad_at
             other_index h =
                 simp (
@@ -55,10 +55,10 @@ module _ (segments : Bytes) (index at : ℕ) where
                   le-ltb (field_at segments at) 4 (omega arith),
                   eq-eqb (get_or segments at 0) 0xff m,
                   eq-eqb (get_or segments (at + 1) 0) 0x61 n,
-                  ne_eqb (get_or segments (at + 4) 0) index (λ e. h (t ∙ e)),
+                  ne_eqb (get_or segments (at + 4) 0) index h,
                 )
 
-            pub right_size : told ≡ index → 2 + field ≡ size_at segments index at
+            pub right_size : get_or segments (at + 4) 0 ≡ index → Some (2 + field) ≡ size_at segments index at
             unfolding bad_at
             right_size h =
                 simp (
@@ -66,6 +66,6 @@ module _ (segments : Bytes) (index at : ℕ) where
                   le-ltb (field_at segments at) 4 (omega arith),
                   eq-eqb (get_or segments at 0) 0xff m,
                   eq-eqb (get_or segments (at + 1) 0) 0x61 n,
-                  eq-eqb (get_or segments (at + 4) 0) index (sym t ∙ h),
+                  eq-eqb (get_or segments (at + 4) 0) index h,
                 )
-                (ap (λ (k : ℕ). 2 + k) f)
+                (ap (λ (k : ℕ). Some (2 + k)) f)

@@ -5,4 +5,4 @@ pub returns : goal.returns
 returns c =
     let p = c.copy_pieces-done in
     rest-wiped p.new.to _ _ p.result _ p.ensures.within p.auto.to
-    c.wipe_bytes.ensures p.ensures.all
+    c.wipe.ensures p.ensures.all

@@ -5,4 +5,4 @@ use Rattle.t2_unpack_headers.proofs.copy_piece.Goals as goal
 pub returns : goal.returns
 returns c =
     let s = c.args in
-    piece_put s.to.now s.segments.now _ s.from _ s.at _ s.n refl refl c.copy_bytes.ensures
+    piece_put s.to.now s.segments.now _ s.from _ s.at _ s.n refl refl c.copy.ensures

@@ -9,7 +9,7 @@ use Rattle.t2_unpack_headers.specs.Windows.{window_of}
 use Rattle.t2_unpack_headers.proofs.Laws.Cursors.{FirstOf, first_of_lem}
 use Rattle.t2_unpack_headers.proofs.Laws.Copies.{Copying, copying_first, copying_next, piece_fits, nothing_left, all_done}
 use Rattle.t2_unpack_headers.proofs.copy_pieces.Goals as goal
-use Rattle.t2_unpack_headers.proofs.copy_pieces.Goals.{Else-segments-at, After-smaller-n}
+use Rattle.t2_unpack_headers.proofs.copy_pieces.Goals.{Else-segments-at, After-min-n}
 
 first : (c : Else-segments-at)
     → let l = c.loop-done in
@@ -21,22 +21,22 @@ first c =
 
 -- how many bytes are copied
 
-piece : (c : After-smaller-n)
+piece : (c : After-min-n)
     → let l = c.loop-done in
     let segments = c.args.segments.now in
-    c.smaller-n.result ≡ min (held_at segments l.at - l.skip) (length l.to - l.done)
+    c.min-n.result ≡ min (held_at segments l.at - l.skip) (length l.to - l.done)
 piece c =
     let l = c.loop-done in
-    c.smaller-n.ensures ∙ ap (λ (k : ℕ). min (k - l.skip) (length l.to - l.done)) c.held_at-held.ensures
+    c.min-n.ensures ∙ ap (λ (k : ℕ). min (k - l.skip) (length l.to - l.done)) c.held_at-held.ensures
 
-fits : (c : After-smaller-n)
+fits : (c : After-min-n)
     → let l = c.loop-done in
     let segments = c.args.segments.now in
-    (l.at + 5 + l.skip + c.smaller-n.result ≤ length segments) × (l.done + c.smaller-n.result ≤ length l.to)
+    (l.at + 5 + l.skip + c.min-n.result ≤ length segments) × (l.done + c.min-n.result ≤ length l.to)
 fits c =
     let l = c.loop-done in
     let segments = c.args.segments.now in
-    piece_fits segments l.at l.skip l.to l.done _ l.invariant.2 c.if-segments-at.false c.smaller-n.result (piece c)
+    piece_fits segments l.at l.skip l.to l.done _ l.invariant.2 c.if-segments-at.false c.min-n.result (piece c)
     l.invariant.0
 
 pub loop-done-init : goal.loop-done-init
@@ -64,7 +64,7 @@ overflow_sub-held c = omega (arith, c.loop-done.invariant.2.skips c.if-segments-
 pub overflow_add-done : goal.overflow_add-done
 overflow_add-done c =
     let b = c in
-    omega (arith, (fits (goal.at.overflow_add-done c).After-smaller-n).1, b.loop-done.invariant.1)
+    omega (arith, (fits (goal.at.overflow_add-done c).After-min-n).1, b.loop-done.invariant.1)
 
 pub overflow_add-at : goal.overflow_add-at
 overflow_add-at c =
@@ -87,10 +87,10 @@ loop-done-preserved c =
     let p = c.copy_piece in
     let window = window_of (unpacked s.segments.now).bytes s.from (length s.to.now) in
     let next = copying_next s.segments.now l.at l.skip l.to l.done window l.invariant.2 b.if-segments-at.false
-    b.smaller-n.result (piece (goal.at.loop-done-preserved c).After-smaller-n) l.invariant.0 p.new.to p.ensures in (
-      omega (arith, (fits (goal.at.loop-done-preserved c).After-smaller-n).1, p.auto.to),
+    b.min-n.result (piece (goal.at.loop-done-preserved c).After-min-n) l.invariant.0 p.new.to p.ensures in (
+      omega (arith, (fits (goal.at.loop-done-preserved c).After-min-n).1, p.auto.to),
       p.auto.to ∙ l.invariant.1,
-      subst (λ (k : ℕ). Copying s.segments.now (l.at + (5 + k)) 0 p.new.to (l.done + b.smaller-n.result) window)
+      subst (λ (k : ℕ). Copying s.segments.now (l.at + (5 + k)) 0 p.new.to (l.done + b.min-n.result) window)
           (sym b.held_at-held.ensures) next,
     )
 
@@ -121,7 +121,7 @@ pub overflow_add-first-in-loop-done : goal.overflow_add-first-in-loop-done
 overflow_add-first-in-loop-done c = omega (arith, (fits c).0)
 
 pub copy_piece-requires : goal.copy_piece-requires
-copy_piece-requires c = omega (arith, fits (goal.at.copy_piece-requires c).After-smaller-n)
+copy_piece-requires c = omega (arith, fits (goal.at.copy_piece-requires c).After-min-n)
 
 pub shape_of-to : goal.shape_of-to
 shape_of-to c = c.loop-done.invariant.1

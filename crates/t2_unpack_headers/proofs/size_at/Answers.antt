@@ -1,3 +1,4 @@
+use mathlib.Core.Path.{sym, ◌∙◌}
 use Rattle.t2_unpack_headers.proofs.Laws.Sizes.{no_front, cut_short, low_field, no_ff, no_marker, other_index, right_size}
 use Rattle.t2_unpack_headers.proofs.size_at.Goals as goal
 
@@ -31,14 +32,14 @@ returns-then-segments-at-ne97 c =
     no_marker s.args.segments.now s.args.index s.args.at _ t.field_at-field.ensures.field t.if-left-field.false
     t.if-field-lt4.false c.if-segments-at.false c.if-segments-at-ne97.true
 
-pub returns-then-told-index : goal.returns-then-told-index
-returns-then-told-index c =
+pub returns-then-from-index : goal.returns-then-from-index
+returns-then-from-index c =
     let t = c in
     let s = t in
     let b = c in
     other_index s.args.segments.now s.args.index s.args.at _ t.field_at-field.ensures.field
-    t.if-left-field.false t.if-field-lt4.false b.if-segments-at.false b.if-segments-at-ne97.false _ c.wide-told.ensures
-    c.if-told-index.true
+    t.if-left-field.false t.if-field-lt4.false b.if-segments-at.false b.if-segments-at-ne97.false
+    (λ q. c.if-from-index.true (c.from.ensures ∙ q))
 
 pub returns : goal.returns
 returns c =
@@ -46,5 +47,5 @@ returns c =
     let s = t in
     let b = c in
     right_size s.args.segments.now s.args.index s.args.at _ t.field_at-field.ensures.field
-    t.if-left-field.false t.if-field-lt4.false b.if-segments-at.false b.if-segments-at-ne97.false _ c.wide-told.ensures
-    c.if-told-index.false
+    t.if-left-field.false t.if-field-lt4.false b.if-segments-at.false b.if-segments-at-ne97.false
+    (sym c.from.ensures ∙ c.if-from-index.false)
