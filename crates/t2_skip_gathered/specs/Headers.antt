@@ -1,5 +1,5 @@
 -- A header in PPT marker segments, from before its first bit to its end.
-use Rattle.std.specs.Prelude.{ℕ, ◌+◌, ◌-◌, ◌≤◌, ◌≡◌, Bool, true, cond, not, [], length, drop, eqb}
+use Rattle.std.specs.Prelude.{Option, None, Some, MatchOption, ℕ, ◌+◌, ◌-◌, ◌%◌, ◌≤◌, ◌≡◌, min, Bool, true, false, cond, ◌&&◌, [], length, drop, eqb}
 use Rattle.t800.specs.declared.Bio.{Bio}
 use Rattle.t800.specs.Base.{Words, Bytes}
 use Rattle.t800.specs.Bits.{Decoded, bio_at, get_bit, ends_in_ff}
@@ -13,7 +13,6 @@ use Rattle.t2_skip_packet.specs.Parts.{header_bytes}
 use Rattle.t2_skip_windows.specs.declared.InWindow.{InWindow}
 use Rattle.t2_skip_windows.specs.Windows.{window_bytes, most_of_block, Stands, WindowOn}
 use Rattle.t2_skip_gathered.specs.declared.FirstBit.{FirstBit}
-use Rattle.t2_skip_gathered.specs.declared.HeaderEnd.{HeaderEnd}
 
 -- ---- before the first bit
 
@@ -73,12 +72,17 @@ pub record SkipsUpTo (segments : Bytes) (ws : Words) (at : ℕ) (window : Bytes)
 abbrev pub bio_from : (at : ℕ) → InWindow → Bio
 bio_from at s = record { bp = s.base + s.run.bio.bp - at; buf = s.run.bio.buf; ct = s.run.bio.ct }
 
--- of a header over src whose bits end at b: whether src doesn't end with it in a byte FF, and its bytes with EPH
-pub record EndOf (src : Bytes) (eph : Bool) (b : Bio) (r : HeaderEnd) : Type 0 where
-  pub ok : r.ok ≡ not (ends_in_ff src b)
-  pub bytes : r.ok ≡ true → r.bytes ≡ header_bytes src eph 0 b
+-- the bytes of a header without EPH, whose bits end at a place, of so many bytes that are left: none where it ends with them in a byte FF
+abbrev pub taken_of : (buf place left : ℕ) → Option ℕ
+taken_of buf place left =
+    cond (eqb (buf % 256) 255 && eqb place left) None (Some (cond (eqb (buf % 256) 255) (place + 1) (min place left)))
+
+-- of a header over src whose bits end at b: its bytes with EPH, where src doesn't end with it in a byte FF
+abbrev pub EndOf : (src : Bytes) → Bool → Bio → Option ℕ → Type 0
+EndOf src eph b r =
+    MatchOption r (ends_in_ff src b ≡ true) (λ bytes. (ends_in_ff src b ≡ false) × (bytes ≡ header_bytes src eph 0 b))
 
 -- of the header at header byte `at` of so many plain ones, whatever these are
-abbrev pub EndsInWindow : (window : Bytes) → InWindow → (plain at : ℕ) → Bool → HeaderEnd → Type 0
+abbrev pub EndsInWindow : (window : Bytes) → InWindow → (plain at : ℕ) → Bool → Option ℕ → Type 0
 EndsInWindow window s plain at eph r =
     (bytes : Bytes) → window ≡ window_of bytes s.base window_bytes → plain ≡ length bytes → EndOf (drop at bytes) eph (bio_from at s) r

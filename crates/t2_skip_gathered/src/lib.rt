@@ -6,21 +6,21 @@ ghost use Rattle.t800.specs.State.{reader, layer, not_yet_included};
 ghost use Rattle.t800.specs.Ranges.{valid_state};
 ghost use Rattle.t800.specs.PackedHeaders.{unpacked};
 ghost use Rattle.t800.specs.Gathered.{parts_gathered};
-ghost use Rattle.t2_skip_packet.specs.Parts.{SkipsPacket};
+ghost use Rattle.t2_skip_packet.specs.Parts.{SkipsPacket, skipped};
 ghost use Rattle.t2_skip_windows.specs.Windows.{window_bytes, most_of_block, WindowOn, Somewhere};
-ghost use Rattle.t2_skip_gathered.specs.Headers.{start_run, StandsBefore, first_in, SkipsAfter, SkipsUpTo, EndsInWindow};
+ghost use Rattle.t2_skip_gathered.specs.Headers.{start_run, StandsBefore, first_in, SkipsAfter, SkipsUpTo, taken_of, EndsInWindow};
 
 use t2_skip_header::ROOM_FOR_ALL;
-use t2_skip_packet::Skipped;
+use t2_skip_packet::Parts;
 use t2_skip_windows::{InWindow, LAST_PLACE};
 use t2_read_segments::Run;
 use t800::{Markers, Refusal};
 use tcd_style::Marker;
 
-// The packet's parts, and the header byte with which the window begins.
+// The packet's parts, and the header byte with which the window begins, also after a refusal.
 #[derive(Clone, Copy)]
 pub struct SkippedGathered {
-    pub parts: Skipped,
+    pub parts: Result<Parts, Refusal>,
     pub base: usize,
 }
 
@@ -28,13 +28,6 @@ pub struct SkippedGathered {
 struct FirstBit {
     pub value: u32,
     pub stand: InWindow,
-}
-
-// Whether the header doesn't end in a byte FF with the last header byte, and its bytes with EPH.
-#[derive(Clone, Copy)]
-struct HeaderEnd {
-    pub ok: bool,
-    pub bytes: usize,
 }
 
 // ---- the first bit
@@ -137,32 +130,23 @@ fn skip_header(
 
 // ---- the header's end
 
-// Of the bits up to a place, of so many bytes that are left.
-fn ends_in_ff(buf: u32, place: usize, left: usize) -> bool
-    ensures { result ≡ (eqb (buf % 256) 255 && eqb place left) }
-{
-    if (buf & 0xff) == 0xff {
-        return place == left;
-    }
-    false
-}
-
-// A byte FF takes the one after it along.
-fn bytes_taken(buf: u32, place: usize, left: usize) -> usize
+// Of the bits up to a place, of so many bytes that are left: a byte FF takes the one after it along, and isn't the last one.
+fn bytes_taken(buf: u32, place: usize, left: usize) -> Option<usize>
     requires { place + 1 < 2 ^ 64 }
-    ensures { result ≡ cond (eqb (buf % 256) 255) (place + 1) (min place left) }
+    ensures { result ≡ taken_of buf place left }
 {
-    if (buf & 0xff) == 0xff {
-        return place + 1;
+    if (buf & 0xff) != 0xff {
+        return Some(place.min(left));
     }
-    if place < left {
-        return place;
+    if place == left {
+        return None;
     }
-    left
+    Some(place + 1)
 }
 
-// Of the header at header byte `at`, of so many plain ones.
-fn header_end(window: &[u8], s: InWindow, plain: usize, at: usize, eph: bool) -> HeaderEnd
+// The header's bytes with EPH, where it doesn't end in a byte FF with the last header byte: it begins at header byte `at`, of so many
+// plain ones.
+fn header_end(window: &[u8], s: InWindow, plain: usize, at: usize, eph: bool) -> Option<usize>
     requires { (length window.now ≡ window_bytes) × (s.run.bio.bp + most_of_block ≤ window_bytes) × (at ≤ plain)
         × (at ≤ s.base + s.run.bio.bp) × (s.base + s.run.bio.bp + 5 < 2 ^ 64) × (plain + 5 < 2 ^ 64) }
     ensures { EndsInWindow window.now s plain at eph result }
@@ -171,33 +155,16 @@ fn header_end(window: &[u8], s: InWindow, plain: usize, at: usize, eph: bool) ->
     let b = run.bio;
     let place = s.base + b.bp - at;
     let left = plain - at;
-    if ends_in_ff(b.buf, place, left) {
-        return HeaderEnd {
-            ok: false,
-            bytes: 0,
-        };
-    }
-    let taken = bytes_taken(b.buf, place, left);
+    let taken = bytes_taken(b.buf, place, left)?;
     if left < taken + 2 {
-        return HeaderEnd {
-            ok: true,
-            bytes: taken,
-        };
+        return Some(taken);
     }
     let index = b.bp + (taken - place);
     let e = t2_read_marks::read_marker(eph, Marker::EPH, window, index);
-    let bytes = taken + e.skip;
-    HeaderEnd { ok: true, bytes }
+    Some(taken + e.skip)
 }
 
 // ---- the packet
-
-fn refused_at(why: u32, base: usize) -> SkippedGathered
-    ensures { result ≡ record { parts = record { refusal = why; sop = 0; header = 0; body = 0 }; base = base } }
-{
-    let parts = t2_skip_packet::refused(why);
-    SkippedGathered { parts, base }
-}
 
 // The next layer of the state in `words`, which holds anything after a refusal: its header begins at byte `at` of the `plain` header bytes,
 // SOP in front of `bodies`, and the window with header byte `base`.
@@ -214,31 +181,36 @@ pub fn skip_gathered(
     requires { (valid_state reader words.old (length words.old) ≡ true) × (WindowOn segments.now window.old base)
         × (plain ≡ length (unpacked segments.now).bytes) × (at ≤ plain) }
     ensures { (SkipsPacket (parts_gathered words.old m (drop at (unpacked segments.now).bytes)
-        bodies.now) words.new result.parts) × (WindowOn segments.now window.new result.base) }
+        bodies.now) words.new (skipped result.parts)) × (WindowOn segments.now window.new result.base) }
 {
     let layer = words[3];
     if layer == tcd_style::NOT_YET_INCLUDED {
-        return refused_at(Refusal::LAYERS, base);
+        let parts = Err(Refusal::Layers);
+        return SkippedGathered { parts, base };
     }
     let o = skip_header(words, segments, window, at, base);
     let run = o.run;
-    if run.refusal != 0 {
-        return refused_at(run.refusal, o.base);
+    if let Some(why) = t2_skip_packet::refusal_of(run.refusal) {
+        return SkippedGathered {
+            parts: Err(why),
+            base: o.base,
+        };
     }
-    let end = header_end(window, o, plain, at, m.eph);
-    if !end.ok {
-        return refused_at(Refusal::HEADER_END, o.base);
-    }
+    let Some(header) = header_end(window, o, plain, at, m.eph) else {
+        return SkippedGathered {
+            parts: Err(Refusal::HeaderEnd),
+            base: o.base,
+        };
+    };
     words[3] = layer + 1;
     let sop = t2_read_marks::read_marker(m.sop, Marker::SOP, bodies, 0);
-    let parts = Skipped {
-        refusal: 0,
+    let parts = Parts {
         sop: sop.skip,
-        header: end.bytes,
+        header,
         body: run.bytes,
     };
     SkippedGathered {
-        parts,
+        parts: Ok(parts),
         base: o.base,
     }
 }

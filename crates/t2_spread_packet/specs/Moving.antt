@@ -1,7 +1,8 @@
 -- One packet moved back, in counts of bytes: what turns it away, and what is put.
-use Rattle.std.specs.Prelude.{◌≡◌, not, [], ◌∷◌, ◌++◌, ℕ, ◌+◌, ◌≤◌, length, take, drop, ltb, eqb}
+use Rattle.std.specs.Prelude.{Result, IfOk, ◌≡◌, not, [], ◌∷◌, ◌++◌, ℕ, ◌+◌, ◌≤◌, length, take, drop, ltb, eqb}
 use Rattle.std.proofs.lemmas.List.Edits.{sets}
 use Rattle.t800.specs.declared.Markers.{Markers}
+use Rattle.t800.specs.declared.Refusal.{Refusal}
 use Rattle.t800.specs.Base.{Words, Bytes}
 use Rattle.t800.specs.Refusals.{check, first_of, body_refusal, space_refusal}
 use Rattle.t800.specs.PackedHeaders.{unpacked}
@@ -9,7 +10,7 @@ use Rattle.t800.specs.Gathered.{Parts, parts_gathered}
 use Rattle.t2_unpack_headers.specs.declared.Cursor.{Cursor}
 use Rattle.t2_unpack_headers.specs.Cursors.{CursorAt}
 use Rattle.t2_skip_windows.specs.Windows.{WindowOn}
-use Rattle.t2_skip_packet.specs.declared.Skipped.{Skipped}
+use Rattle.t2_skip_packet.specs.Parts.{Skipped, number_in}
 use Rattle.t2_spread_packet.specs.declared.Moved.{Moved}
 
 -- the packet p, where so many bytes of the bodies are left, and of so many bytes of the row some are put
@@ -46,7 +47,6 @@ pub record PacketPut (segments bodies : Bytes) (p : Skipped) (g : Moved) (rs rs'
 -- behind a packet with these parts
 abbrev pub moved_on : Moved → Skipped → (base : ℕ) → Cursor → Moved
 moved_on g p base segment = record {
-  refusal = 0;
   headers = g.headers + p.header;
   bodies = g.bodies + (p.sop + p.body);
   row = g.row + (p.sop + p.header + p.body);
@@ -65,14 +65,14 @@ module _ (segments bodies : Bytes) (m : Markers) (ws : Words) (rs : Bytes) (g : 
   abbrev pub parts : Parts
   parts = parts_gathered ws m (drop g.headers (unpacked segments).bytes) bodies
 
-  pub record SpreadsPacket (vs : Words) (window rs' : Bytes) (o : Moved) : Type 0 where
-    pub refuses : o.refusal ≡ sizes_refusal (counts_of parts) (length bodies) g.row (length rs)
-    pub state : o.refusal ≡ 0 → vs ≡ parts.state
-    pub put : o.refusal ≡ 0
+  pub record SpreadsPacket (vs : Words) (window rs' : Bytes) (o : Result Moved Refusal) : Type 0 where
+    pub refuses : number_in o ≡ sizes_refusal (counts_of parts) (length bodies) g.row (length rs)
+    pub state : number_in o ≡ 0 → vs ≡ parts.state
+    pub put : number_in o ≡ 0
         → rs'
         ≡ sets rs g.row
         (packet_bytes parts.sop parts.header parts.body (drop g.headers (unpacked segments).bytes) bodies)
-    pub headers-are : o.refusal ≡ 0 → o.headers ≡ g.headers + parts.header
-    pub bodies_are : o.refusal ≡ 0 → o.bodies ≡ g.bodies + (parts.sop + parts.body)
-    pub row_is : o.refusal ≡ 0 → o.row ≡ g.row + (parts.sop + parts.header + parts.body)
-    pub stands : o.refusal ≡ 0 → StandsAt segments window o
+    pub headers-are : IfOk o (λ q. q.headers ≡ g.headers + parts.header)
+    pub bodies_are : IfOk o (λ q. q.bodies ≡ g.bodies + (parts.sop + parts.body))
+    pub row_is : IfOk o (λ q. q.row ≡ g.row + (parts.sop + parts.header + parts.body))
+    pub stands : IfOk o (λ q. StandsAt segments window q)

@@ -1,22 +1,22 @@
 // One packet moved back: its header out of the segments, behind SOP and in front of the body, and its reader's state moved on.
 #![tactic(auto)]
 
-ghost use Rattle.std.specs.Prelude.{◌≡◌, true, not, ◌+◌, ◌^◌, ◌<◌, ◌≤◌, length, ltb};
+ghost use Rattle.std.specs.Prelude.{Ok, ◌≡◌, true, ◌+◌, ◌^◌, ◌<◌, ◌≤◌, length};
 ghost use Rattle.t800.specs.State.{reader};
 ghost use Rattle.t800.specs.Ranges.{valid_state};
 ghost use Rattle.t800.specs.PackedHeaders.{unpacked};
 ghost use Rattle.t2_unpack_headers.specs.Cursors.{CursorAt};
+ghost use Rattle.t2_skip_packet.specs.Parts.{number_in, skipped};
 ghost use Rattle.t2_spread_packet.specs.Moving.{sizes_refusal, HeaderPut, PacketPut, moved_on, StandsAt, SpreadsPacket};
 
-use t2_skip_packet::Skipped;
+use t2_skip_packet::Parts;
 use t2_unpack_headers::Cursor;
 use t800::{Markers, Refusal};
 
 // Where a move stands: header bytes and other bytes taken, bytes of the row put, the window's first header byte, and the segment of the
-// last header; or a refusal.
+// last header.
 #[derive(Clone, Copy)]
 pub struct Moved {
-    pub refusal: u32,
     pub headers: usize,
     pub bodies: usize,
     pub row: usize,
@@ -24,51 +24,21 @@ pub struct Moved {
     pub segment: Cursor,
 }
 
-fn refused(why: u32) -> Moved
-    ensures { result.refusal ≡ why }
-{
-    let segment = Cursor { at: 0, before: 0 };
-    Moved {
-        refusal: why,
-        headers: 0,
-        bodies: 0,
-        row: 0,
-        base: 0,
-        segment,
-    }
-}
-
 // ---- 10, 11
 
-// Whether parts of these sizes end within so many bytes.
-fn ends_within(sop: usize, header: usize, body: u64, left: usize) -> bool
-    ensures { result ≡ not (ltb left (sop + header + body)) }
-{
-    if left < sop {
-        return false;
-    }
-    let behind = left - sop;
-    if behind < header {
-        return false;
-    }
-    body <= (behind - header) as u64
-}
-
 // Of a packet with so many bytes left of the bodies and `put` of so many bytes of the row.
-fn sizes_refusal(p: Skipped, left: usize, put: usize, room: usize) -> u32
+fn sizes_fit(p: Parts, left: usize, put: usize, room: usize) -> Result<(), Refusal>
     requires { put ≤ room }
-    ensures { result ≡ sizes_refusal p left put room }
+    ensures { number_in result ≡ sizes_refusal (skipped (Ok p)) left put room }
 {
-    if p.refusal != 0 {
-        return p.refusal;
+    let beside = Parts { header: 0, ..p };
+    if !beside.end_within(left) {
+        return Err(Refusal::Body);
     }
-    if !ends_within(p.sop, 0, p.body, left) {
-        return Refusal::BODY;
+    if !p.end_within(room - put) {
+        return Err(Refusal::Space);
     }
-    if !ends_within(p.sop, p.header, p.body, room - put) {
-        return Refusal::SPACE;
-    }
-    0
+    Ok(())
 }
 
 // ---- the bytes
@@ -93,11 +63,11 @@ fn put_header(
 }
 
 // SOP and body are in front of `bodies`.
-fn put_packet(segments: &[u8], bodies: &[u8], p: Skipped, g: Moved, row: &mut [u8]) -> Cursor
+fn put_packet(segments: &[u8], bodies: &[u8], p: Parts, g: Moved, row: &mut [u8]) -> Cursor
     requires { (CursorAt segments.now g.segment) × (g.segment.before ≤ g.headers)
         × (g.headers + p.header ≤ length (unpacked segments.now).bytes) × (p.sop + p.body ≤ length bodies.now)
         × (g.row + (p.sop + p.header + p.body) ≤ length row.old) }
-    ensures { PacketPut segments.now bodies.now p g row.old row.new result }
+    ensures { PacketPut segments.now bodies.now (skipped (Ok p)) g row.old row.new result }
 {
     let sop = p.sop;
     let at = t2_write_packet::put_body(row, g.row, &bodies[..sop]);
@@ -109,14 +79,13 @@ fn put_packet(segments: &[u8], bodies: &[u8], p: Skipped, g: Moved, row: &mut [u
 }
 
 // Behind a packet with these parts.
-fn moved_on(g: Moved, p: Skipped, base: usize, segment: Cursor) -> Moved
+fn moved_on(g: Moved, p: Parts, base: usize, segment: Cursor) -> Moved
     requires { (g.headers + p.header < 2 ^ 64) × (g.bodies + (p.sop + p.body) < 2 ^ 64)
         × (g.row + (p.sop + p.header + p.body) < 2 ^ 64) }
-    ensures { result ≡ moved_on g p base segment }
+    ensures { result ≡ moved_on g (skipped (Ok p)) base segment }
 {
     let body = p.body as usize;
     Moved {
-        refusal: 0,
         headers: g.headers + p.header,
         bodies: g.bodies + (p.sop + body),
         row: g.row + (p.sop + p.header + body),
@@ -136,7 +105,7 @@ pub fn spread_packet(
     window: &mut [u8],
     row: &mut [u8],
     g: Moved,
-) -> Moved
+) -> Result<Moved, Refusal>
     requires { (valid_state reader words.old (length words.old) ≡ true) × (StandsAt segments.now window.old g)
         × (plain ≡ length (unpacked segments.now).bytes) × (g.bodies + length bodies.now < 2 ^ 64) × (g.row ≤ length row.old) }
     ensures { SpreadsPacket segments.now bodies.now m words.old row.old g
@@ -145,11 +114,8 @@ pub fn spread_packet(
     let s = t2_skip_gathered::skip_gathered(
         words, segments, plain, g.headers, bodies, m, window, g.base,
     );
-    let p = s.parts;
-    let why = sizes_refusal(p, bodies.len(), g.row, row.len());
-    if why != 0 {
-        return refused(why);
-    }
+    let p = s.parts?;
+    sizes_fit(p, bodies.len(), g.row, row.len())?;
     let segment = put_packet(segments, bodies, p, g, row);
-    moved_on(g, p, s.base, segment)
+    Ok(moved_on(g, p, s.base, segment))
 }

@@ -8,6 +8,7 @@ use lib.ListN.{length, get_or, drop, length-drop}
 use lib.Seq.{get_or-drop}
 use lib.Dec.{eqb, ltb}
 use borrow.Author.Tests.{le-ltb}
+use Rattle.std.proofs.Common.{Option, None, Some}
 use Rattle.t800.specs.Bits.{in_ff, ends_in_ff, bytes_taken}
 use Rattle.t800.specs.MarkerSegments.{MarkerRead, read_marker, read_eph}
 use Rattle.t800_laws.proofs.Laws.Tests.{either, if-lt}
@@ -16,7 +17,7 @@ use Rattle.t2_unpack_headers.proofs.Laws.Windows.{window_length, window_at}
 use Rattle.t2_skip_packet.specs.Parts.{header_bytes}
 use Rattle.t2_skip_windows.specs.declared.InWindow.{InWindow}
 use Rattle.t2_skip_windows.specs.Windows.{window_bytes, most_of_block}
-use Rattle.t2_skip_gathered.specs.Headers.{bio_from, EndOf}
+use Rattle.t2_skip_gathered.specs.Headers.{taken_of, bio_from, EndOf}
 
 -- ---- a marker of two bytes
 
@@ -47,7 +48,7 @@ same_marker true second src other p q h g e f =
 -- ---- the end
 
 -- the numbers that the code has: the place of the bits, and the bytes that are left
-abbrev place_of : (at : ℕ) → InWindow → ℕ
+abbrev pub place_of : (at : ℕ) → InWindow → ℕ
 place_of at s = s.base + s.run.bio.bp - at
 
 abbrev pub ends_at : (at left : ℕ) → InWindow → Bool
@@ -55,6 +56,19 @@ ends_at at left s = eqb (s.run.bio.buf % 256) 255 && eqb (place_of at s) left
 
 abbrev pub taken_at : (at left : ℕ) → InWindow → ℕ
 taken_at at left s = cond (eqb (s.run.bio.buf % 256) 255) (place_of at s + 1) (min (place_of at s) left)
+
+-- what is found of a place
+none_taken : (t : Bool) (n : ℕ) → None ≡ cond t None (Some n) → t ≡ true
+none_taken true n e = refl
+none_taken false n e = absurd (cc)
+
+some_taken : (t : Bool) (n m : ℕ) → Some m ≡ cond t None (Some n) → t ≡ false
+some_taken true n m e = absurd (cc)
+some_taken false n m e = refl
+
+pub taken_same : (t : Bool) (n m : ℕ) → Some m ≡ cond t None (Some n) → m ≡ n
+taken_same true n m e = absurd (cc)
+taken_same false n m e = cc
 
 pub taken_up_to : (at left : ℕ) (s : InWindow) → taken_at at left s ≤ place_of at s + 1
 taken_up_to at left s =
@@ -75,6 +89,9 @@ module _ (bytes window : List ℕ) (s : InWindow) (plain at : ℕ) (eph : Bool) 
     abbrev left : ℕ
     left = plain - at
 
+    abbrev taken_here : Option ℕ
+    taken_here = taken_of s.run.bio.buf (place_of at s) left
+
     left_is : left ≡ length src
     left_is = ap (λ (n : ℕ). n - at) all ∙ sym (length-drop at bytes)
 
@@ -86,12 +103,18 @@ module _ (bytes window : List ℕ) (s : InWindow) (plain at : ℕ) (eph : Bool) 
     unfolding bytes_taken in_ff
     taken_is = ap (λ (n : ℕ). taken_at at n s) left_is
 
-    pub ended : ends_at at left s ≡ true → EndOf src eph (bio_from at s) (record { ok = false; bytes = 0 })
-    ended e = record { ok = ap not (sym e ∙ ends_is); bytes = λ f. absurd (true≢false (sym f)) }
+    pub ended : None ≡ taken_here → EndOf src eph (bio_from at s) None
+    ended e = sym ends_is ∙ none_taken (ends_at at left s) (taken_at at left s) e
 
-    module _ (on : ends_at at left s ≡ false) (taken : ℕ) (is : taken ≡ taken_at at left s) where
-      ok_is : true ≡ not (ends_in_ff src (bio_from at s))
-      ok_is = ap not (sym on ∙ ends_is)
+    module _ (taken : ℕ) (found : Some taken ≡ taken_here) where
+      on : ends_at at left s ≡ false
+      on = some_taken (ends_at at left s) (taken_at at left s) taken found
+
+      is : taken ≡ taken_at at left s
+      is = taken_same (ends_at at left s) (taken_at at left s) taken found
+
+      ok_is : ends_in_ff src (bio_from at s) ≡ false
+      ok_is = sym ends_is ∙ on
 
       bytes_are : (skip : ℕ) → (read_marker eph 2 0x92 src taken).skip ≡ skip → taken + skip ≡ header_bytes src eph 0 (bio_from at s)
       unfolding header_bytes read_eph
@@ -100,14 +123,14 @@ module _ (bytes window : List ℕ) (s : InWindow) (plain at : ℕ) (eph : Bool) 
           let zero_less : taken + skip ≡ taken + skip - 0 = omega arith in
           zero_less ∙ ap (λ (k : ℕ). taken + k - 0) (sym e) ∙ ap (λ (k : ℕ). k + (read_marker eph 2 0x92 src k).skip - 0) n
 
-      pub end_short : left < taken + 2 → EndOf src eph (bio_from at s) (record { ok = true; bytes = taken })
+      pub end_short : left < taken + 2 → EndOf src eph (bio_from at s) (Some taken)
       end_short h =
           let n : taken ≡ taken + 0 = omega arith in
-          record { ok = ok_is; bytes = λ _. n ∙ bytes_are 0 (none_skipped eph 0x92 src taken (omega (arith, left_is))) }
+          (ok_is, n ∙ bytes_are 0 (none_skipped eph 0x92 src taken (omega (arith, left_is))))
 
       pub end-found : s.run.bio.bp + most_of_block ≤ window_bytes → at ≤ s.base + s.run.bio.bp → taken + 2 ≤ left → (f : MarkerRead)
           → f ≡ read_marker eph 2 0x92 window (s.run.bio.bp + (taken - place_of at s))
-          → EndOf src eph (bio_from at s) (record { ok = true; bytes = taken + f.skip })
+          → EndOf src eph (bio_from at s) (Some (taken + f.skip))
       end-found enough from h f e =
           let q : ℕ = s.run.bio.bp + (taken - place_of at s) in
           let low : place_of at s ≤ taken = rw is (taken_from at left s (rw (← is) h)) in
@@ -122,4 +145,4 @@ module _ (bytes window : List ℕ) (s : InWindow) (plain at : ℕ) (eph : Bool) 
           let y : taken + 0 ≡ taken = omega arith in
           ap (λ (n : ℕ). get_or window n 0) (sym z) ∙ byte 0 (omega arith) ∙ ap (λ (n : ℕ). get_or src n 0) y in
           let m = same_marker eph 0x92 src window taken q (omega (arith, left_is)) (omega (arith, long)) first (byte 1 (omega arith)) in
-          record { ok = ok_is; bytes = λ _. bytes_are f.skip (sym (ap (λ (r : MarkerRead). r.skip) (e ∙ m))) }
+          (ok_is, bytes_are f.skip (sym (ap (λ (r : MarkerRead). r.skip) (e ∙ m))))

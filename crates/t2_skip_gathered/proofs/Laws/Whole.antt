@@ -9,7 +9,12 @@ use lib.ListN.{length, get_or, set, drop}
 use lib.Dec.{eqb}
 use borrow.Author.Tests.{eq-eqb, ne_eqb}
 use Rattle.t800.specs.declared.Bio.{Bio}
+use Rattle.std.proofs.Common.{None, Some, Err}
+use Rattle.gathered_headers.proofs.RoomEnough.{blocks-up_to}
 use Rattle.t800.specs.declared.Markers.{Markers}
+use Rattle.t800.specs.declared.Refusal.{Refusal}
+use Rattle.t800.specs.declared.Refusal.TheVariants.{Layers, HeaderEnd}
+use Rattle.t800.specs.RefusalNumbers.{number_of}
 use Rattle.t800.specs.Bits.{Decoded, bio_at, byte_in, held_bit, get_bit, in_ff, ends_in_ff}
 use Rattle.t800.specs.MarkerSegments.{MarkerRead, read_marker, read_sop}
 use Rattle.t800.specs.Reports.{room_for_all, body_bytes}
@@ -17,17 +22,16 @@ use Rattle.t800.specs.State.{reader, not_yet_included, layer, bands, blocks}
 use Rattle.t800.specs.Ranges.{valid_state}
 use Rattle.t800.specs.ReadHeader.{HeaderRead, refused, read_blocks, read_header}
 use Rattle.t800.specs.Gathered.{Parts, without_sop, read_gathered, parts_in_row, parts_gathered}
-use Rattle.t800_laws.proofs.Laws.Tests.{if-eq, if-ne, on-eq}
+use Rattle.t800_laws.proofs.Laws.Tests.{either, if-eq, if-ne, on-eq}
 use Rattle.t800_laws.proofs.Laws.Starts.{header_bytes_lem}
 use Rattle.tcd_laws.proofs.Laws.ValidStates.{blocks-of_valid}
 use Rattle.t2_read_segments.specs.Reading.{BitsIn}
 use Rattle.t2_skip_header.specs.declared.Skipped as Header
-use Rattle.t2_skip_packet.specs.declared.Skipped.{Skipped}
-use Rattle.t2_skip_packet.specs.Parts.{SkipsPacket, SkipsFrom, header_from}
+use Rattle.t2_skip_packet.proofs.Laws.Numbers.{refusal_counts}
+use Rattle.t2_skip_packet.specs.Parts.{Skipped, skipped, SkipsPacket, SkipsFrom, header_from}
 use Rattle.t2_skip_packet.proofs.Laws.Parts.{layers_refused, header_refused, packet-skipped}
 use Rattle.t2_skip_windows.specs.declared.InWindow.{InWindow}
 use Rattle.t2_skip_windows.specs.Windows.{Stands}
-use Rattle.t2_skip_gathered.specs.declared.HeaderEnd.{HeaderEnd}
 use Rattle.t2_skip_gathered.specs.Headers.{Arrives, header_up_to, bio_from, EndOf}
 
 -- ---- a packet in a row without SOP, and in gathered headers
@@ -131,10 +135,8 @@ module _ (ws : List ℕ) (m : Markers) (bytes bodies : List ℕ) (at : ℕ) (val
   abbrev over : List ℕ
   over = drop at bytes
 
-  pub layers_gathered : (vs : List ℕ) → layer ws ≡ not_yet_included
-      → SkipsPacket (parts ws m over bodies) vs (record { refusal = 6; sop = 0; header = 0; body = 0 })
-  layers_gathered vs e =
-      refused-beside ws m over bodies vs 6 (omega arith) (layers_refused ws (without_sop m) over valid vs _ e refl)
+  pub layers_gathered : (vs : List ℕ) → layer ws ≡ not_yet_included → SkipsPacket (parts ws m over bodies) vs (skipped (Err Layers))
+  layers_gathered vs e = refused-beside ws m over bodies vs 6 (omega arith) (layers_refused ws (without_sop m) over valid vs e)
 
   module _ (more : layer ws ≢ not_yet_included) (vs : List ℕ) (o : InWindow)
       (arrives : Arrives at vs o (header_up_to over ws (get_bit over (bio_at 0)))) where
@@ -148,26 +150,33 @@ module _ (ws : List ℕ) (m : Markers) (bytes bodies : List ℕ) (at : ℕ) (val
     unfolding read_marker no_sop
     no_sop_lem = refl
 
-    -- refused with this number
-    refused-with : (why : ℕ) → why ≢ 0 → (header_from over ws (first over ws)).refusal ≡ why → (us : List ℕ)
-        → SkipsPacket (parts ws m over bodies) us (record { refusal = why; sop = 0; header = 0; body = 0 })
+    refused-with : (why : Refusal) → (header_from over ws (first over ws)).refusal ≡ number_of why → (us : List ℕ)
+        → SkipsPacket (parts ws m over bodies) us (skipped (Err why))
     unfolding no_sop
-    refused-with why n e us =
-        let h : Header.Skipped = record { bio = bio_at 0; bytes = 0; refusal = why } in
+    refused-with why e us =
+        let h : Header.Skipped = record { bio = bio_at 0; bytes = 0; refusal = number_of why } in
         let s : SkipsFrom over ws (first over ws) vs h = record {
           refuses = sym e;
-          holds = λ z. absurd (n (sym e ∙ z));
+          holds = λ z. absurd (refusal_counts why (sym e ∙ z));
           bits = record { few = omega arith; place = omega arith };
         } in
-        refused-beside ws m over bodies us why n
-        (header_refused ws (without_sop m) over valid more no_sop no_sop_lem (first over ws) refl vs h s us _ n refl)
+        refused-beside ws m over bodies us (number_of why) (refusal_counts why)
+        (header_refused ws (without_sop m) over valid more no_sop no_sop_lem (first over ws) refl vs h s us why refl)
 
-    pub blocks-refused : o.run.refusal ≢ 0 → (us : List ℕ)
-        → SkipsPacket (parts ws m over bodies) us (record { refusal = o.run.refusal; sop = 0; header = 0; body = 0 })
-    blocks-refused n us =
-        let why : ended.refusal ≢ 0 = λ z. n (arrives.refuses ∙ z) in
-        refused-with o.run.refusal n
-        (ap (λ (r : HeaderRead). r.refusal) (header_refused_is over ws why) ∙ sym arrives.refuses) us
+    pub blocks-refused : (why : Refusal) → number_of why ≡ o.run.refusal → (us : List ℕ)
+        → SkipsPacket (parts ws m over bodies) us (skipped (Err why))
+    blocks-refused why is us =
+        let n : ended.refusal ≢ 0 = λ z. refusal_counts why (is ∙ arrives.refuses ∙ z) in
+        refused-with why
+        (ap (λ (r : HeaderRead). r.refusal) (header_refused_is over ws n) ∙ sym arrives.refuses ∙ sym is) us
+
+    pub number_up_to : o.run.refusal ≤ 12
+    number_up_to =
+        let start : HeaderRead = started over ws in
+        let read = blocks-up_to over room_for_all (layer ws) 0 (blocks (bands ws)) start (omega arith)
+        (omega (arith, blocks-of_valid reader ws (length ws) valid)) in
+        let all : ended.refusal ≤ 12 = either (λ (r : HeaderRead). r.refusal ≤ 12) (eqb (first over ws).value 0) start _ (omega arith) read in
+        omega (arith, arrives.refuses, all)
 
     module _ (on : o.run.refusal ≡ 0) where
       accepted : ended.refusal ≡ 0
@@ -181,30 +190,23 @@ module _ (ws : List ℕ) (m : Markers) (bytes bodies : List ℕ) (at : ℕ) (val
           let p : o.base + o.run.bio.bp - at ≡ ended.bio.bp = omega (arith, stands.place) in
           λ j. record { bp = p j; buf = sym stands.buf j; ct = sym stands.ct j }
 
-      module _ (e : HeaderEnd) (ends : EndOf over m.eph (bio_from at o) e) where
-        end_is : (t : Bool) → e.ok ≡ not t → ends_in_ff over ended.bio ≡ t
-        end_is t f = flip (ends_in_ff over ended.bio) t
-            (sym (ap (λ (b : Bio). not (ends_in_ff over b)) bits_are) ∙ sym ends.ok ∙ f)
-          where
-            flip : (x y : Bool) → not x ≡ not y → x ≡ y
-            flip true true q = refl
-            flip true false q = sym q
-            flip false true q = sym q
-            flip false false q = refl
+      ends_as : (t : Bool) → ends_in_ff over (bio_from at o) ≡ t → ends_in_ff over ended.bio ≡ t
+      ends_as t e = sym (ap (λ (b : Bio). ends_in_ff over b) bits_are) ∙ e
 
-        pub end_refused : e.ok ≡ false → (us : List ℕ)
-            → SkipsPacket (parts ws m over bodies) us (record { refusal = 12; sop = 0; header = 0; body = 0 })
-        end_refused f us =
-            refused-with 12 (omega arith) (ap (λ (r : HeaderRead). r.refusal) (header_ends_is over ws true accepted (end_is true f))) us
+      pub end_refused : EndOf over m.eph (bio_from at o) None → (us : List ℕ)
+          → SkipsPacket (parts ws m over bodies) us (skipped (Err HeaderEnd))
+      end_refused e us =
+          refused-with HeaderEnd (ap (λ (r : HeaderRead). r.refusal) (header_ends_is over ws true accepted (ends_as true e))) us
 
-        pub all_gathered_lem : e.ok ≡ true → (us : List ℕ) (sop : MarkerRead) → us ≡ set vs 3 (layer ws + 1)
+      module _ (header : ℕ) (end : EndOf over m.eph (bio_from at o) (Some header)) where
+        pub all_gathered_lem : (us : List ℕ) (sop : MarkerRead) → us ≡ set vs 3 (layer ws + 1)
             → sop ≡ read_marker m.sop 6 0x91 bodies 0
             → SkipsPacket (parts ws m over bodies) us
-            (record { refusal = 0; sop = sop.skip; header = e.bytes; body = o.run.bytes })
+            (record { refusal = 0; sop = sop.skip; header = header; body = o.run.bytes })
         unfolding read_sop no_sop
-        all_gathered_lem f us sop set_is found =
+        all_gathered_lem us sop set_is found =
             let h : Header.Skipped = record { bio = bio_from at o; bytes = o.run.bytes; refusal = 0 } in
-            let is : header_from over ws (first over ws) ≡ ended = header_ends_is over ws false accepted (end_is false f) in
+            let is : header_from over ws (first over ws) ≡ ended = header_ends_is over ws false accepted (ends_as false end.0) in
             let few = few_bytes over ws (blocks-of_valid reader ws (length ws) valid) in
             let body : o.run.bytes ≡ body_bytes (header_from over ws (first over ws)).records =
             let same = ap (λ (r : HeaderRead). body_bytes r.records) is in omega (arith, stands.bytes) in
@@ -218,7 +220,7 @@ module _ (ws : List ℕ) (m : Markers) (bytes bodies : List ℕ) (at : ℕ) (val
               bits = subst (BitsIn over) (sym bits_are)
                   (record { few = omega (arith, stands.few); place = omega (arith, stands.near, arrives.few) });
             } in
-            skips_beside ws m over bodies us (record { refusal = 0; sop = 0; header = e.bytes; body = o.run.bytes }) sop.skip
-            (packet-skipped ws (without_sop m) over valid more no_sop no_sop_lem (first over ws) refl vs h s us e.bytes refl set_is
-            (ends.bytes f))
+            skips_beside ws m over bodies us (record { refusal = 0; sop = 0; header = header; body = o.run.bytes }) sop.skip
+            (packet-skipped ws (without_sop m) over valid more no_sop no_sop_lem (first over ws) refl vs h s us header refl set_is
+            end.1)
             (λ _. ap (λ (r : MarkerRead). r.skip) found)

@@ -1,53 +1,60 @@
-use mathlib.Core.Path.{sym, ap, ◌∙◌, subst}
+use mathlib.Core.Path.{◌≡◌, sym, ap, ◌∙◌, subst}
 use Prim.Native.Nat.{ℕ, ◌+◌, ◌-◌, ◌≤◌}
 use native.Mathlib.Omega.{arith}
+use Rattle.std.proofs.Common.{Option, None, Some}
 use Rattle.t800.specs.MarkerSegments.{MarkerRead}
 use Rattle.t2_read_marks.specs.Marks.{marker_read}
-use Rattle.t2_skip_gathered.proofs.Laws.Ending.{skip_small, taken_up_to, taken_from, ended, end_short, end-found}
+use Rattle.t2_skip_windows.specs.declared.InWindow.{InWindow}
+use Rattle.t2_skip_gathered.specs.Headers.{taken_of}
+use Rattle.t2_skip_gathered.proofs.Laws.Ending.{place_of, ends_at, taken_at, taken_same, skip_small, taken_up_to, taken_from, ended, end_short, end-found}
 use Rattle.t2_skip_gathered.proofs.header_end.Goals as goal
 
-pub returns-then-ends_in_ff : goal.returns-then-ends_in_ff
-returns-then-ends_in_ff c bytes holds all =
+-- how far the bytes found go
+
+near : (at left : ℕ) (s : InWindow) (taken : ℕ) → Some taken ≡ taken_of s.run.bio.buf (place_of at s) left → taken ≤ place_of at s + 1
+near at left s taken e =
+    let is : taken ≡ taken_at at left s = taken_same (ends_at at left s) (taken_at at left s) taken e in
+    subst (λ (n : ℕ). n ≤ place_of at s + 1) (sym is) (taken_up_to at left s)
+
+far : (at left : ℕ) (s : InWindow) (taken : ℕ) → Some taken ≡ taken_of s.run.bio.buf (place_of at s) left → taken + 2 ≤ left
+    → place_of at s ≤ taken
+far at left s taken e h =
+    let is : taken ≡ taken_at at left s = taken_same (ends_at at left s) (taken_at at left s) taken e in
+    subst (λ (n : ℕ). place_of at s ≤ n) (sym is) (taken_from at left s (subst (λ (n : ℕ). n + 2 ≤ left) is h))
+
+pub returns-in_err-taken : goal.returns-in_err-taken
+returns-in_err-taken c bytes holds all =
     let a = c.args in
-    ended bytes a.window.now a.s a.plain a.at a.eph holds all (sym c.ends_in_ff.ensures ∙ c.if-ends_in_ff.true)
+    rw c.from_residual.ensures (ended bytes a.window.now a.s a.plain a.at a.eph holds all c.in_err-taken.ensures)
 
 pub overflow_add-taken : goal.overflow_add-taken
 overflow_add-taken c =
-    let s = c in
-    let a = s.args in
-    omega (arith, c.bytes_taken-taken.ensures, taken_up_to a.at (a.plain - a.at) a.s, s.requires.4)
+    let a = c.args in
+    omega (arith, near a.at (a.plain - a.at) a.s c.in_ok-taken.taken c.in_ok-taken.ensures, c.requires.4)
 
 pub returns-then-left-taken : goal.returns-then-left-taken
 returns-then-left-taken c bytes holds all =
     let a = c.args in
-    end_short bytes a.window.now a.s a.plain a.at a.eph holds all (sym c.ends_in_ff.ensures ∙ c.if-ends_in_ff.false) _
-    c.bytes_taken-taken.ensures c.if-left-taken.true
+    end_short bytes a.window.now a.s a.plain a.at a.eph holds all c.in_ok-taken.taken c.in_ok-taken.ensures c.if-left-taken.true
 
 pub overflow_sub-index : goal.overflow_sub-index
 overflow_sub-index c =
     let a = c.args in
-    let e = c.bytes_taken-taken.ensures in
-    let h : c.bytes_taken-taken.result + 2 ≤ a.plain - a.at = c.if-left-taken.false in
-    omega (arith, e, taken_from a.at (a.plain - a.at) a.s (subst (λ (n : ℕ). n + 2 ≤ a.plain - a.at) e h))
+    omega (arith, far a.at (a.plain - a.at) a.s c.in_ok-taken.taken c.in_ok-taken.ensures c.if-left-taken.false)
 
-pub overflow_add-bytes : goal.overflow_add-bytes
-overflow_add-bytes c =
-    let s = c in
-    let a = s.args in
+pub overflow_add-result : goal.overflow_add-result
+overflow_add-result c =
+    let a = c.args in
     omega (
       arith,
-      c.bytes_taken-taken.ensures,
-      taken_up_to a.at (a.plain - a.at) a.s,
-      s.requires.4,
+      near a.at (a.plain - a.at) a.s c.in_ok-taken.taken c.in_ok-taken.ensures,
+      c.requires.4,
       ap (λ (e : MarkerRead). e.skip) c.read_marker-e.ensures,
-      skip_small a.eph 0x92 a.window.now (a.s.run.bio.bp + (c.bytes_taken-taken.result - (a.s.base
-          + a.s.run.bio.bp - a.at))),
+      skip_small a.eph 0x92 a.window.now (a.s.run.bio.bp + (c.in_ok-taken.taken - (a.s.base + a.s.run.bio.bp - a.at))),
     )
 
 pub returns : goal.returns
 returns c bytes holds all =
-    let s = c in
-    let a = s.args in
-    end-found bytes a.window.now a.s a.plain a.at a.eph holds all (sym c.ends_in_ff.ensures ∙ c.if-ends_in_ff.false) _
-    c.bytes_taken-taken.ensures s.requires.1 s.requires.3 c.if-left-taken.false (marker_read c.read_marker-e.result)
-    c.read_marker-e.ensures
+    let a = c.args in
+    end-found bytes a.window.now a.s a.plain a.at a.eph holds all c.in_ok-taken.taken c.in_ok-taken.ensures
+    c.requires.1 c.requires.3 c.if-left-taken.false (marker_read c.read_marker-e.result) c.read_marker-e.ensures

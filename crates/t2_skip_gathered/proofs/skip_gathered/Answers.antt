@@ -16,7 +16,7 @@ use Rattle.t2_skip_windows.specs.Windows.{window_bytes, WindowOn}
 use Rattle.t2_skip_gathered.specs.declared.SkippedGathered.{SkippedGathered}
 use Rattle.t2_skip_gathered.proofs.Laws.Arrivals.{end_near}
 use Rattle.t2_skip_gathered.proofs.Laws.FewBytes.{few_bytes}
-use Rattle.t2_skip_gathered.proofs.Laws.Whole.{parts, layers_gathered, blocks-refused, end_refused, all_gathered_lem}
+use Rattle.t2_skip_gathered.proofs.Laws.Whole.{layers_gathered, blocks-refused, number_up_to, end_refused, all_gathered_lem}
 use Rattle.t2_skip_gathered.proofs.skip_gathered.Goals as goal
 
 -- of variables: at a need `omega` reads all that its `c` holds
@@ -44,15 +44,9 @@ bounds-words-3 c =
 
 pub returns-then-layer-eq-NOT_YET_INCLUDED : goal.returns-then-layer-eq-NOT_YET_INCLUDED
 returns-then-layer-eq-NOT_YET_INCLUDED c =
-    let s = c in
-    let a = s.args in
+    let a = c.args in
     let bytes = (unpacked a.segments.now).bytes in
-    let e = c.refused_at.ensures in (
-      subst (λ (x : SkippedGathered). SkipsPacket (parts a.words.now a.m (drop a.at bytes) a.bodies.now) a.words.now
-          x.parts) (sym e)
-          (layers_gathered a.words.now a.m bytes a.bodies.now a.at s.requires.0 a.words.now c.if-layer-eq-NOT_YET_INCLUDED.true),
-      subst (λ (x : SkippedGathered). WindowOn a.segments.now a.window.now x.base) (sym e) s.requires.1,
-    )
+    (layers_gathered a.words.now a.m bytes a.bodies.now a.at c.requires.0 a.words.now c.if-layer-eq-NOT_YET_INCLUDED.true, c.requires.1)
 
 pub skip_header-o-requires : goal.skip_header-o-requires
 skip_header-o-requires c =
@@ -67,54 +61,48 @@ skip_header-o-requires c =
       at-below _ _ _ s.requires.3 s.requires.2 few,
     )
 
-pub returns-then-run-ne0 : goal.returns-then-run-ne0
-returns-then-run-ne0 c =
-    let s = c in
-    let a = s.args in
+pub refusal_of-requires : goal.refusal_of-requires
+refusal_of-requires c =
+    let a = c.args in
     let bytes = (unpacked a.segments.now).bytes in
     let k = c.skip_header-o in
-    let e = c.refused_at-then-run-ne0.ensures in (
-      subst (λ (x : SkippedGathered). SkipsPacket (parts a.words.now a.m (drop a.at bytes) a.bodies.now) k.new.words
-          x.parts) (sym e)
-          (blocks-refused a.words.now a.m bytes a.bodies.now a.at s.requires.0 c.if-layer-eq-NOT_YET_INCLUDED.false k.new.words k.result
-          k.ensures.arrives c.if-run-ne0.true k.new.words),
-      subst (λ (x : SkippedGathered). WindowOn a.segments.now k.new.window x.base) (sym e) k.ensures.window_on,
-    )
+    number_up_to a.words.now a.m bytes a.bodies.now a.at c.requires.0 c.if-layer-eq-NOT_YET_INCLUDED.false k.new.words k.result
+    k.ensures.arrives
 
-pub header_end-end-requires : goal.header_end-end-requires
-header_end-end-requires c =
-    let s = c in
-    let a = s.args in
+pub returns-in-Some : goal.returns-in-Some
+returns-in-Some c =
+    let a = c.args in
+    let bytes = (unpacked a.segments.now).bytes in
+    let k = c.skip_header-o in
+    (blocks-refused a.words.now a.m bytes a.bodies.now a.at c.requires.0 c.if-layer-eq-NOT_YET_INCLUDED.false k.new.words k.result
+    k.ensures.arrives c.in-Some.why c.in-Some.ensures k.new.words, k.ensures.window_on)
+
+pub header_end-requires : goal.header_end-requires
+header_end-requires c =
+    let a = c.args in
     let bytes = (unpacked a.segments.now).bytes in
     let k = c.skip_header-o in
     let o = k.result in
-    let few = few_bytes a.segments.now (λ i. (c.shared_slice_known-1.given i).fits) s.requires.1.right in
-    let all = s.requires.2 in
-    let inside = s.requires.3 in
-    let near = end_near a.at k.new.words o _ k.ensures.arrives c.if-run-ne0.false (at-below _ _ _ inside all few) in (
+    let few = few_bytes a.segments.now (λ i. (c.shared_slice_known-1.given i).fits) c.requires.1.right in
+    let all = c.requires.2 in
+    let inside = c.requires.3 in
+    let near = end_near a.at k.new.words o _ k.ensures.arrives (sym c.in_default.ensures) (at-below _ _ _ inside all few) in (
       ap length k.ensures.window_on.holds ∙ window_length bytes o.base window_bytes,
-      k.ensures.enough c.if-run-ne0.false,
+      k.ensures.enough (sym c.in_default.ensures),
       inside,
       near.0,
       near.1,
       plain_fits _ _ all few,
     )
 
-pub returns-then-not-end : goal.returns-then-not-end
-returns-then-not-end c =
-    let s = c in
-    let a = s.args in
+pub returns-in_default-header_end : goal.returns-in_default-header_end
+returns-in_default-header_end c =
+    let a = c.args in
     let bytes = (unpacked a.segments.now).bytes in
     let k = c.skip_header-o in
-    let h = c.header_end-end in
-    let e = c.refused_at-then-not-end.ensures in (
-      subst (λ (x : SkippedGathered). SkipsPacket (parts a.words.now a.m (drop a.at bytes) a.bodies.now) k.new.words
-          x.parts) (sym e)
-          (end_refused a.words.now a.m bytes a.bodies.now a.at s.requires.0 c.if-layer-eq-NOT_YET_INCLUDED.false k.new.words k.result
-          k.ensures.arrives c.if-run-ne0.false h.result (h.ensures bytes k.ensures.window_on.holds s.requires.2) (not-true _ c.if-not-end.true)
-          k.new.words),
-      subst (λ (x : SkippedGathered). WindowOn a.segments.now k.new.window x.base) (sym e) k.ensures.window_on,
-    )
+    (end_refused a.words.now a.m bytes a.bodies.now a.at c.requires.0 c.if-layer-eq-NOT_YET_INCLUDED.false k.new.words k.result
+    k.ensures.arrives (sym c.in_default.ensures) (c.in_default-header_end.ensures bytes k.ensures.window_on.holds c.requires.2)
+    k.new.words, k.ensures.window_on)
 
 pub overflow_add-words : goal.overflow_add-words
 overflow_add-words c =
@@ -131,28 +119,13 @@ bounds-words-3-2 c =
 
 pub returns : goal.returns
 returns c =
-    let s = c in
-    let a = s.args in
+    let a = c.args in
     let bytes = (unpacked a.segments.now).bytes in
     let k = c.skip_header-o in
-    let h = c.header_end-end in (
-      all_gathered_lem a.words.now a.m bytes a.bodies.now a.at s.requires.0 c.if-layer-eq-NOT_YET_INCLUDED.false k.new.words k.result
-          k.ensures.arrives c.if-run-ne0.false h.result (h.ensures bytes k.ensures.window_on.holds s.requires.2) (not-false _ c.if-not-end.false)
-          _ (marker_read c.read_marker-sop.result) refl c.read_marker-sop.ensures,
-      k.ensures.window_on,
-    )
-
-pub shape_of-words-then-run-ne0 : goal.shape_of-words-then-run-ne0
-shape_of-words-then-run-ne0 c = c.skip_header-o.auto.words
-
-pub shape_of-window-then-run-ne0 : goal.shape_of-window-then-run-ne0
-shape_of-window-then-run-ne0 c = c.skip_header-o.auto.window
-
-pub shape_of-words-then-not-end : goal.shape_of-words-then-not-end
-shape_of-words-then-not-end c = c.skip_header-o.auto.words
-
-pub shape_of-window-then-not-end : goal.shape_of-window-then-not-end
-shape_of-window-then-not-end c = c.skip_header-o.auto.window
+    (all_gathered_lem a.words.now a.m bytes a.bodies.now a.at c.requires.0 c.if-layer-eq-NOT_YET_INCLUDED.false k.new.words k.result
+    k.ensures.arrives (sym c.in_default.ensures) c.in-Some-header_end.header
+    (c.in-Some-header_end.ensures bytes k.ensures.window_on.holds c.requires.2) _ (marker_read c.read_marker-sop.result) refl
+    c.read_marker-sop.ensures, k.ensures.window_on)
 
 pub shape_of-words : goal.shape_of-words
 shape_of-words c = simp length-set c.skip_header-o.auto.words

@@ -13,7 +13,7 @@ use Rattle.t2_unpack_headers.specs.Windows.{window_of}
 use Rattle.t2_unpack_headers.proofs.Laws.Windows.{window_inside}
 use Rattle.t2_write_packet.specs.Front.{BytesPut, bytes_put, put_bytes}
 use Rattle.t2_write_packet.proofs.Laws.Front.{sets_append, part_put}
-use Rattle.t2_skip_packet.specs.declared.Skipped.{Skipped}
+use Rattle.t2_skip_packet.specs.Parts.{Skipped}
 use Rattle.t2_spread_packet.specs.declared.Moved.{Moved}
 use Rattle.t2_spread_packet.specs.Moving.{HeaderPut, PacketPut}
 

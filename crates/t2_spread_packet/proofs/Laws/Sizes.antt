@@ -8,18 +8,8 @@ use lib.Dec.{ltb, leb}
 use borrow.Author.Tests.{lt-ltb, le-ltb, le-leb, lt-leb, eq-eqb, ne_eqb, ltb-true, ltb-false, not-true, not-false}
 use Rattle.t800.specs.Refusals.{body_refusal, space_refusal}
 use Rattle.t800_laws.proofs.Laws.Tests.{on-eq, on-le, not_refused}
-use Rattle.t2_skip_packet.specs.declared.Skipped.{Skipped}
+use Rattle.t2_skip_packet.specs.Parts.{Skipped}
 use Rattle.t2_spread_packet.specs.Moving.{sizes_refusal}
-
-pub within : (left sop header body : ℕ) → sop ≤ left → header ≤ left - sop
-    → leb body (left - sop - header) ≡ not (ltb left (sop + header + body))
-within left sop header body h k =
-    on-le body (left - sop - header)
-    (λ l. le-leb body (left - sop - header) l ∙ sym (ap not (le-ltb left (sop + header + body) (omega arith))))
-    (λ l. lt-leb body (left - sop - header) l ∙ sym (ap not (lt-ltb left (sop + header + body) (omega arith))))
-
-pub not_within : (left n : ℕ) → left < n → false ≡ not (ltb left n)
-not_within left n h = sym (ap not (lt-ltb left n h))
 
 -- what the code's test says of the definition's
 more_than : (left n : ℕ) (result : Bool) → result ≡ not (ltb left n) → result ≡ false → left < n
