@@ -16,8 +16,8 @@ fn refuse(scratch: &mut [u32], headers: &mut [u8], bodies: &mut [u8], why: Refus
         ≡ refused_move (number_of why) scratch.old headers.old bodies.old }
 {
     lists::wipe(scratch);
-    lists::wipe_bytes(headers);
-    lists::wipe_bytes(bodies);
+    lists::wipe(headers);
+    lists::wipe(bodies);
     GatherAnswer::refused(why)
 }
 

@@ -1,13 +1,15 @@
 -- Gathered headers moved back packet by packet, in the code's lists and counts.
-use Rattle.std.specs.Prelude.{◌≡◌, ℕ, ◌+◌, ◌-◌, ◌≤◌, length, take, drop}
+use Rattle.std.specs.Prelude.{Result, IfOk, ◌≡◌, ℕ, ◌+◌, ◌-◌, ◌≤◌, length, take, drop}
 use mathlib.Core.List.{List, [], ◌++◌, flat_map}
 use Rattle.std.proofs.lemmas.List.Edits.{sets}
 use Rattle.t800.specs.declared.Markers.{Markers}
+use Rattle.t800.specs.declared.Refusal.{Refusal}
 use Rattle.t800.specs.Base.{Words, Bytes}
 use Rattle.t800.specs.PackedHeaders.{unpacked}
 use Rattle.t800.specs.Gathered.{states_in, Spreading, spread_packets}
 use Rattle.tcd_states.specs.declared.Found.{Found}
 use Rattle.tcd_states.specs.States.{start_of, AllValid, words_at}
+use Rattle.t2_skip_packet.specs.Parts.{number_in}
 use Rattle.t2_spread_packet.specs.declared.Moved.{Moved}
 use Rattle.t2_spread_packet.specs.Moving.{StandsAt, SpreadsPacket}
 
@@ -15,7 +17,7 @@ use Rattle.t2_spread_packet.specs.Moving.{StandsAt, SpreadsPacket}
 
 -- as SpreadsPacket has it, with its state in these words of the scratch
 pub record SpreadsAt (segments bodies : Bytes) (m : Markers) (f : Found) (ws : Words) (rs : Bytes) (g : Moved) (ws' : Words)
-    (window rs' : Bytes) (o : Moved) : Type 0 where
+    (window rs' : Bytes) (o : Result Moved Refusal) : Type 0 where
   pub after : Words
   pub packet : SpreadsPacket segments bodies m (words_at f ws) rs g after window rs' o
   pub replaced : ws' ≡ take f.start ws ++ (after ++ drop (f.start + f.words - f.start) (drop f.start ws))
@@ -38,7 +40,7 @@ pub record Stands (ss : List Words) (segments bodies rs : Bytes) (sp : Spreading
   pub headers-at : StandsAt segments window g
 
 abbrev pub first_moved : Moved
-first_moved = record { refusal = 0; headers = 0; bodies = 0; row = 0; base = 0; segment = record { at = 0; before = 0 } }
+first_moved = record { headers = 0; bodies = 0; row = 0; base = 0; segment = record { at = 0; before = 0 } }
 
 abbrev pub from_start : (segments bodies : Bytes) (states : Words) → Spreading
 from_start segments bodies states =
@@ -48,8 +50,7 @@ abbrev pub all_spread : (segments bodies : Bytes) → Markers → (states places
 all_spread segments bodies m states places rs = spread_packets m (length rs) places (from_start segments bodies states)
 
 pub record SpreadsPackets (segments bodies : Bytes) (m : Markers) (states places : Words) (rs : Bytes) (ws : Words) (rs' : Bytes)
-    (o : Moved) : Type 0 where
+    (o : Result Moved Refusal) : Type 0 where
   pub window : Bytes
-  pub refuses : o.refusal ≡ (all_spread segments bodies m states places rs).refusal
-  pub stands : o.refusal ≡ 0
-      → Stands (states_in states) segments bodies rs (all_spread segments bodies m states places rs) ws window rs' o
+  pub refuses : number_in o ≡ (all_spread segments bodies m states places rs).refusal
+  pub stands : IfOk o (λ g. Stands (states_in states) segments bodies rs (all_spread segments bodies m states places rs) ws window rs' g)

@@ -9,11 +9,11 @@ ghost use Rattle.t800.specs.Gathered.{states_in, bad_states};
 ghost use Rattle.tcd_states.specs.States.{Indexed, words_at};
 ghost use Rattle.t2_skip_windows.specs.Windows.{WindowOn};
 ghost use Rattle.t2_spread_packet.specs.Moving.{StandsAt};
-ghost use Rattle.t2_spread_row.specs.Standing.{SpreadsAt, first_moved, SpreadsPackets};
+ghost use Rattle.t2_spread_row.specs.Standing.{SpreadsAt, SpreadsPackets};
 
 use t2_spread_packet::Moved;
 use t2_unpack_headers::Cursor;
-use t800::Markers;
+use t800::{Markers, Refusal};
 use tcd_states::Found;
 
 // The window's bytes.
@@ -30,7 +30,7 @@ fn spread_at(
     window: &mut [u8],
     row: &mut [u8],
     g: Moved,
-) -> Moved
+) -> Result<Moved, Refusal>
     requires { (f.start + f.words ≤ length scratch.old)
         × (valid_state reader (words_at f scratch.old) (length (words_at f scratch.old)) ≡ true)
         × (StandsAt segments.now window.old g) × (plain ≡ length (unpacked segments.now).bytes)
@@ -53,21 +53,6 @@ fn spread_at(
     )
 }
 
-// Before the first packet.
-fn first_moved() -> Moved
-    ensures { result ≡ first_moved }
-{
-    let segment = Cursor { at: 0, before: 0 };
-    Moved {
-        refusal: 0,
-        headers: 0,
-        bodies: 0,
-        row: 0,
-        base: 0,
-        segment,
-    }
-}
-
 // One packet a place, until one is refused; the states are looked up in `states`, and moved on in `scratch`.
 fn spread_places(
     segments: &[u8],
@@ -81,24 +66,25 @@ fn spread_places(
     m: Markers,
     window: &mut [u8],
     row: &mut [u8],
-) -> Moved
+) -> Result<Moved, Refusal>
     requires { (bad_states states.now (length scratch.old) places.now ≡ false)
         × Indexed (states_in states.now) stride starts.now × (scratch.old ≡ states.now)
         × (WindowOn segments.now window.old 0) × (plain ≡ length (unpacked segments.now).bytes) }
     ensures { SpreadsPackets segments.now bodies.now m states.now places.now
         row.old scratch.new row.new result }
 {
-    let mut g = first_moved();
-    let mut i: usize = 0;
-    while i < places.len() {
-        let f = tcd_states::find_state(states, starts, stride, places[i] as usize);
-        g = spread_at(segments, plain, bodies, scratch, f, m, window, row, g);
-        if g.refusal != 0 {
-            return g;
-        }
-        i += 1;
+    let mut g = Moved {
+        headers: 0,
+        bodies: 0,
+        row: 0,
+        base: 0,
+        segment: Cursor { at: 0, before: 0 },
+    };
+    for &place in places {
+        let f = tcd_states::find_state(states, starts, stride, place as usize);
+        g = spread_at(segments, plain, bodies, scratch, f, m, window, row, g)?;
     }
-    g
+    Ok(g)
 }
 
 // With an index of the states, and the first header bytes in the window.
@@ -111,7 +97,7 @@ pub fn spread_packets(
     places: &[u32],
     m: Markers,
     row: &mut [u8],
-) -> Moved
+) -> Result<Moved, Refusal>
     requires { (bad_states states.now (length scratch.old) places.now ≡ false) × (scratch.old ≡ states.now)
         × ((unpacked segments.now).refusal ≡ 0) × (plain ≡ length (unpacked segments.now).bytes) }
     ensures { SpreadsPackets segments.now bodies.now m states.now places.now

@@ -1,48 +1,34 @@
 use mathlib.Core.Path.{◌∙◌}
 use lib.ListN.{replicate}
+use Rattle.t800.specs.RefusalNumbers.{number_of}
 use Rattle.t2_spread.specs.Answers.{spread_result}
 use Rattle.t2_spread.proofs.Laws.Calls.{early, passed, late, whole}
 use Rattle.t2_spread.proofs.spread.Goals as goal
 
-pub returns-then-u-ne0 : goal.returns-then-u-ne0
-returns-then-u-ne0 c =
-    let r = c in
-    let u = r.look_first-u in
-    let b = r in
-    let a = b.args in
-    r.refuse.ensures
-    ∙ early a.headers.now a.bodies.now a.states.now a.scratch.now a.places.now a.m a.row.now
-    u.result u.ensures r.if-u-ne0.true
-
-pub spread_all-a-requires : goal.spread_all-a-requires
-spread_all-a-requires c =
-    let u = c.look_first-u in
+pub returns-in-Err : goal.returns-in-Err
+returns-in-Err c =
     let a = c.args in
-    let none = c.if-u-ne0.false in
-    let p = passed a.headers.now a.bodies.now a.states.now a.scratch.now a.places.now a.m a.row.now
-    u.result u.ensures none in
-    (p.1, p.0, u.ensures.bytes_if none)
+    c.refuse.ensures
+    ∙ early a.headers.now a.bodies.now a.states.now a.scratch.now a.places.now a.m a.row.now c.in-Err.why c.in-Err.ensures
 
-pub returns-then-a-ne0 : goal.returns-then-a-ne0
-returns-then-a-ne0 c =
-    let r = c in
-    let k = r.spread_all-a in
-    let n = r in
-    let b = n in
-    let u = b.look_first-u in
-    let a = b.args in
-    r.refuse-then-a-ne0.ensures
-    ∙ (λ i. spread_result (record { refusal = k.result.refusal; bytes = 0 }) (replicate (k.auto.scratch i) 0)
-    (replicate (k.auto.row i) 0))
-    ∙ late a.headers.now a.bodies.now a.states.now a.scratch.now a.places.now a.m a.row.now
-    u.result u.ensures n.if-u-ne0.false _ _ k.result k.ensures r.if-a-ne0.true
+pub spread_all-requires : goal.spread_all-requires
+spread_all-requires c =
+    let a = c.args in
+    let p = passed a.headers.now a.bodies.now a.states.now a.scratch.now a.places.now a.m a.row.now c.in-Ok.plain c.in-Ok.ensures in
+    (p.1, p.0, c.in-Ok.ensures.bytes_if)
 
-pub returns : goal.returns
-returns c =
-    let k = c.spread_all-a in
-    let n = c in
-    let b = n in
-    let u = b.look_first-u in
-    let a = b.args in
-    whole a.headers.now a.bodies.now a.states.now a.scratch.now a.places.now a.m a.row.now
-    u.result u.ensures n.if-u-ne0.false _ _ k.result k.ensures c.if-a-ne0.false
+pub returns-in-Err-spread_all : goal.returns-in-Err-spread_all
+returns-in-Err-spread_all c =
+    let a = c.args in
+    let k = c.spread_all.auto in
+    c.refuse-in-Err-spread_all.ensures
+    ∙ (λ i. spread_result (record { refusal = number_of c.in-Err-spread_all.why; bytes = 0 }) (replicate (k.scratch i) 0)
+    (replicate (k.row i) 0))
+    ∙ late a.headers.now a.bodies.now a.states.now a.scratch.now a.places.now a.m a.row.now c.in-Ok.plain c.in-Ok.ensures _ _
+    c.in-Err-spread_all.why c.in-Err-spread_all.ensures
+
+pub returns-in-Ok-spread_all : goal.returns-in-Ok-spread_all
+returns-in-Ok-spread_all c =
+    let a = c.args in
+    whole a.headers.now a.bodies.now a.states.now a.scratch.now a.places.now a.m a.row.now c.in-Ok.plain c.in-Ok.ensures _ _
+    c.in-Ok-spread_all.bytes c.in-Ok-spread_all.ensures

@@ -7,7 +7,10 @@ use Prim.Native.Nat.{ℕ, ◌+◌, ◌-◌, ◌<◌, ◌≤◌}
 use native.Mathlib.Omega.{arith}
 use lib.ListN.{length, get_or, take, drop, set, length-drop, length-set, drop_of_length-le}
 use lib.Seq.{sets, length-sets, drop-drop}
+use Rattle.std.proofs.Common.{Result, Ok}
+use Rattle.std.proofs.lemmas.Result.{IfOk-at_ok}
 use Rattle.t800.specs.declared.Markers.{Markers}
+use Rattle.t800.specs.declared.Refusal.{Refusal}
 use Rattle.t800.specs.Base.{Words, Bytes}
 use Rattle.t800.specs.State.{reader}
 use Rattle.t800.specs.Ranges.{valid_state}
@@ -27,6 +30,7 @@ use Rattle.tcd_states.proofs.Laws.Valid.{valid_with}
 use Rattle.t2_write_packet.proofs.Laws.Front.{sets_append}
 use Rattle.t2_unpack_headers.proofs.Laws.Cursors.{first_cursor}
 use Rattle.t2_skip_windows.specs.Windows.{WindowOn}
+use Rattle.t2_skip_packet.specs.Parts.{number_in}
 use Rattle.t2_spread_packet.specs.declared.Moved.{Moved}
 use Rattle.t2_spread_packet.specs.Moving.{sizes_refusal, packet_bytes, counts_of}
 use Rattle.t2_spread_packet.proofs.Laws.Sizes.{Fits, fits_if}
@@ -66,7 +70,7 @@ module _ (ss : List Words) (segments bodies rs : Bytes) (sp : Spreading) (ws : W
 
     -- ---- a packet
 
-    module _ (m : Markers) (ws' : Words) (window' rs' : Bytes) (o : Moved)
+    module _ (m : Markers) (ws' : Words) (window' rs' : Bytes) (o : Result Moved Refusal)
         (p : SpreadsAt segments (drop g.bodies bodies) m f ws rs₁ g ws' window' rs' o) where
       abbrev next : Spreading
       next = spread_packet m (length rs) place sp
@@ -81,15 +85,18 @@ module _ (ss : List Words) (segments bodies rs : Bytes) (sp : Spreading) (ws : W
       parts_are : found ≡ parts
       parts_are = λ i. parts_gathered (state_is i) m (k.headers-left i) (k.bodies_left i)
 
-      refuses : o.refusal ≡ sizes_refusal (counts_of parts) (length sp.bodies) g.row (length rs)
+      refuses : number_in o ≡ sizes_refusal (counts_of parts) (length sp.bodies) g.row (length rs)
       refuses =
           p.packet.refuses
           ∙ (λ i. sizes_refusal (counts_of (parts_are i)) (length (k.bodies_left i)) g.row (row_as_long i))
 
-      pub number_is : o.refusal ≡ next.refusal
+      pub number_is : number_in o ≡ next.refusal
       number_is = refuses ∙ same_number m (length rs) place sp g.row k.row_bytes
 
-      module _ (accepted : o.refusal ≡ 0) where
+      module _ (q : Moved) (is : o ≡ Ok q) where
+        accepted : number_in o ≡ 0
+        accepted = ap number_in is
+
         fit : Fits (counts_of parts) (length sp.bodies) g.row (length rs)
         fit = fits_if (counts_of parts) (length sp.bodies) g.row (length rs) (sym refuses ∙ accepted)
 
@@ -107,22 +114,22 @@ module _ (ss : List Words) (segments bodies rs : Bytes) (sp : Spreading) (ws : W
             ∙ sym (state_lent sp.states place there parts.state stays.as_long end
             (omega (arith, start-of, words_of, stays.as_long)))
 
-        headers-are : o.headers ≡ g.headers + parts.header
-        headers-are = p.packet.headers-are accepted ∙ ap (λ (x : Parts). g.headers + x.header) parts_are
+        headers-are : q.headers ≡ g.headers + parts.header
+        headers-are = IfOk-at_ok _ is p.packet.headers-are ∙ ap (λ (x : Parts). g.headers + x.header) parts_are
 
-        bodies_are : o.bodies ≡ g.bodies + (parts.sop + parts.body)
-        bodies_are = p.packet.bodies_are accepted ∙ ap (λ (x : Parts). g.bodies + (x.sop + x.body)) parts_are
+        bodies_are : q.bodies ≡ g.bodies + (parts.sop + parts.body)
+        bodies_are = IfOk-at_ok _ is p.packet.bodies_are ∙ ap (λ (x : Parts). g.bodies + (x.sop + x.body)) parts_are
 
-        row_is : o.row ≡ g.row + (parts.sop + parts.header + parts.body)
-        row_is = p.packet.row_is accepted ∙ ap (λ (x : Parts). g.row + (x.sop + x.header + x.body)) parts_are
+        row_is : q.row ≡ g.row + (parts.sop + parts.header + parts.body)
+        row_is = IfOk-at_ok _ is p.packet.row_is ∙ ap (λ (x : Parts). g.row + (x.sop + x.header + x.body)) parts_are
 
-        headers-behind : drop o.headers plain ≡ drop parts.header sp.headers
+        headers-behind : drop q.headers plain ≡ drop parts.header sp.headers
         headers-behind =
             ap (λ (n : ℕ). drop n plain) headers-are
             ∙ sym (drop-drop parts.header g.headers plain)
             ∙ ap (drop parts.header) k.headers-left
 
-        bodies_behind : drop o.bodies bodies ≡ drop (parts.sop + parts.body) sp.bodies
+        bodies_behind : drop q.bodies bodies ≡ drop (parts.sop + parts.body) sp.bodies
         bodies_behind =
             ap (λ (n : ℕ). drop n bodies) bodies_are
             ∙ sym (drop-drop (parts.sop + parts.body) g.bodies bodies)
@@ -152,20 +159,20 @@ module _ (ss : List Words) (segments bodies rs : Bytes) (sp : Spreading) (ws : W
         in_headers : parts.header ≤ length sp.headers
         in_headers = headers-inside state m sp.headers sp.bodies fit.accepted
 
-        pub stands_next : Stands ss segments bodies rs next ws' window' rs' o
+        pub stands_next : Stands ss segments bodies rs next ws' window' rs' q
         unfolding spread_packet
         stands_next = record {
           states_are = moved_states;
           all_valid = valid_with sp.states place parts.state k.all_valid stays.in_range;
           as_many = length-set sp.states place parts.state ∙ k.as_many;
-          same_starts = λ q. starts_kept sp.states place parts.state stays.as_long q ∙ k.same_starts q;
+          same_starts = λ n. starts_kept sp.states place parts.state stays.as_long n ∙ k.same_starts n;
           headers-left = headers-behind;
           bodies_left = bodies_behind;
           in_bodies = omega (arith, bodies_are, fit.in_bodies, ap length k.bodies_left, length-drop g.bodies bodies, k.in_bodies);
           row_put = row_behind;
           row_bytes = row_is ∙ omega (arith, k.row_bytes, row_long parts sp.row sp.headers sp.bodies in_headers fit.in_bodies);
           row_room = omega (arith, row_is, fit.in_row);
-          headers-at = p.packet.stands accepted;
+          headers-at = IfOk-at_ok _ is p.packet.stands;
         }
 
 -- ---- one packet after another

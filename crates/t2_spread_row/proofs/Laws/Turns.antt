@@ -6,7 +6,9 @@ use Prim.Native.Nat.{ℕ, ◌+◌, ◌-◌, ◌<◌, ◌≤◌}
 use native.Mathlib.Omega.{arith}
 use lib.ListN.{length, get_or, take, drop, length-drop}
 use lib.Seq.{take_all}
+use Rattle.std.proofs.Common.{Ok, Err}
 use Rattle.t800.specs.declared.Markers.{Markers}
+use Rattle.t800.specs.declared.Refusal.{Refusal}
 use Rattle.t800.specs.Base.{Words, Bytes}
 use Rattle.t800.specs.State.{reader}
 use Rattle.t800.specs.Ranges.{valid_state}
@@ -15,6 +17,7 @@ use Rattle.tcd_states.specs.declared.Found.{Found}
 use Rattle.tcd_states.specs.States.{start_of, words_at}
 use Rattle.tcd_states.proofs.Laws.Valid.{states_fit_lem}
 use Rattle.t2_skip_windows.specs.Windows.{WindowOn}
+use Rattle.t2_skip_packet.proofs.Laws.Numbers.{refusal_counts}
 use Rattle.t2_spread_packet.specs.declared.Moved.{Moved}
 use Rattle.t2_spread_packet.specs.Moving.{StandsAt}
 use Rattle.t2_spread_row.specs.Standing.{SpreadsAt, Stands, first_moved, from_start, all_spread, SpreadsPackets}
@@ -27,31 +30,28 @@ pub record Underway (segments bodies : Bytes) (m : Markers) (states places : Wor
   pub so_far : Spreading
   pub stands : Stands (states_in states) segments bodies rs so_far ws window rs₁ g
   pub rest : spread_packets m (length rs) (drop i places) so_far ≡ all_spread segments bodies m states places rs
-  pub accepted : g.refusal ≡ 0
   pub accepted_so_far : so_far.refusal ≡ 0
 
 module _ (segments bodies : Bytes) (m : Markers) (states places : Words) (rs : Bytes) (n : ℕ)
     (good : bad_states states n places ≡ false) where
-  pub first_one : (ws : Words) (window : Bytes) (g : Moved) → ws ≡ states → WindowOn segments window 0 → g ≡ first_moved
-      → Underway segments bodies m states places rs 0 ws window rs g
-  first_one ws window g e w is =
-      subst (Underway segments bodies m states places rs 0 ws window rs) (sym is)
-      (record {
+  pub first_one : (ws : Words) (window : Bytes) → ws ≡ states → WindowOn segments window 0
+      → Underway segments bodies m states places rs 0 ws window rs first_moved
+  first_one ws window e w =
+      record {
         so_far = from_start segments bodies states;
         stands = stands_first segments bodies states rs ws window (states_fit_lem states n places good).all_valid e w;
         rest = refl;
-        accepted = refl;
         accepted_so_far = refl;
-      })
+      }
 
   module _ (i : ℕ) (ws : Words) (window rs₁ : Bytes) (g : Moved) (u : Underway segments bodies m states places rs i ws window rs₁ g) where
-    pub last_one : length places ≤ i → SpreadsPackets segments bodies m states places rs ws rs₁ g
+    pub last_one : length places ≤ i → SpreadsPackets segments bodies m states places rs ws rs₁ (Ok g)
     last_one h =
         let all = sym (none_left m (length rs) places i h u.so_far) ∙ u.rest in
         record {
           window = window;
-          refuses = u.accepted ∙ sym u.accepted_so_far ∙ ap (λ (x : Spreading). x.refusal) all;
-          stands = λ _. subst (λ (x : Spreading). Stands (states_in states) segments bodies rs x ws window rs₁ g) all u.stands;
+          refuses = sym u.accepted_so_far ∙ ap (λ (x : Spreading). x.refusal) all;
+          stands = subst (λ (x : Spreading). Stands (states_in states) segments bodies rs x ws window rs₁ g) all u.stands;
         }
 
     module _ (h : i < length places) where
@@ -83,31 +83,27 @@ module _ (segments bodies : Bytes) (m : Markers) (states places : Words) (rs : B
                 in_row = omega (arith, s.row_room, row_as_long (states_in states) segments bodies rs u.so_far ws window rs₁ g s);
               }
 
-          module _ (ws' : Words) (window' rs' : Bytes) (o : Moved)
-              (p : SpreadsAt segments (drop g.bodies bodies) m f ws rs₁ g ws' window' rs' o) where
-            number : o.refusal ≡ (spread_packet m (length rs) place u.so_far).refusal
-            number =
+          module _ (ws' : Words) (window' rs' : Bytes) where
+            pub ended : (why : Refusal) → SpreadsAt segments (drop g.bodies bodies) m f ws rs₁ g ws' window' rs' (Err why)
+                → SpreadsPackets segments bodies m states places rs ws' rs' (Err why)
+            ended why p =
+                let number =
                 number_is (states_in states) segments bodies rs u.so_far ws window rs₁ g u.stands place place_there f
-                found.0 found.1 m ws' window' rs' o p
-
-            pub ended : o.refusal ≢ 0 → SpreadsPackets segments bodies m states places rs ws' rs' o
-            ended ne =
+                found.0 found.1 m ws' window' rs' (Err why) p in
+                let ne = refusal_counts why in
                 let all = sym (packets-end m (length rs) places i h u.so_far (λ z. ne (number ∙ z))) ∙ u.rest in
-                record {
-                  window = window';
-                  refuses = number ∙ ap (λ (x : Spreading). x.refusal) all;
-                  stands = λ z. absurd (ne z);
-                }
+                record { window = window'; refuses = number ∙ ap (λ (x : Spreading). x.refusal) all; stands = tt }
 
-            pub next_one : o.refusal ≡ 0 → Underway segments bodies m states places rs (i + 1) ws' window' rs' o
-            next_one z =
-                let none = sym number ∙ z in
+            pub next_one : (o : Moved) → SpreadsAt segments (drop g.bodies bodies) m f ws rs₁ g ws' window' rs' (Ok o)
+                → Underway segments bodies m states places rs (i + 1) ws' window' rs' o
+            next_one o p =
+                let none = sym (number_is (states_in states) segments bodies rs u.so_far ws window rs₁ g u.stands place place_there f
+                found.0 found.1 m ws' window' rs' (Ok o) p) in
                 record {
                   so_far = spread_packet m (length rs) place u.so_far;
                   stands = stands_next (states_in states) segments bodies rs u.so_far ws window rs₁ g u.stands place place_there f
-                      found.0 found.1 m ws' window' rs' o p z;
+                      found.0 found.1 m ws' window' rs' (Ok o) p o refl;
                   rest = sym (packets-turn m (length rs) places i h u.so_far none) ∙ u.rest;
-                  accepted = z;
                   accepted_so_far = none;
                 }
 
