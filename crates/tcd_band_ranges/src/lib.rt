@@ -53,6 +53,7 @@ fn length_bits_fault(passes: u32, bits: u32) -> u32
     tcd_shape::over(least, bits) | tcd_shape::over(bits, most)
 }
 
+#[tactic(auto, unfolding(t800::specs::State::writer))]
 fn has_no_segment(role: u32, passes: u32) -> bool
     ensures { result ≡ (eqb passes 0 || eqb role writer) }
 {
@@ -138,6 +139,7 @@ fn blocks_in_range(state: &[u32], at: usize, n: usize) -> bool
     faults == 0
 }
 
+#[tactic(auto, using(t800_laws::proofs::Laws::Layout::band_length_lem))]
 pub fn band_in_range(state: &[u32], at: usize, band: Band, nodes: usize) -> bool
     requires { (nodes ≡ band_nodes band) × (at + band_length band ≤ length state.now) }
     ensures { result ≡ band_in_range state.now at band }

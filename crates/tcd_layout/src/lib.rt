@@ -27,12 +27,14 @@ pub fn bands_in(words: &[u32]) -> [Band; 3]
     [band_at(words, 0), band_at(words, 3), band_at(words, 6)]
 }
 
+#[tactic(auto, unfolding(t800::specs::State::blocks_in))]
 pub fn band_blocks(band: Band) -> usize
     ensures { result ≡ blocks_in band }
 {
     tcd_levels::area(band.across, band.down)
 }
 
+#[tactic(auto, unfolding(t800::specs::State::band_nodes))]
 pub fn band_nodes(band: Band) -> usize
     requires { SidesUpTo64 band }
     ensures { result ≡ band_nodes band }

@@ -23,13 +23,11 @@ fn any_side_over_64(bands: [Band; 3], n: usize) -> bool
 }
 
 // Refusal 1.
+#[tactic(auto, unfolding(t800::specs::Ranges::bad_shape))]
 pub fn bad_shape(n: u32, bands: [Band; 3]) -> bool
     ensures { result ≡ bad_shape n (take n bands) }
 {
-    if n == 0 || 3 < n {
-        return true;
-    }
-    any_side_over_64(bands, n as usize)
+    n == 0 || 3 < n || any_side_over_64(bands, n as usize)
 }
 
 // Part of refusal 4: one of the first n bands has more planes than SCOPE S4 allows.

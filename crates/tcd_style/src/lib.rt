@@ -31,6 +31,7 @@ impl Style {
     pub const HTMIXED: u32 = 0x80;
 
     // High-throughput bits, and in a state's word whatever lies above them.
+    #[tactic(auto, unfolding(t800::specs::Ranges::bad_style))]
     pub fn is_refused(self) -> bool
         ensures { result ≡ bad_style self.bits }
     {
@@ -50,6 +51,7 @@ impl Style {
     }
 
     // The passes that a block's first segment can hold.
+    #[tactic(auto, unfolding(t800::specs::Segments::first_limit))]
     pub fn first_limit(self) -> u32
         ensures { result ≡ first_limit self.bits }
     {
@@ -60,6 +62,7 @@ impl Style {
     }
 
     // The passes that a segment can hold after one with this limit.
+    #[tactic(auto, unfolding(t800::specs::Segments::next_limit))]
     pub fn next_limit(self, limit: u32) -> u32
         ensures { result ≡ next_limit self.bits limit }
     {
@@ -113,5 +116,5 @@ pub const NOT_YET_PLANES: u32 = 999;
 pub fn block_planes(band: u32, zero: u32) -> u32
     ensures { result ≡ (band + 2 ^ 32 - zero) % 2 ^ 32 }
 {
-    std::num::wrapping_sub_u32(band, zero)
+    band.wrapping_sub(zero)
 }

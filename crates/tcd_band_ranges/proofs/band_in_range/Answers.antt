@@ -1,33 +1,13 @@
 use mathlib.Core.Bool.{false, true}
 use mathlib.Core.Path.{◌∙◌, refl, sym}
-use native.Mathlib.Omega.{arith}
-use Rattle.t800_laws.proofs.Laws.Layout.{band_length_lem}
 use Rattle.tcd_band_ranges.proofs.Laws.BandParts.{band_parts}
 use Rattle.tcd_band_ranges.proofs.band_in_range.Goals as goal
-
-pub overflow_mul-zero_tree : goal.overflow_mul-zero_tree
-overflow_mul-zero_tree c = let s = c in omega (arith, s.requires.0, band_length_lem s.args.band, s.requires.1)
-
-pub overflow_add-zero_tree : goal.overflow_add-zero_tree
-overflow_add-zero_tree c = let s = c in omega (arith, s.requires.0, band_length_lem s.args.band, s.requires.1)
-
-pub overflow_mul-blocks : goal.overflow_mul-blocks
-overflow_mul-blocks c = let s = c in omega (arith, s.requires.0, band_length_lem s.args.band, s.requires.1)
-
-pub overflow_add-blocks : goal.overflow_add-blocks
-overflow_add-blocks c = let s = c in omega (arith, s.requires.0, band_length_lem s.args.band, s.requires.1)
-
-pub nodes_in_range-requires : goal.nodes_in_range-requires
-nodes_in_range-requires c = let s = c in omega (arith, s.requires.0, band_length_lem s.args.band, s.requires.1)
 
 pub returns-then-not-nodes_in_range : goal.returns-then-not-nodes_in_range
 returns-then-not-nodes_in_range c =
     let s = c.args in
     band_parts s.state.now s.at s.band _ _ _ _ false _ _ c.requires.0 refl refl refl
     (sym c.if-not-nodes_in_range.true ∙ c.nodes_in_range.ensures) refl refl
-
-pub nodes_in_range-requires-2 : goal.nodes_in_range-requires-2
-nodes_in_range-requires-2 c = let s = c in omega (arith, s.requires.0, band_length_lem s.args.band, s.requires.1)
 
 pub returns-then-not-nodes_in_range-2 : goal.returns-then-not-nodes_in_range-2
 returns-then-not-nodes_in_range-2 c =
@@ -36,10 +16,6 @@ returns-then-not-nodes_in_range-2 c =
     let t = sym c.if-not-nodes_in_range.false ∙ incl.nodes_in_range.ensures in
     let u = sym c.if-not-nodes_in_range-2.true ∙ c.nodes_in_range-2.ensures in
     band_parts s.state.now s.at s.band _ _ _ _ true false _ incl.requires.0 refl refl refl t u refl
-
-pub blocks_in_range-requires : goal.blocks_in_range-requires
-blocks_in_range-requires c = let s = c in
-    omega (arith, s.requires.0, c.band_blocks.ensures, band_length_lem s.args.band, s.requires.1)
 
 pub returns : goal.returns
 returns c =
