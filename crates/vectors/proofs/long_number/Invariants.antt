@@ -1,4 +1,0 @@
-use Rattle.vectors.proofs.long_number.Given as goal
-
-abbrev pub decreases-loop-left : goal.decreases-loop-left
-decreases-loop-left l = l.left
