@@ -34,7 +34,7 @@ pub fn no_segment() -> SegmentRecord
 pub fn segment_after(words: &[u32], i: usize, last: SegmentRecord) -> SegmentRecord
     ensures { result ≡ segment_after words.now i last }
 {
-    let start = std::num::wrapping_add_u64(last.start, last.bytes as u64);
+    let start = last.start.wrapping_add(u64::from(last.bytes));
     if i < words.len() / RECORD_WIDTH {
         let at = i * RECORD_WIDTH;
         return SegmentRecord {
@@ -46,11 +46,8 @@ pub fn segment_after(words: &[u32], i: usize, last: SegmentRecord) -> SegmentRec
         };
     }
     SegmentRecord {
-        block: 0,
-        opens: 0,
-        passes: 0,
-        bytes: 0,
         start,
+        ..no_segment()
     }
 }
 
@@ -59,10 +56,8 @@ pub fn fill(records: &mut [SegmentRecord], words: &[u32], n: usize)
     ensures { records.new ≡ filled words.now n records.old }
 {
     let mut last = no_segment();
-    let mut i = 0;
-    while i < n {
+    for i in 0..n {
         last = segment_after(words, i, last);
         put_segment(records, i, last);
-        i += 1;
     }
 }

@@ -28,17 +28,15 @@ pub fn settle_states(
     ensures { states.new ≡ take (sum (take n words.now)) scratch.now
         ++ drop (sum (take n words.now)) states.old }
 {
-    let mut at: usize = 0; // where precinct i's words begin
-    let mut wait: usize = 0; // words from here to `at` are not settled yet
-    let mut i: usize = 0;
-    while i < n {
+    let mut at = 0; // where precinct i's words begin
+    let mut wait = 0; // words from here to `at` are not settled yet
+    for i in 0..n {
         let size = words[i];
         if passes[i] == 0 {
             settle_layer(scratch, states, wait, at);
             wait = at + size;
         }
         at += size;
-        i += 1;
     }
     lists::copy(&scratch[wait..at], &mut states[wait..at]);
 }

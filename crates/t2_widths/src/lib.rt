@@ -17,16 +17,13 @@ fn segment_too_long(counts: &[u32], lengths: &[u32], marks: &[u8]) -> bool
     requires { PassesLeft counts.now lengths.now marks.now }
     ensures { result ≡ segment_too_long counts.now lengths.now marks.now }
 {
-    let mut from: usize = 0;
-    let mut i: usize = 0;
-    while i < counts.len() {
-        let count = counts[i] as usize;
-        let to = from + count;
+    let mut from = 0;
+    for count in counts {
+        let to = from + *count as usize;
         if t2_block_widths::any_segment_too_long(&lengths[from..to], &marks[from..to]) {
             return true;
         }
         from = to;
-        i += 1;
     }
     false
 }
@@ -46,25 +43,19 @@ fn blocks_too_wide(
         × (segment_too_long counts.now lengths.now marks.now ≡ false) }
     ensures { result ≡ wide_from state.now at n counts.now lengths.now marks.now }
 {
-    let mut block = at;
-    let mut from: usize = 0;
-    let mut i: usize = 0;
-    while i < n {
-        let count = counts[i] as usize;
-        let to = from + count;
-        let so_far = state[block];
-        let length_bits = state[block + 1];
+    let mut from = 0;
+    for i in 0..n {
+        let block = at + 4 * i;
+        let to = from + counts[i] as usize;
         if t2_block_widths::block_too_wide(
-            so_far,
-            length_bits,
+            state[block],
+            state[block + 1],
             &lengths[from..to],
             &marks[from..to],
         ) {
             return true;
         }
-        block += 4;
         from = to;
-        i += 1;
     }
     false
 }
@@ -102,30 +93,24 @@ fn field_too_wide(
     ensures { result ≡ field_too_wide state.now (blocks (take n bands)) counts.now lengths.now
         marks.now }
 {
-    let mut at: usize = 13;
-    let mut first: usize = 0;
-    let mut from: usize = 0;
-    let mut i: usize = 0;
-    while i < n {
-        let band = bands[i];
+    let mut at = 13;
+    let mut first = 0;
+    let mut from = 0;
+    for band in &bands[..n] {
         if band_too_wide(
             state,
             at,
-            band,
-            &counts[first..counts.len()],
-            &lengths[from..lengths.len()],
-            &marks[from..marks.len()],
+            *band,
+            &counts[first..],
+            &lengths[from..],
+            &marks[from..],
         ) {
             return true;
         }
-        let size = tcd_layout::band_blocks(band);
-        let next = first + size;
-        let passes = t2_narrow::total(&counts[first..next]);
-        from += passes as usize;
+        let next = first + tcd_layout::band_blocks(*band);
+        from += t2_narrow::total(&counts[first..next]) as usize;
         first = next;
-        let words = tcd_layout::band_length(band);
-        at += words;
-        i += 1;
+        at += tcd_layout::band_length(*band);
     }
     false
 }

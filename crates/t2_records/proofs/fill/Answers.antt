@@ -5,18 +5,17 @@ use Rattle.t2_records.proofs.fill.Goals as goal
 
 pub loop-i-init : goal.loop-i-init
 loop-i-init c =
-    (omega arith, c.no_segment-last.ensures ∙ sym (last_none c.args.words.now), sym (stored-none (record_at c.args.words.now) c.args.records.now))
+    (c.no_segment-last.ensures ∙ sym (last_none c.args.words.now), sym (stored-none (record_at c.args.words.now) c.args.records.now))
 
 pub loop-i-preserved : goal.loop-i-preserved
 loop-i-preserved c =
     let l = c.loop-i in
     let ws : List ℕ = c.args.words.now in
     let e : c.segment_after-last.result ≡ record_at ws l.i =
-    c.segment_after-last.ensures ∙ ap (segment_after ws l.i) l.invariant.1 in (
-      omega arith,
+    c.segment_after-last.ensures ∙ ap (segment_after ws l.i) l.invariant.0 in (
       e ∙ last_turn ws l.i,
       c.put_segment.ensures
-          ∙ (λ j. set (l.invariant.2 j) l.i (e j))
+          ∙ (λ j. set (l.invariant.1 j) l.i (e j))
           ∙ stored-turn (record_at ws) l.i c.args.records.now,
     )
 
@@ -24,4 +23,4 @@ pub returns : goal.returns
 returns c =
     let l = c.loop-i in
     let e : l.i ≡ c.args.n = omega arith in
-    l.invariant.2 ∙ ap (λ (n : ℕ). filled c.args.words.now n c.args.records.now) e
+    l.invariant.1 ∙ ap (λ (n : ℕ). filled c.args.words.now n c.args.records.now) e

@@ -1,4 +1,4 @@
-use Rattle.std.proofs.Common.{◌≡◌, ℕ, ◌+◌, ◌*◌, ◌/◌, ◌%◌, ◌^◌, ◌<◌, ◌≤◌, List, length, get_or, refl, le-ltb, lt-ltb}
+use Rattle.std.proofs.Common.{◌≡◌, ℕ, ◌+◌, ◌*◌, ◌/◌, ◌%◌, ◌^◌, ◌<◌, ◌≤◌, List, length, get_or, refl, ap, ◌∙◌, le-ltb, lt-ltb}
 use Rattle.t800.specs.declared.SegmentRecord.{SegmentRecord}
 use Rattle.t2_records.specs.Segments.{segment_after}
 use Rattle.t2_records.proofs.segment_after.Goals as goal
@@ -25,10 +25,10 @@ module _ (ws : List ℕ) (i : ℕ) (last : SegmentRecord) (start : ℕ) (sum : s
 pub returns-then-i-words : goal.returns-then-i-words
 returns-then-i-words c =
     let a = c.args in
-    in_row a.words.now a.i a.last _ c.wrapping_add_u64-start.ensures.value
-    c.if-i-words.true
+    in_row a.words.now a.i a.last _ (ap (λ (n : ℕ). (a.last.start + n) % 2 ^ 64) c.from.ensures) c.if-i-words.true
 
 pub returns : goal.returns
 returns c =
     let a = c.args in
-    past_end a.words.now a.i a.last _ c.wrapping_add_u64-start.ensures.value c.if-i-words.false
+    ap (λ (r : SegmentRecord). record r { start = (a.last.start + c.from.result) % 2 ^ 64 }) c.no_segment.ensures
+    ∙ past_end a.words.now a.i a.last _ (ap (λ (n : ℕ). (a.last.start + n) % 2 ^ 64) c.from.ensures) c.if-i-words.false

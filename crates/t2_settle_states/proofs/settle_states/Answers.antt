@@ -15,7 +15,7 @@ use Rattle.t2_settle_states.proofs.settle_states.Goals.{At-loop-i, In-loop-i, Jo
 as_long : (c : At-loop-i) → length c.loop-i.states ≡ length c.args.states.now
 as_long c =
     let s = c in
-    ap length c.loop-i.invariant.4 ∙ length-settled s.args.scratch.now s.args.states.now s.requires.2 c.loop-i.wait
+    ap length c.loop-i.invariant.3 ∙ length-settled s.args.scratch.now s.args.states.now s.requires.2 c.loop-i.wait
 
 -- ---- precinct i
 
@@ -38,7 +38,7 @@ can-be-settled c =
     (subst (λ (ws : List ℕ). Settles ws (drop l.i (take a.n a.passes.now)) (drop l.at a.scratch.now)
     (drop l.at a.states.now))
     (next_one a.words.now a.n l.i s.requires.0 (omega (arith, c.loop-i-test.true)))
-    l.invariant.5)
+    l.invariant.4)
 
 words-there : (c : In-loop-i) → c.loop-i.at + words_of c ≤ length c.args.states.now
 words-there c =
@@ -48,7 +48,7 @@ words-there c =
       arith,
       (can-be-settled c).1,
       length-drop l.at s.args.states.now,
-      l.invariant.2,
+      l.invariant.1,
       s.requires.2,
     )
 
@@ -58,7 +58,7 @@ wait-after c =
     let came = c.if-passes-i-eq0.branch in
     elim came [
       | then-passes-i-eq0 w ↦ omega (arith, w.wait-is)
-      | else-passes-i-eq0 w ↦ omega (arith, w.wait-is, l.invariant.1)
+      | else-passes-i-eq0 w ↦ omega (arith, w.wait-is, l.invariant.0)
     ]
 
 last-copied : (c : After-copy) →
@@ -70,10 +70,10 @@ last-copied c =
     let s = c in
     let l = c.loop-i in
     waiting_copied s.args.scratch.now s.args.states.now s.requires.2 l.states c.copy.new.to l.wait l.at
-    l.invariant.4 l.invariant.1 (omega (arith, l.invariant.2, s.requires.2)) c.copy.ensures
+    l.invariant.3 l.invariant.0 (omega (arith, l.invariant.1, s.requires.2)) c.copy.ensures
 
 pub loop-i-init : goal.loop-i-init
-loop-i-init c = (omega arith, omega arith, omega arith, omega arith, refl, c.requires.3)
+loop-i-init c = (omega arith, omega arith, omega arith, refl, c.requires.3)
 
 pub settle_layer-requires : goal.settle_layer-requires
 settle_layer-requires c =
@@ -81,7 +81,7 @@ settle_layer-requires c =
     let l = c.loop-i in
     let t = c in
     let e = as_long (goal.at.settle_layer-requires c).At-loop-i in (
-      omega (arith, l.invariant.1),
+      omega (arith, l.invariant.0),
       omega (arith, e, (can-be-settled (goal.at.settle_layer-requires c).In-loop-i).0, words-there (goal.at.settle_layer-requires c).In-loop-i),
       s.requires.2 ∙ sym e,
     )
@@ -107,11 +107,10 @@ loop-i-preserved c =
     elim c.if-passes-i-eq0.branch [
       | then-passes-i-eq0 w ↦ w.states-is ∙ w.settle_layer.ensures
           ∙ settle_layer_settles a.scratch.now a.states.now s.requires.2 l.states l.wait l.at
-          (words_of (goal.at.loop-i-preserved c).In-loop-i) l.invariant.4 l.invariant.1 z.0 z.1 (z.2 w.if-passes-i-eq0.true)
+          (words_of (goal.at.loop-i-preserved c).In-loop-i) l.invariant.3 l.invariant.0 z.0 z.1 (z.2 w.if-passes-i-eq0.true)
           ∙ ap (λ (n : ℕ). settled_to n a.scratch.now a.states.now) (sym w.wait-is)
-      | else-passes-i-eq0 w ↦ w.states-is ∙ l.invariant.4 ∙ ap (λ (n : ℕ). settled_to n a.scratch.now a.states.now) (sym w.wait-is)
+      | else-passes-i-eq0 w ↦ w.states-is ∙ l.invariant.3 ∙ ap (λ (n : ℕ). settled_to n a.scratch.now a.states.now) (sym w.wait-is)
     ] in (
-      omega (arith, t.loop-i-test.true),
       wait-after c,
       omega (arith, words-there (goal.at.loop-i-preserved c).In-loop-i, s.requires.2),
       omega (
@@ -119,7 +118,7 @@ loop-i-preserved c =
         sum-turn (take a.n a.words.now) l.i
             (omega (arith, length-take a.n a.words.now, s.requires.0, t.loop-i-test.true)),
         get_or-take a.n a.words.now l.i 0 (omega (arith, t.loop-i-test.true)),
-        l.invariant.3,
+        l.invariant.2,
       ),
       later,
       settles_behind (drop (l.i + 1) (take a.n a.words.now)) (drop (l.i + 1) (take a.n a.passes.now)) a.scratch.now
@@ -130,7 +129,7 @@ loop-i-preserved c =
 pub slice_bounds-copy-end-2 : goal.slice_bounds-copy-end-2
 slice_bounds-copy-end-2 c =
     let l = c.loop-i in
-    omega (arith, as_long (goal.at.slice_bounds-copy-end-2 c).At-loop-i, l.invariant.2, c.requires.2)
+    omega (arith, as_long (goal.at.slice_bounds-copy-end-2 c).At-loop-i, l.invariant.1, c.requires.2)
 
 pub copy-requires : goal.copy-requires
 copy-requires c =
@@ -160,14 +159,8 @@ returns c =
     let e : l.at ≡ sum (take s.args.n s.args.words.now) =
     omega (
       arith,
-      l.invariant.3,
+      l.invariant.2,
       sum-end (take s.args.n s.args.words.now) l.i
           (omega (arith, length-take s.args.n s.args.words.now, c.loop-i-test.false)),
     ) in
     last-copied (goal.at.returns c).After-copy ∙ ap (λ (n : ℕ). settled_to n s.args.scratch.now s.args.states.now) e
-
-pub overflow_add-i : goal.overflow_add-i
-overflow_add-i c = omega arith
-
-pub loop-i-smaller : goal.loop-i-smaller
-loop-i-smaller c = omega arith

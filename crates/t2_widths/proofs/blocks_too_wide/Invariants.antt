@@ -1,4 +1,4 @@
-use Prim.Native.Nat.{◌+◌, ◌-◌, ◌*◌, ◌≤◌}
+use Prim.Native.Nat.{◌+◌, ◌-◌, ◌*◌}
 use lib.ListN.{drop}
 use mathlib.Core.Bool.{false}
 use mathlib.Core.Path.{◌≡◌}
@@ -8,10 +8,7 @@ use Rattle.t2_widths.specs.Widths.{wide_from}
 use Rattle.t2_widths.proofs.blocks_too_wide.Given as goal
 
 abbrev pub invariant-loop-i : goal.invariant-loop-i
-invariant-loop-i l = (l.i ≤ l.n) × (l.block + 4 * (l.n - l.i) ≡ l.at + 4 * l.n)
-    × (l.from + sum (drop l.i l.counts) ≡ sum l.counts) × (segment_too_long (drop l.i l.counts) (drop l.from l.lengths) (drop l.from l.marks) ≡ false)
-    × (wide_from l.state l.block (l.n - l.i) (drop l.i l.counts) (drop l.from l.lengths) (drop l.from l.marks)
+invariant-loop-i l = (l.from + sum (drop l.i l.counts) ≡ sum l.counts)
+    × (segment_too_long (drop l.i l.counts) (drop l.from l.lengths) (drop l.from l.marks) ≡ false)
+    × (wide_from l.state (l.at + 4 * l.i) (l.n - l.i) (drop l.i l.counts) (drop l.from l.lengths) (drop l.from l.marks)
     ≡ wide_from l.state l.at l.n l.counts l.lengths l.marks)
-
-abbrev pub decreases-loop-i : goal.decreases-loop-i
-decreases-loop-i l = l.n - l.i
