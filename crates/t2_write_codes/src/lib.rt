@@ -19,21 +19,15 @@ struct Codeword {
     len: u32,
 }
 
-fn wide(n: u16) -> u32
-    ensures { result ≡ n }
-{
-    n as u32
-}
-
 fn codeword_of(codes: &[u16; 328], n: u32) -> Codeword
     requires { (T (is_pass_table codes.now)) × (1 ≤ n) × (n ≤ 164) }
     ensures { IsCodewordOf n result }
 {
     let i = (n - 1) as usize;
-    let j = i + 164;
-    let value = wide(codes[i]);
-    let len = wide(codes[j]);
-    Codeword { value, len }
+    Codeword {
+        value: u32::from(codes[i]),
+        len: u32::from(codes[i + 164]),
+    }
 }
 
 // With the table lent: a caller that puts many makes it once, since a constant array is made anew wherever it is named.
