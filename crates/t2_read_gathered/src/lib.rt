@@ -14,7 +14,7 @@ pub fn told_beside(a: ReadAnswer, sop: bool, src: &[u8]) -> ReadGatheredAnswer
 {
     let s = t2_read_marks::read_marker(sop, Marker::SOP, src, 0);
     let mut taken = s.skip;
-    let mut mark = s.mark;
+    let mut mark = u32::from(s.mark);
     if a.refusal != 0 {
         taken = 0;
         mark = 0;

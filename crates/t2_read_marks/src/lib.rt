@@ -4,25 +4,36 @@
 ghost use Rattle.std.specs.Prelude.{◌≡◌, ◌-◌, ◌≤◌, length};
 ghost use Rattle.t800.specs.MarkerSegments.{read_marker};
 ghost use Rattle.bits_taken.specs.Taken.{Reached};
-ghost use Rattle.t2_read_marks.specs.Marks.{marker_read, done_answer};
+ghost use Rattle.t2_read_marks.specs.Marks.{mark_number, marker_read, done_answer};
 
 use t800::{Bio, Markers, ReadAnswer};
 use tcd_style::Marker;
 
-// Bytes to skip, and the mark: 0 in order or not used, 1 too few bytes, 2 not found.
+// In order or not used, too few bytes, or not found.
+#[derive(Clone, Copy)]
+pub enum Mark {
+    InOrder,
+    TooFew,
+    NotFound,
+}
+
+impl From<Mark> for u32 {
+    ghost from_gives = { λ mark n. n ≡ mark_number mark };
+
+    fn from(mark: Mark) -> u32 {
+        match mark {
+            Mark::InOrder => 0,
+            Mark::TooFew => 1,
+            Mark::NotFound => 2,
+        }
+    }
+}
+
+// Bytes to skip, and the mark.
 #[derive(Clone, Copy)]
 pub struct MarkerFound {
     pub skip: usize,
-    pub mark: u32,
-}
-
-fn bytes_from(src: &[u8], p: usize) -> usize
-    ensures { result ≡ length src.now - p }
-{
-    if src.len() <= p {
-        return 0;
-    }
-    src.len() - p
+    pub mark: Mark,
 }
 
 // At place p.
@@ -31,20 +42,32 @@ pub fn read_marker(used: bool, m: Marker, src: &[u8], p: usize) -> MarkerFound
     ensures { marker_read result ≡ read_marker used m.bytes m.second src.now p }
 {
     if !used {
-        return MarkerFound { skip: 0, mark: 0 };
+        return MarkerFound {
+            skip: 0,
+            mark: Mark::InOrder,
+        };
     }
-    if bytes_from(src, p) < m.bytes {
-        return MarkerFound { skip: 0, mark: 1 };
+    if src.len().saturating_sub(p) < m.bytes {
+        return MarkerFound {
+            skip: 0,
+            mark: Mark::TooFew,
+        };
     }
     if src[p] != Marker::FIRST {
-        return MarkerFound { skip: 0, mark: 2 };
+        return MarkerFound {
+            skip: 0,
+            mark: Mark::NotFound,
+        };
     }
     if src[p + 1] != m.second {
-        return MarkerFound { skip: 0, mark: 2 };
+        return MarkerFound {
+            skip: 0,
+            mark: Mark::NotFound,
+        };
     }
     MarkerFound {
         skip: m.bytes,
-        mark: 0,
+        mark: Mark::InOrder,
     }
 }
 
@@ -71,8 +94,8 @@ pub fn done(
         present,
         taken: taken as u64,
         segments: segments as u64,
-        sop: s.mark,
-        eph: e.mark,
+        sop: u32::from(s.mark),
+        eph: u32::from(e.mark),
         past,
     }
 }

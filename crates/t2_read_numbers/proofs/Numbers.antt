@@ -18,16 +18,6 @@ use Rattle.t800.specs.Reports.{record_width, as_words}
 use Rattle.t800.specs.Exports.{work_refusal}
 use Rattle.t2_read_numbers.specs.Reading.{wrong_work, read_numbers, to_fill}
 
--- ---- four words for each record
-
-pub not_four_each : (words room : ℕ) → words / 4 ≢ room → false ≡ eqb words (record_width * room)
-not_four_each words room n = sym (ne_eqb words (record_width * room) (λ e. n (omega arith)))
-
-pub four_each_lem : (words room : ℕ) → words / 4 ≡ room → eqb (words % 4) 0 ≡ eqb words (record_width * room)
-four_each_lem words room e = on-eq (words % 4) 0
-    (λ z. eq-eqb (words % 4) 0 z ∙ sym (eq-eqb words (record_width * room) (omega arith)))
-    (λ z. ne_eqb (words % 4) 0 z ∙ sym (ne_eqb words (record_width * room) (λ q. z (omega arith))))
-
 -- ---- the numbers before it
 
 module _ (ws scratch : List ℕ) where

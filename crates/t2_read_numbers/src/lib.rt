@@ -5,6 +5,7 @@ ghost use Rattle.std.specs.Prelude.{◌≡◌, ◌*◌, eqb};
 ghost use Rattle.t800.specs.Packet.{read_result};
 ghost use Rattle.t800.specs.Reports.{record_width, as_words};
 ghost use Rattle.t800.specs.Exports.{work_refusal};
+ghost use Rattle.t800.specs.RefusalNumbers.{number_of};
 ghost use Rattle.t2_read_numbers.specs.Reading.{read_numbers, to_fill};
 
 use t800::{Markers, RECORD_WIDTH, ReadAnswer, Refusal};
@@ -13,23 +14,20 @@ use t800::{Markers, RECORD_WIDTH, ReadAnswer, Refusal};
 fn four_each(words: usize, room: usize) -> bool
     ensures { result ≡ eqb words (record_width * room) }
 {
-    if words / RECORD_WIDTH != room {
-        return false;
-    }
-    words % RECORD_WIDTH == 0
+    words / RECORD_WIDTH == room && words % RECORD_WIDTH == 0
 }
 
 // 5 and 6 are looked for before the list's 3.
-fn work_refusal(state: &[u32], scratch: &[u32]) -> u32
-    ensures { result ≡ work_refusal state.now scratch.now }
+fn work_refusal(state: &[u32], scratch: &[u32]) -> Refusal
+    ensures { number_of result ≡ work_refusal state.now scratch.now }
 {
     if !tcd_state::valid_state(tcd_style::READER, state, scratch.len()) {
-        return Refusal::STATE;
+        return Refusal::State;
     }
     if state[3] == tcd_style::NOT_YET_INCLUDED {
-        return Refusal::LAYERS;
+        return Refusal::Layers;
     }
-    Refusal::LIST
+    Refusal::List
 }
 
 // The read into the work list, which must have four words for each record that there is room for.
@@ -47,15 +45,7 @@ pub fn read_numbers(
         work.old room }
 {
     if !four_each(work.len(), room) {
-        return ReadAnswer {
-            refusal: work_refusal(state, scratch),
-            present: 0,
-            taken: 0,
-            segments: 0,
-            sop: 0,
-            eph: 0,
-            past: 0,
-        };
+        return ReadAnswer::refused(work_refusal(state, scratch));
     }
     t2_read_packet::read(state, scratch, src, markers, reports, work)
 }
@@ -67,13 +57,13 @@ pub fn to_fill(a: ReadAnswer, room: usize) -> usize
     if a.refusal == 0 {
         return a.segments as usize;
     }
-    if a.refusal == Refusal::WIDTH {
+    if a.refusal == u32::from(Refusal::Width) {
         return room;
     }
-    if a.refusal == Refusal::HEADER_END {
+    if a.refusal == u32::from(Refusal::HeaderEnd) {
         return room;
     }
-    if a.refusal == Refusal::RECORDS {
+    if a.refusal == u32::from(Refusal::Records) {
         return room;
     }
     0

@@ -20,9 +20,8 @@ pub fn read(
     ensures { read_result as_words state.new scratch.new reports.new records.new result
         ≡ read as_words state.old scratch.old m src.now reports.old records.old }
 {
-    let why = t2_read_refusals::read_refusal(state, scratch, reports);
-    if why != 0 {
-        return t2_read_refusals::refused(why);
+    if let Some(why) = t2_read_refusals::read_refusal(state, scratch, reports) {
+        return ReadAnswer::refused(why);
     }
     let s = t2_read_marks::read_marker(m.sop, Marker::SOP, src, 0);
     let start = bio_read::opj_bio_init_dec(s.skip);

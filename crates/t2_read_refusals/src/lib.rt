@@ -3,27 +3,29 @@
 
 ghost use Rattle.std.specs.Prelude.{◌≡◌};
 ghost use Rattle.t800.specs.Packet.{read_refusal, refused_answer};
+ghost use Rattle.t800.specs.RefusalNumbers.{word_of};
 
 use t800::{REPORT_WIDTH, ReadAnswer, Refusal};
 
-pub fn read_refusal(state: &[u32], scratch: &[u32], reports: &[u32]) -> u32
-    ensures { result ≡ read_refusal state.now scratch.now reports.now }
+pub fn read_refusal(state: &[u32], scratch: &[u32], reports: &[u32]) -> Option<Refusal>
+    ensures { word_of result ≡ read_refusal state.now scratch.now reports.now }
 {
     if !tcd_state::valid_state(tcd_style::READER, state, scratch.len()) {
-        return Refusal::STATE;
+        return Some(Refusal::State);
     }
     if state[3] == tcd_style::NOT_YET_INCLUDED {
-        return Refusal::LAYERS;
+        return Some(Refusal::Layers);
     }
     let bands = tcd_first_words::bands_of(state);
     let n = state[1] as usize;
     let blocks = tcd_layout::num_blocks(bands, n);
     if reports.len() != REPORT_WIDTH * blocks {
-        return Refusal::LIST;
+        return Some(Refusal::List);
     }
-    0
+    None
 }
 
+// By the number that a reading stopped with.
 pub fn refused(why: u32) -> ReadAnswer
     ensures { result ≡ refused_answer why }
 {

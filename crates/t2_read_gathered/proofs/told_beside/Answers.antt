@@ -44,4 +44,4 @@ pub returns-else-a-ne0 : goal.returns-else-a-ne0
 returns-else-a-ne0 c =
     let a = c.args in
     let s = c.read_marker-s.ensures in
-    by_refusal a.a _ _ (eq-eqb a.a.refusal 0 c.if-a-ne0.false) ∙ sop_is a.a a.sop a.src.now _ s
+    ap (told a.a c.read_marker-s.result.skip) c.from-mark.ensures ∙ by_refusal a.a _ _ (eq-eqb a.a.refusal 0 c.if-a-ne0.false) ∙ sop_is a.a a.sop a.src.now _ s

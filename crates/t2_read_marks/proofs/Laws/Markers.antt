@@ -64,28 +64,28 @@ unfolding bytes_taken
 taken_up_to src b = either (λ (n : ℕ). n ≤ b.bp + 1) (in_ff b) _ _ (omega arith) (omega arith)
 
 -- the answer where nothing is refused
-pub done_is : (m : Markers) (src : List ℕ) (s : MarkerRead) (b : Bio) (present segments at : ℕ) (e : MarkerRead) (past : ℕ) → at
+pub done_is : (m : Markers) (src : List ℕ) (s : MarkerRead) (b : Bio) (present segments at : ℕ) (e : MarkerRead) (past sop eph : ℕ) → at
     ≡ bytes_taken src b → e ≡ read_marker m.eph 2 0x92 src at → past ≡ bits_past src (bio_at s.skip) b
-    → ◌≡◌ {A = ReadAnswer}
+    → sop ≡ s.mark → eph ≡ e.mark → ◌≡◌ {A = ReadAnswer}
     (record {
       refusal = 0;
       present = present;
       taken = at + e.skip;
       segments = segments;
-      sop = s.mark;
-      eph = e.mark;
+      sop = sop;
+      eph = eph;
       past = past;
     })
     (done_answer m src s b present segments)
 unfolding done_answer read_eph
-done_is m src s b present segments at e past p q r =
+done_is m src s b present segments at e past sop eph p q r x y =
     let f : e ≡ read_marker m.eph 2 0x92 src (bytes_taken src b) = q ∙ ap (read_marker m.eph 2 0x92 src) p in
     λ j. record {
       refusal = 0;
       present = present;
       taken = p j + (f j).skip;
       segments = segments;
-      sop = s.mark;
-      eph = (f j).mark;
+      sop = x j;
+      eph = (y ∙ ap (λ (k : MarkerRead). k.mark) f) j;
       past = r j;
     }

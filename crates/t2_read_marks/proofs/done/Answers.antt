@@ -36,6 +36,7 @@ returns c =
     let s = c in
     done_is s.args.m s.args.src.now (marker_read s.args.s) s.args.b s.args.present s.args.segments
     c.opj_bio_inalign-end.result.bio.bp (marker_read c.read_marker-e.result)
-    c.bits_past-past.result
+    c.bits_past-past.result _ _
     (ap (λ (r : Aligned). r.bio.bp) c.opj_bio_inalign-end.ensures)
     c.read_marker-e.ensures c.bits_past-past.ensures
+    c.from.ensures c.from-2.ensures

@@ -8,33 +8,33 @@ returns-then-not-used c =
     let s = c in
     not_used s.args.used s.args.m.bytes s.args.m.second s.args.src.now s.args.p c.if-not-used.true
 
-pub returns-then-bytes_from-m : goal.returns-then-bytes_from-m
-returns-then-bytes_from-m c =
+pub returns-then-saturating_sub-m : goal.returns-then-saturating_sub-m
+returns-then-saturating_sub-m c =
     let s = c in
     too_few s.args.used s.args.m.bytes s.args.m.second s.args.src.now s.args.p
     c.if-not-used.false
-    (subst (λ (n : ℕ). n < s.args.m.bytes) c.bytes_from.ensures c.if-bytes_from-m.true)
+    (subst (λ (n : ℕ). n < s.args.m.bytes) c.saturating_sub.ensures c.if-saturating_sub-m.true)
 
 pub returns-then-src-p : goal.returns-then-src-p
 returns-then-src-p c =
     let s = c in
     first_differs s.args.used s.args.m.bytes s.args.m.second s.args.src.now s.args.p
     c.if-not-used.false
-    (subst (λ (n : ℕ). s.args.m.bytes ≤ n) c.bytes_from.ensures
-    c.if-bytes_from-m.false) c.if-src-p.true
+    (subst (λ (n : ℕ). s.args.m.bytes ≤ n) c.saturating_sub.ensures
+    c.if-saturating_sub-m.false) c.if-src-p.true
 
 pub returns-then-src-p-2 : goal.returns-then-src-p-2
 returns-then-src-p-2 c =
     let s = c in
     second_differs s.args.used s.args.m.bytes s.args.m.second s.args.src.now s.args.p
     c.if-not-used.false
-    (subst (λ (n : ℕ). s.args.m.bytes ≤ n) c.bytes_from.ensures
-    c.if-bytes_from-m.false) c.if-src-p.false c.if-src-p-2.true
+    (subst (λ (n : ℕ). s.args.m.bytes ≤ n) c.saturating_sub.ensures
+    c.if-saturating_sub-m.false) c.if-src-p.false c.if-src-p-2.true
 
 pub returns : goal.returns
 returns c =
     let s = c in
     both_there s.args.used s.args.m.bytes s.args.m.second s.args.src.now s.args.p
     c.if-not-used.false
-    (subst (λ (n : ℕ). s.args.m.bytes ≤ n) c.bytes_from.ensures
-    c.if-bytes_from-m.false) c.if-src-p.false c.if-src-p-2.false
+    (subst (λ (n : ℕ). s.args.m.bytes ≤ n) c.saturating_sub.ensures
+    c.if-saturating_sub-m.false) c.if-src-p.false c.if-src-p-2.false
