@@ -33,10 +33,8 @@ pub fn moved(r: Run, bio: Bio) -> Run
 {
     Run {
         bio,
-        count: r.count,
-        room: r.room,
-        bytes: r.bytes,
         refusal: 0,
+        ..r
     }
 }
 

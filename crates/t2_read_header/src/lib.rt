@@ -43,7 +43,7 @@ pub fn read_header(
     if end.ok {
         return run;
     }
-    t2_read_segments::refuse(run, Refusal::HEADER_END)
+    t2_read_segments::refuse(run, Refusal::HeaderEnd)
 }
 
 // Into lists with a report for each block. Where the header is refused, the contract gives the number and that the place of the bits

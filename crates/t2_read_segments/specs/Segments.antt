@@ -10,4 +10,4 @@ unfoldable pub limit_after : ℕ → ℕ → ℕ
 limit_after style m = cond (m == 0) (first_limit style) (next_limit style m)
 
 unfoldable pub current_segment : List ℕ → Block → Segment
-current_segment ws k = record { opens = cond (opens_segment ws k) 1 0; limit = current_limit ws k; used = current_passes ws k }
+current_segment ws k = record { opens = opens_segment ws k; limit = current_limit ws k; used = current_passes ws k }

@@ -2,6 +2,7 @@
 #![tactic(auto)]
 
 ghost use Rattle.std.specs.Prelude.{◌≡◌, ◌+◌, ◌^◌, ◌<◌, ◌≤◌, length};
+ghost use Rattle.t800.specs.RefusalNumbers.{number_of};
 ghost use Rattle.tcd_places.specs.Places.{block_at};
 ghost use Rattle.t2_read_segments.specs.Segments.{limit_after, current_segment};
 ghost use Rattle.t2_read_segments.specs.Reading.{reading, WithAnyReports, next_segment, next_segments, SegmentFits};
@@ -9,10 +10,10 @@ ghost use Rattle.t2_read_segments.specs.Reading.{reading, WithAnyReports, next_s
 use t800::{Bio, Refusal};
 use tcd_style::Style;
 
-// The segment that a block's next passes go into: 1 if they open it, its limit, the passes that it has.
+// The segment that a block's next passes go into: whether they open it, its limit, the passes that it has.
 #[derive(Clone, Copy)]
 pub struct Segment {
-    pub opens: u32,
+    pub opens: bool,
     pub limit: u32,
     pub used: u32,
 }
@@ -48,30 +49,24 @@ fn current_segment(words: &[u32], at: usize) -> Segment
         let bits = words[2];
         let next = limit_after(Style { bits }, limit);
         return Segment {
-            opens: 1,
+            opens: true,
             limit: next,
             used: 0,
         };
     }
     Segment {
-        opens: 0,
+        opens: false,
         limit,
         used,
     }
 }
 
 // The reading as it stands, with a refusal.
-pub fn refuse(r: Run, why: u32) -> Run
-    ensures { result ≡ record { bio = r.bio; count = r.count; room = r.room; bytes = r.bytes; refusal = why } }
+pub fn refuse(r: Run, why: Refusal) -> Run
+    ensures { result ≡ record { bio = r.bio; count = r.count; room = r.room; bytes = r.bytes; refusal = number_of why } }
 {
-    let bio = r.bio;
-    Run {
-        bio,
-        count: r.count,
-        room: r.room,
-        bytes: r.bytes,
-        refusal: why,
-    }
+    let refusal = u32::from(why);
+    Run { refusal, ..r }
 }
 
 // The segment's n passes in this layer.
@@ -95,17 +90,18 @@ fn read_segment(
     let count = r.count;
     let room = r.room;
     if 32 < width {
-        return refuse(r, Refusal::WIDTH);
+        return refuse(r, Refusal::Width);
     }
     if room <= count {
-        return refuse(r, Refusal::RECORDS);
+        return refuse(r, Refusal::Records);
     }
     let next = count + 1;
     let len = bio_read::opj_bio_read(src, r.bio, width as u32);
     words[at + 2] = s.limit;
     words[at + 3] = s.used + n;
-    lists::put_record(records, count, block as u32, s.opens, n, len.value);
-    let bytes = std::num::wrapping_add_u64(r.bytes, len.value as u64);
+    let opens = u32::from(s.opens);
+    lists::put_record(records, count, block as u32, opens, n, len.value);
+    let bytes = r.bytes.wrapping_add(u64::from(len.value));
     let bio = len.bio;
     Run {
         bio,

@@ -1,8 +1,8 @@
-use Rattle.std.proofs.Common.{◌+◌, ap, ◌∙◌, arith}
+use Rattle.std.proofs.Common.{ℕ, ◌%◌, ◌^◌, ◌+◌, ap, ◌∙◌, arith}
 use Rattle.bio_read.specs.Reading.{decoded}
 use Rattle.t2_read_segments.specs.declared.Run.{Run}
 use Rattle.t2_read_segments.specs.Reading.{reading}
-use Rattle.t2_read_segments.proofs.Laws.OneSegment.{segment-wide, segment-past_records, segment-read}
+use Rattle.t2_read_segments.proofs.Laws.OneSegment.{opens_word, segment-wide, segment-past_records, segment-read}
 use Rattle.t2_read_segments.proofs.read_segment.Goals as goal
 
 pub overflow_cast-words : goal.overflow_cast-words
@@ -33,8 +33,9 @@ returns c =
     λ reports. segment-read s.args.src.now s.args.block s.args.at s.args.n
     (reading s.args.words.now reports s.args.records.now s.args.r) _
     c.field_width-width.ensures s.args.s
-    (decoded c.opj_bio_read-len.result) _ _
+    (decoded c.opj_bio_read-len.result) _ _ _
     c.if-width-gt32.false
     c.if-room-count.false s.requires.3
     c.opj_bio_read-len.ensures
-    c.put_record.ensures c.wrapping_add_u64-bytes.ensures.value
+    (c.from-opens.ensures ∙ opens_word _) c.put_record.ensures
+    (ap (λ (z : ℕ). (c.args.r.bytes + z) % 2 ^ 64) c.from.ensures)
