@@ -1,10 +1,9 @@
 -- The read on the work list: what it gives where the work list has the length asked, and where not.
-use mathlib.Core.Path.{◌≡◌, sym, ◌∙◌}
+use mathlib.Core.Path.{◌≡◌}
 use mathlib.Core.Logic.{◌≢◌}
 use mathlib.Core.Bool.{true, false}
 use mathlib.Core.List.{List}
-use Prim.Native.Nat.{ℕ, ◌*◌, ◌/◌, ◌%◌}
-use native.Mathlib.Omega.{arith}
+use Prim.Native.Nat.{ℕ, ◌*◌}
 use lib.ListN.{length}
 use lib.Dec.{eqb}
 use borrow.Author.Tests.{eq-eqb, ne_eqb}
@@ -13,7 +12,6 @@ use Rattle.t800.specs.declared.ReadAnswer.{ReadAnswer}
 use Rattle.t800.specs.State.{reader, layer, not_yet_included}
 use Rattle.t800.specs.Ranges.{valid_state}
 use Rattle.t800.specs.Packet.{read}
-use Rattle.t800_laws.proofs.Laws.Tests.{on-eq}
 use Rattle.t800.specs.Reports.{record_width, as_words}
 use Rattle.t800.specs.Exports.{work_refusal}
 use Rattle.t2_read_numbers.specs.Reading.{wrong_work, read_numbers, to_fill}

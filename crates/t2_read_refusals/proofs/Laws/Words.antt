@@ -1,5 +1,5 @@
 -- What the number of a refusal says of it.
-use Rattle.std.proofs.Common.{◌≡◌, ◌≢◌, Option, None, Some, arith, ap, refl}
+use Rattle.std.proofs.Common.{◌≡◌, ◌≢◌, Option, None, Some, arith, refl}
 use Rattle.t800.specs.declared.Refusal.{Refusal}
 use Rattle.t800.specs.declared.Refusal.TheVariants.{Shape, Style, List, Planes, State, Layers, Passes, Length, Width, Body, Space, HeaderEnd, Records, Precincts, Segments, Packed}
 use Rattle.t800.specs.RefusalNumbers.{number_of, word_of}
