@@ -12,8 +12,8 @@ ghost use Rattle.t2_read_block_parts.specs.Blocks.{next_block};
 ghost use Rattle.t2_read_bands.specs.Bands.{BandFits, BandsFit};
 ghost use Rattle.t2_skip_windows.specs.Windows.{window_bytes, run_at, Ahead, WindowOn, Somewhere, Skips, SkipsTo};
 
-use t2_unpack_headers::Cursor;
 use t2_read_segments::Run;
+use t2_unpack_headers::Cursor;
 use t800::{Band, Bio, Level};
 use tcd_places::Grid;
 
@@ -168,7 +168,10 @@ impl At {
         if x < w {
             return At { x, y: self.y };
         }
-        At { x: 0, y: self.y + 1 }
+        At {
+            x: 0,
+            y: self.y + 1,
+        }
     }
 }
 

@@ -1,9 +1,6 @@
 -- The numbers of refusals: none is 0.
-use mathlib.Core.Path.{◌≡◌, refl, sym, ap}
 use mathlib.Core.Logic.{◌≢◌}
-use Prim.Native.Nat.{ℕ}
 use native.Mathlib.Omega.{arith}
-use Rattle.std.proofs.Common.{Result, Ok, Err}
 use Rattle.t800.specs.declared.Refusal.{Refusal}
 use Rattle.t800.specs.declared.Refusal.TheVariants.{Shape, Style, List, Planes, State, Layers, Passes, Length, Width, Body, Space, HeaderEnd, Records, Precincts, Segments, Packed}
 use Rattle.t800.specs.RefusalNumbers.{number_of}

@@ -1,13 +1,12 @@
 -- A look at all segments, one after another.
 use Prim.Native.Nat.{ℕ, ◌+◌, ◌-◌, ◌<◌, ◌≤◌}
 use mathlib.Core.Path.{◌≡◌, ap, sym, ◌∙◌, refl}
-use mathlib.Core.Logic.{◌≢◌}
 use mathlib.Core.Bool.{false}
 use mathlib.Core.List.{◌++◌}
 use native.Mathlib.Omega.{arith}
 use lib.ListN.{length, take, drop, length-append, length-drop}
 use lib.Seq.{length-take-le}
-use Rattle.std.proofs.Common.{Option, None, Some, Ok, Err}
+use Rattle.std.proofs.Common.{None, Some, Ok, Err}
 use Rattle.t800.specs.declared.Refusal.TheVariants.{Packed}
 use Rattle.t800.specs.Base.{Bytes}
 use Rattle.t800.specs.PackedHeaders.{Unpacked, unpacked}

@@ -1,11 +1,11 @@
 -- The size of a segment by the tests that the code makes, in their order.
 use Prim.Native.Nat.{ℕ, ◌+◌, ◌-◌, ◌<◌, ◌≤◌}
-use mathlib.Core.Path.{◌≡◌, ap, sym, ◌∙◌}
+use mathlib.Core.Path.{◌≡◌, ap, sym}
 use mathlib.Core.Logic.{◌≢◌}
 use native.Mathlib.Omega.{arith}
 use lib.ListN.{length, get_or}
 use borrow.Author.Tests.{eq-eqb, ne_eqb, le-ltb, lt-ltb}
-use Rattle.std.proofs.Common.{Option, None, Some}
+use Rattle.std.proofs.Common.{None, Some}
 use Rattle.t800.specs.Base.{Bytes}
 use Rattle.t800_laws.proofs.Laws.Tests.{if-true}
 use Rattle.t2_unpack_headers.specs.Segments.{field_at, bad_at, size_at}
@@ -47,25 +47,25 @@ module _ (segments : Bytes) (index at : ℕ) where
             )
 
         module _ (m : get_or segments at 0 ≡ 0xff) (n : get_or segments (at + 1) 0 ≡ 0x61) where
-            pub other_index : get_or segments (at + 4) 0 ≢ index → None ≡ size_at segments index at
-            unfolding bad_at
-            other_index h =
-                simp (
-                  le-ltb (length segments - at) (2 + field_at segments at) (omega arith),
-                  le-ltb (field_at segments at) 4 (omega arith),
-                  eq-eqb (get_or segments at 0) 0xff m,
-                  eq-eqb (get_or segments (at + 1) 0) 0x61 n,
-                  ne_eqb (get_or segments (at + 4) 0) index h,
-                )
+          pub other_index : get_or segments (at + 4) 0 ≢ index → None ≡ size_at segments index at
+          unfolding bad_at
+          other_index h =
+              simp (
+                le-ltb (length segments - at) (2 + field_at segments at) (omega arith),
+                le-ltb (field_at segments at) 4 (omega arith),
+                eq-eqb (get_or segments at 0) 0xff m,
+                eq-eqb (get_or segments (at + 1) 0) 0x61 n,
+                ne_eqb (get_or segments (at + 4) 0) index h,
+              )
 
-            pub right_size : get_or segments (at + 4) 0 ≡ index → Some (2 + field) ≡ size_at segments index at
-            unfolding bad_at
-            right_size h =
-                simp (
-                  le-ltb (length segments - at) (2 + field_at segments at) (omega arith),
-                  le-ltb (field_at segments at) 4 (omega arith),
-                  eq-eqb (get_or segments at 0) 0xff m,
-                  eq-eqb (get_or segments (at + 1) 0) 0x61 n,
-                  eq-eqb (get_or segments (at + 4) 0) index h,
-                )
-                (ap (λ (k : ℕ). Some (2 + k)) f)
+          pub right_size : get_or segments (at + 4) 0 ≡ index → Some (2 + field) ≡ size_at segments index at
+          unfolding bad_at
+          right_size h =
+              simp (
+                le-ltb (length segments - at) (2 + field_at segments at) (omega arith),
+                le-ltb (field_at segments at) 4 (omega arith),
+                eq-eqb (get_or segments at 0) 0xff m,
+                eq-eqb (get_or segments (at + 1) 0) 0x61 n,
+                eq-eqb (get_or segments (at + 4) 0) index h,
+              )
+              (ap (λ (k : ℕ). Some (2 + k)) f)
