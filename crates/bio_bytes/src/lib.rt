@@ -2,7 +2,7 @@
 #![tactic(auto)]
 
 ghost use Rattle.std.specs.Prelude.{◌≡◌, cond, ◌-◌, ◌^◌, ◌≤◌, eqb, set};
-ghost use Rattle.bio_bytes.specs.Writing.{output, empty_at, place_after, byte_out};
+ghost use Rattle.bio_bytes.specs.Writing.{output, empty_at, byte_out};
 
 use t800::Bio;
 
@@ -39,16 +39,6 @@ pub fn low_ones(k: u32) -> u32
     above - 1
 }
 
-fn place_after(bp: usize) -> usize
-    ensures { result ≡ place_after bp }
-{
-    if bp < 0xffff_ffff_ffff_ffff {
-        bp + 1
-    } else {
-        bp
-    }
-}
-
 pub fn store(out: &mut [u8], at: usize, byte: u8)
     ensures { out.new ≡ set out.old at byte }
 {
@@ -64,7 +54,7 @@ pub fn opj_bio_byteout(out: &mut [u8], b: Bio) -> Bio
     let buf = (b.buf << 8) & 0xffff;
     store(out, bp, (buf >> 8) as u8);
     Bio {
-        bp: place_after(bp),
+        bp: bp.saturating_add(1),
         buf,
         ct: bits_after(buf),
     }

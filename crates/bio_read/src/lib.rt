@@ -38,12 +38,6 @@ pub fn opj_bio_init_dec(at: usize) -> Bio
     }
 }
 
-fn wide(byte: u8) -> u32
-    ensures { result ≡ byte }
-{
-    byte as u32
-}
-
 // The place after one that lies past the input's end.
 fn place_past(src: &[u8], bp: usize) -> usize
     requires { length src.now ≤ bp }
@@ -65,7 +59,7 @@ pub fn opj_bio_bytein(src: &[u8], b: Bio) -> Bio
     if bp < src.len() {
         return Bio {
             bp: bp + 1,
-            buf: buf | wide(src[bp]),
+            buf: buf | u32::from(src[bp]),
             ct,
         };
     }

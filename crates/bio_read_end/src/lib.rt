@@ -1,7 +1,7 @@
 // Where a packet header ends, at the start of the byte after its last bit (bio.rs), and how many of its bits lie past the input's end.
 #![tactic(auto)]
 
-ghost use Rattle.std.specs.Prelude.{◌≡◌, ◌+◌, ◌≤◌, min, length};
+ghost use Rattle.std.specs.Prelude.{◌≡◌, ◌+◌, ◌≤◌, length};
 ghost use Rattle.t800.specs.Bits.{reach, bio_at, bits_past};
 ghost use Rattle.bits_taken.specs.Taken.{Reached, stuffed_past};
 ghost use Rattle.bio_read_end.specs.HeaderEnd.{aligned_at};
@@ -13,12 +13,6 @@ use t800::Bio;
 pub struct Aligned {
     pub ok: bool,
     pub bio: Bio,
-}
-
-fn smaller(a: usize, b: usize) -> usize
-    ensures { result ≡ min a b }
-{
-    if a < b { a } else { b }
 }
 
 pub fn opj_bio_inalign(src: &[u8], b: Bio) -> Aligned
@@ -34,7 +28,7 @@ pub fn opj_bio_inalign(src: &[u8], b: Bio) -> Aligned
             bio: next,
         };
     }
-    let bio = bio_read::opj_bio_init_dec(smaller(bp, n));
+    let bio = bio_read::opj_bio_init_dec(bp.min(n));
     Aligned { ok: true, bio }
 }
 
@@ -62,6 +56,6 @@ pub fn bits_past(src: &[u8], start: usize, b: Bio) -> u64
         return 0;
     }
     let bytes = (b.bp - n) as u64;
-    let not_read = stuffed_past(src, start) + b.ct as u64;
+    let not_read = stuffed_past(src, start) + u64::from(b.ct);
     bytes * 8 - not_read
 }

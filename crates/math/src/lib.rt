@@ -14,11 +14,11 @@ pub fn opj_uint_floorlog2(a: u32) -> u32
 pub fn opj_uint_min(a: u32, b: u32) -> u32
     ensures { result ≡ min a b }
 {
-    if a < b { a } else { b }
+    a.min(b)
 }
 
 pub fn opj_uint_max(a: u32, b: u32) -> u32
     ensures { result ≡ max a b }
 {
-    if a < b { b } else { a }
+    a.max(b)
 }

@@ -46,10 +46,7 @@ fn runs_on(b: Bio, left: u32) -> bool
     requires { b.ct ≤ 8 }
     ensures { result ≡ (ltb b.ct left && eqb (b.buf % 2 ^ b.ct) 0) }
 {
-    if left <= b.ct {
-        return false;
-    }
-    held(b) == 0
+    b.ct < left && held(b) == 0
 }
 
 // One bit: a 0 raises low, a 1 is the value.
@@ -159,9 +156,7 @@ fn decode_below(
 {
     let mut bio = b;
     let mut low = above;
-    let mut i = levels;
-    while 0 < i {
-        i -= 1;
+    for i in (0..levels).rev() {
         let at = tgt::first_word(base, row[i], x, i);
         let r = decode_node(words, src, bio, at, low, threshold);
         bio = r.bio;

@@ -29,14 +29,12 @@ fn raise(
         ≡ read_zero_planes_from src.now (leaf_of base row.now depth x) (not_yet_planes + 2) 0 words.old b }
 {
     let mut bio = b;
-    let mut threshold: u32 = 0;
-    while threshold <= LAST_THRESHOLD {
+    for threshold in 0..=LAST_THRESHOLD {
         let r = tgt_read::opj_tgt_decode(words, src, bio, base, row, depth, x, threshold);
         bio = r.bio;
         if r.below {
             return bio;
         }
-        threshold += 1;
     }
     bio
 }

@@ -29,10 +29,7 @@ fn zeros(out: &mut [u8], b: Bio, n: u32) -> Bio
 fn nothing_to_tell(value: u32, known: u32, from: u32) -> bool
     ensures { result ≡ (leb value from && eqb known 1) }
 {
-    if from < value {
-        return false;
-    }
-    known == 1
+    value <= from && known == 1
 }
 
 // The 1 that says that low has reached the value, once for a node; `at` is the place of its known.
@@ -75,17 +72,7 @@ fn one_bit(known: u32, from: u32, threshold: u32) -> bool
     requires { from < threshold }
     ensures { result ≡ (eqb known 0 && eqb (threshold - from) 1) }
 {
-    if known != 0 {
-        return false;
-    }
-    threshold - from == 1
-}
-
-// Whether low reaches the value below the threshold.
-fn reached(value: u32, threshold: u32) -> u32
-    ensures { result ≡ cond (ltb value threshold) 1 0 }
-{
-    if value < threshold { 1 } else { 0 }
+    known == 0 && threshold - from == 1
 }
 
 // The node's one bit: a 0 raises low to the threshold, a 1 tells the value.
@@ -94,7 +81,7 @@ fn encode_one(words: &mut [u32], out: &mut [u8], b: Bio, at: usize, threshold: u
     ensures { node_coded words.new out.new result
         ≡ code_from threshold at (threshold - 1) words.old (output out.old b) }
 {
-    let bit = reached(words[at], threshold);
+    let bit = u32::from(words[at] < threshold);
     let low = threshold - bit;
     words[at + 1] = low;
     words[at + 2] = bit;
@@ -161,9 +148,7 @@ pub fn opj_tgt_encode(
 {
     let mut bio = b;
     let mut low = 0;
-    let mut i = depth;
-    while 0 < i {
-        i -= 1;
+    for i in (0..depth).rev() {
         let at = tgt::first_word(base, row[i], x, i);
         let r = encode_node(words, out, bio, at, low, threshold);
         bio = r.bio;

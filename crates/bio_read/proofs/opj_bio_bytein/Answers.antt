@@ -18,7 +18,7 @@ returns-then-bp-src c =
     let inside = c.if-bp-src.true in
     bio≡ _ _
     (omega arith)
-    (ap₂ bit_or (moved_is b.buf) c.wide.ensures
+    (ap₂ bit_or (moved_is b.buf) c.from.ensures
     ∙ or_byte b.buf (get_or src b.bp 0) (omega (arith, c.shared_slice_known-then-bp-src-1.given b.bp)))
     (c.bits_after-ct.ensures ∙ ap (λ (u : ℕ). cond (eqb u 0xff00) 7 8) (moved_is b.buf))
 

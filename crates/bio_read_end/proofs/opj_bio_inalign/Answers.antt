@@ -1,4 +1,6 @@
-use mathlib.Core.Path.{sym, ap, ◌∙◌}
+use Prim.Native.Nat.{min}
+use borrow.Author.Rules.{rules}
+use mathlib.Core.Path.{◌≡◌, sym, ap, ◌∙◌}
 use mathlib.Core.Bool.{true, not}
 use lib.Dec.{eqb}
 use lib.ListN.{length}
@@ -20,4 +22,5 @@ unfolding aligned_at ends_in_ff bytes_taken in_ff
 returns c =
     let s = c in
     let t = ne_eqb _ _ (λ q. c.if-b-eq255.false (and_mask s.args.b.buf 8 ∙ q)) in
-    (λ i. record { ok = true; bio = (c.opj_bio_init_dec-bio.ensures ∙ ap bio_at c.smaller.ensures) i }) ∙ simp t
+    let least : c.min.result ≡ min s.args.b.bp (length s.args.src.now) = search rules in
+    (λ i. record { ok = true; bio = (c.opj_bio_init_dec-bio.ensures ∙ ap bio_at least) i }) ∙ simp t

@@ -1,6 +1,5 @@
 use mathlib.Core.Path.{◌≡◌}
 use Prim.Native.Nat.{◌+◌, ◌-◌, ◌≤◌}
-use lib.ListN.{length}
 use Rattle.t800.specs.ReadHeader.{read_zero_planes_from}
 use Rattle.t800.specs.State.{not_yet_planes}
 use Rattle.tgt_read.specs.Reading.{leaf_of}
@@ -9,10 +8,5 @@ use Rattle.tgt_read_value.proofs.raise.Given as goal
 -- The invariant: raising the threshold on from here gives the whole.
 abbrev pub invariant-loop-threshold : goal.invariant-loop-threshold
 invariant-loop-threshold l = (l.bio.ct ≤ 8)
-    × (length l.words ≡ length l.initial.words)
-    × (l.threshold ≤ not_yet_planes + 2)
     × (read_zero_planes_from l.src (leaf_of l.base l.row l.depth l.x) (not_yet_planes + 2 - l.threshold) l.threshold l.words l.bio
     ≡ read_zero_planes_from l.src (leaf_of l.base l.row l.depth l.x) (not_yet_planes + 2) 0 l.initial.words l.initial.bio)
-
-abbrev pub decreases-loop-threshold : goal.decreases-loop-threshold
-decreases-loop-threshold l = not_yet_planes + 2 - l.threshold

@@ -5,6 +5,7 @@ use mathlib.Core.List.{List, [], ◌∷◌, ◌++◌, append-nil}
 use Prim.Native.Nat.{ℕ, zero, suc, ◌+◌, ◌-◌, ◌*◌, ◌^◌, ◌≤◌, ◌<◌, max, min}
 use native.Mathlib.Nat.{suc-add, zero-add}
 use native.Mathlib.Omega.{arith}
+use mir.Val.{bool_byte}
 use lib.Dec.{eqb, ltb, leb}
 use lib.ListN.{set, replicate}
 use lib.Seq.{get_or-set_other, set-get_or}
@@ -131,6 +132,10 @@ module _ (t at from : ℕ) (ws : List ℕ) (o : Output) where
 pub bit_le : (b : Bool) → cond b 1 0 ≤ 1
 bit_le true = omega arith
 bit_le false = omega arith
+
+pub bit_is : (b : Bool) → bool_byte b ≡ cond b 1 0
+bit_is true = refl
+bit_is false = refl
 
 -- one bit, low being one under the threshold and the value not told
 module _ (t at : ℕ) (ws : List ℕ) (o : Output) (pos : 1 ≤ t) (untold : known ws at ≡ 0) where

@@ -1,7 +1,6 @@
 use mathlib.Core.Path.{◌≡◌}
 use mathlib.Core.List.{reverse}
-use Prim.Native.Nat.{◌≤◌}
-use lib.ListN.{length, take}
+use lib.ListN.{take}
 use Rattle.t800.specs.TagTree.{code_path}
 use Rattle.bio_bytes.specs.Writing.{output, FreeBitsClear}
 use Rattle.tgt.specs.Path.{nodes_over}
@@ -12,11 +11,5 @@ use Rattle.tgt_write.proofs.opj_tgt_encode.Given as goal
 -- present output, give the whole.
 abbrev pub invariant-loop-i : goal.invariant-loop-i
 invariant-loop-i l = (FreeBitsClear l.bio)
-    × (length l.words ≡ length l.initial.words)
-    × (length l.out ≡ length l.initial.out)
-    × (l.i ≤ l.depth)
     × (put_coded (output l.out l.bio) (code_path l.base l.threshold (reverse (nodes_over (take l.i l.row) l.x)) l.low l.words)
     ≡ put_coded (output l.initial.out l.initial.bio) (code_path l.base l.threshold (reverse (nodes_over (take l.depth l.row) l.x)) 0 l.initial.words))
-
-abbrev pub decreases-loop-i : goal.decreases-loop-i
-decreases-loop-i l = l.i
