@@ -23,7 +23,8 @@ fn begin(
     ensures { record { answer = result; state = state.new }
         ≡ begun role count bands style planes.now state.old }
 {
-    let refused = t2_start_parts::refusal(role, count, bands, style, planes, state);
+    let why = t2_start_parts::refusal(role, count, bands, style, planes, state);
+    let refused = t800::answer_word(why);
     if refused != 0 {
         return refused;
     }

@@ -3,6 +3,7 @@
 
 ghost use Rattle.std.specs.Prelude.{◌≡◌, not, ◌||◌, [], ◌∷◌, ◌++◌, ◌+◌, ◌*◌, ◌≤◌, length, get_or, take, eqb};
 ghost use Rattle.std.proofs.lemmas.List.Edits.{sets};
+ghost use Rattle.t800.specs.RefusalNumbers.{word_of};
 ghost use Rattle.t800.specs.State.{not_yet_included, not_yet_planes, blocks, state_length};
 ghost use Rattle.t800.specs.Ranges.{band_too_deep, block_too_deep};
 ghost use Rattle.t800.specs.Start.{fresh_nodes, fresh_blocks, fresh_bands, band_words, fresh_state, start_refusal};
@@ -29,10 +30,8 @@ fn wrong_list(role: u32, bands: [Band; 3], n: usize, planes: &[u32], state: &[u3
     ensures { result ≡ (not (eqb (length state.now) (state_length (take n bands))) || not
         (eqb (length planes.now) (planes_wanted role (take n bands)))) }
 {
-    if state.len() != tcd_layout::state_length(bands, n) {
-        return true;
-    }
-    planes.len() != planes_wanted(role, bands, n)
+    state.len() != tcd_layout::state_length(bands, n)
+        || planes.len() != planes_wanted(role, bands, n)
 }
 
 // Refusal 4.
@@ -40,13 +39,9 @@ fn too_deep(bands: [Band; 3], n: usize, planes: &[u32]) -> bool
     requires { (n ≤ 3) × AllUpTo64 (take n bands) }
     ensures { result ≡ (band_too_deep (take n bands) || block_too_deep (blocks (take n bands)) planes.now) }
 {
-    if tcd_shape::band_too_deep(bands, n) {
-        return true;
-    }
-    tcd_shape::block_too_deep(bands, n, planes)
+    tcd_shape::band_too_deep(bands, n) || tcd_shape::block_too_deep(bands, n, planes)
 }
 
-// 0 if nothing is to be refused.
 pub fn refusal(
     role: u32,
     count: u32,
@@ -54,25 +49,24 @@ pub fn refusal(
     style: u8,
     planes: &[u32],
     state: &[u32],
-) -> u32
-    ensures { result ≡ start_refusal role count bands style planes.now state.now }
+) -> Option<Refusal>
+    ensures { word_of result ≡ start_refusal role count bands style planes.now state.now }
 {
     if tcd_shape::bad_shape(count, bands) {
-        return Refusal::SHAPE;
+        return Some(Refusal::Shape);
     }
-    let bits = style as u32;
-    let refused = Style { bits }.is_refused();
-    if refused {
-        return Refusal::STYLE;
+    let bits = u32::from(style);
+    if (Style { bits }).is_refused() {
+        return Some(Refusal::Style);
     }
     let n = count as usize;
     if wrong_list(role, bands, n, planes, state) {
-        return Refusal::LIST;
+        return Some(Refusal::List);
     }
     if too_deep(bands, n, planes) {
-        return Refusal::PLANES;
+        return Some(Refusal::Planes);
     }
-    0
+    None
 }
 
 fn first_words(state: &mut [u32], role: u32, count: u32, style: u32)
@@ -113,13 +107,9 @@ fn put_bands(state: &mut [u32], bands: [Band; 3], n: usize)
     requires { (n ≤ 3) × (13 ≤ length state.old) }
     ensures { state.new ≡ sets state.old 4 (band_words (take n bands) 3) }
 {
-    let mut at: usize = 4;
-    let mut i: usize = 0;
-    while i < 3 {
+    for i in 0..3 {
         let band = used_band(bands, n, i);
-        put_band(state, at, band);
-        at += 3;
-        i += 1;
+        put_band(state, 4 + 3 * i, band);
     }
 }
 
@@ -151,15 +141,12 @@ fn fresh_bands(state: &mut [u32], bands: [Band; 3], n: usize)
     ensures { state.new ≡ sets state.old 13 (fresh_bands (take n bands)) }
 {
     let mut at: usize = 13;
-    let mut i: usize = 0;
-    while i < n {
-        let band = bands[i];
+    for &band in &bands[..n] {
         let nodes = tcd_layout::band_nodes(band);
         let blocks = tcd_layout::band_blocks(band);
         fresh_band(state, at, nodes, blocks);
         let words = 6 * nodes + 4 * blocks;
         at += words;
-        i += 1;
     }
 }
 
@@ -168,7 +155,7 @@ pub fn fill(role: u32, count: u32, bands: [Band; 3], style: u8, state: &mut [u32
     ensures { state.new ≡ fresh_state role style (take count bands) }
 {
     let n = count as usize;
-    first_words(state, role, count, style as u32);
+    first_words(state, role, count, u32::from(style));
     put_bands(state, bands, n);
     fresh_bands(state, bands, n);
 }

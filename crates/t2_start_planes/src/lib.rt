@@ -25,11 +25,9 @@ fn set_row(
         × (any (λ p. ltb most p) planes.now ≡ false) }
     ensures { state.new ≡ set_row base row.now depth most 0 planes.now state.old }
 {
-    let mut x: usize = 0;
-    while x < planes.len() {
-        let zero = most - planes[x];
+    for (x, &p) in planes.iter().enumerate() {
+        let zero = most - p;
         tgt_set::opj_tgt_setvalue(state, base, row, depth, x, zero);
-        x += 1;
     }
 }
 
@@ -50,16 +48,13 @@ fn set_rows(
 {
     let base = at + 3 * nodes;
     let across = band.across as usize;
-    let down = band.down as usize;
     let mut from: usize = 0;
-    let mut y: usize = 0;
-    while y < down {
+    for y in 0..band.down as usize {
         let mut row = [0usize; 7];
         tgt::opj_tgt_row(tree, depth, y, &mut row);
         let to = from + across;
         set_row(state, base, &row, depth, band.planes, &planes[from..to]);
         from = to;
-        y += 1;
     }
 }
 
@@ -81,15 +76,12 @@ pub fn set_zero_planes(bands: [Band; 3], n: usize, planes: &[u32], state: &mut [
 {
     let mut at: usize = 13;
     let mut from: usize = 0;
-    let mut i: usize = 0;
-    while i < n {
-        let band = bands[i];
+    for &band in &bands[..n] {
         let size = tcd_layout::band_blocks(band);
         let to = from + size;
         set_band(state, at, band, &planes[from..to]);
         let words = tcd_layout::band_length(band);
         at += words;
         from = to;
-        i += 1;
     }
 }

@@ -29,20 +29,20 @@ pub fn gathered_words(
         src.now reports.old work.old room answer.old }
 {
     if answer.len() != 7 {
-        return t2_read_refusals::refused(Refusal::LIST);
+        return ReadAnswer::refused(Refusal::List);
     }
     let plain = Markers { sop: false, eph };
     let r = t2_read_numbers::read_numbers(state, scratch, headers, plain, reports, work, room);
     let a = t2_read_gathered::told_beside(r, sop, src);
-    tonkelvi_answers::put_seven(
-        answer,
-        a.present as u64,
+    let words = [
+        u64::from(a.present),
         a.headers,
         a.taken,
         a.segments,
-        a.sop as u64,
-        a.eph as u64,
+        u64::from(a.sop),
+        u64::from(a.eph),
         a.past,
-    );
+    ];
+    lists::copy(&words, answer);
     r
 }

@@ -10,10 +10,10 @@ use Rattle.t800.specs.Layer.{LayerCall, write_layer}
 use Rattle.t800.specs.Exports.{layer_exit, write_layer_call}
 
 module _ (states : List ℕ) (c : LayerCall) (answer : List ℕ) where
-  pub layer-unlisted : length answer ≢ 2
-      → record { refusal = 3; states = states; scratch = c.scratch; output = c.output; answer = answer } ≡ write_layer_call states c answer
+  pub layer-unlisted : (why : ℕ) → why ≡ 3 → length answer ≢ 2
+      → record { refusal = why; states = states; scratch = c.scratch; output = c.output; answer = answer } ≡ write_layer_call states c answer
   unfolding write_layer_call
-  layer-unlisted h = rw (ne_eqb (length answer) 2 h)
+  layer-unlisted why e h = rw (ne_eqb (length answer) 2 h, e)
 
   pub layer-listed : (r : LayerAnswer) (vs s o l : List ℕ) → length answer ≡ 2
       → record { answer = r; states = vs; scratch = s; output = o } ≡ write_layer states c → l ≡ r.place ∷ r.bytes ∷ []

@@ -38,7 +38,7 @@ pub fn write_layer(
         }) answer.old }
 {
     if answer.len() != 2 {
-        return Refusal::LIST;
+        return u32::from(Refusal::List);
     }
     let r = t2_write_layer::write_layer(
         states,
@@ -51,6 +51,6 @@ pub fn write_layer(
         Markers { sop, eph },
         output,
     );
-    tonkelvi_answers::put_two(answer, r.place, r.bytes);
+    lists::copy(&[r.place, r.bytes], answer);
     r.refusal
 }

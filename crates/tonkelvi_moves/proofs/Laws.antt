@@ -12,11 +12,11 @@ use Rattle.t800.specs.Gathered.{gather, spread}
 use Rattle.t800.specs.Exports.{gather_exit, gather_call, spread_exit, spread_call}
 
 module _ (row states scratch places : List ℕ) (m : Markers) (headers bodies answer : List ℕ) where
-  pub gather-unlisted : length answer ≢ 2
-      → record { refusal = 3; scratch = scratch; headers = headers; bodies = bodies; answer = answer }
+  pub gather-unlisted : (why : ℕ) → why ≡ 3 → length answer ≢ 2
+      → record { refusal = why; scratch = scratch; headers = headers; bodies = bodies; answer = answer }
       ≡ gather_call row states scratch places m headers bodies answer
   unfolding gather_call
-  gather-unlisted h = rw (ne_eqb (length answer) 2 h)
+  gather-unlisted why e h = rw (ne_eqb (length answer) 2 h, e)
 
   pub gather-listed : (r : GatherAnswer) (s hs bs l : List ℕ) → length answer ≡ 2
       → record { answer = r; scratch = s; headers = hs; bodies = bs } ≡ gather row states scratch places m headers bodies
@@ -27,11 +27,11 @@ module _ (row states scratch places : List ℕ) (m : Markers) (headers bodies an
   gather-listed r s hs bs l h e g = rw (eq-eqb (length answer) 2 h, g) (ap gather_exit e)
 
 module _ (headers bodies states scratch places : List ℕ) (m : Markers) (row answer : List ℕ) where
-  pub spread-unlisted : length answer ≢ 1
-      → record { refusal = 3; scratch = scratch; row = row; answer = answer }
+  pub spread-unlisted : (why : ℕ) → why ≡ 3 → length answer ≢ 1
+      → record { refusal = why; scratch = scratch; row = row; answer = answer }
       ≡ spread_call headers bodies states scratch places m row answer
   unfolding spread_call
-  spread-unlisted h = rw (ne_eqb (length answer) 1 h)
+  spread-unlisted why e h = rw (ne_eqb (length answer) 1 h, e)
 
   pub spread-listed : (r : WriteAnswer) (s o l : List ℕ) → length answer ≡ 1
       → record { answer = r; scratch = s; row = o } ≡ spread headers bodies states scratch places m row → l ≡ r.bytes ∷ []

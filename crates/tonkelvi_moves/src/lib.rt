@@ -29,7 +29,7 @@ pub fn gather_headers(
         (record { sop = sop; eph = eph }) headers.old bodies.old answer.old }
 {
     if answer.len() != 2 {
-        return Refusal::LIST;
+        return u32::from(Refusal::List);
     }
     let r = t2_gather::gather(
         row,
@@ -40,7 +40,7 @@ pub fn gather_headers(
         headers,
         bodies,
     );
-    tonkelvi_answers::put_two(answer, r.headers, r.bodies);
+    lists::copy(&[r.headers, r.bodies], answer);
     r.refusal
 }
 
@@ -61,7 +61,7 @@ pub fn spread_headers(
         (record { sop = sop; eph = eph }) row.old answer.old }
 {
     if answer.len() != 1 {
-        return Refusal::LIST;
+        return u32::from(Refusal::List);
     }
     let r = t2_spread::spread(
         headers,
@@ -72,6 +72,6 @@ pub fn spread_headers(
         Markers { sop, eph },
         row,
     );
-    tonkelvi_answers::put_one(answer, r.bytes);
+    lists::copy(&[r.bytes], answer);
     r.refusal
 }

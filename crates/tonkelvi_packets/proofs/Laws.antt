@@ -13,9 +13,9 @@ use Rattle.t800.specs.Packet.{measure, write}
 use Rattle.t800.specs.Exports.{measure_exit, measure_call, write_exit, write_call}
 
 module _ (ws scratch : List ℕ) (p : Contribution) (m : Markers) (answer : List ℕ) where
-  pub measure-unlisted : length answer ≢ 2 → record { refusal = 3; scratch = scratch; answer = answer } ≡ measure_call ws scratch p m answer
+  pub measure-unlisted : (why : ℕ) → why ≡ 3 → length answer ≢ 2 → record { refusal = why; scratch = scratch; answer = answer } ≡ measure_call ws scratch p m answer
   unfolding measure_call
-  measure-unlisted h = rw (ne_eqb (length answer) 2 h)
+  measure-unlisted why e h = rw (ne_eqb (length answer) 2 h, e)
 
   pub measure-listed : (r : MeasureAnswer) (s l : List ℕ) → length answer ≡ 2 → record { answer = r; scratch = s }
       ≡ measure ws scratch p m → l ≡ r.header ∷ r.body ∷ []
@@ -24,10 +24,10 @@ module _ (ws scratch : List ℕ) (p : Contribution) (m : Markers) (answer : List
   measure-listed r s l h e g = rw (eq-eqb (length answer) 2 h, g) (ap measure_exit e)
 
 module _ (ws scratch : List ℕ) (p : Contribution) (body : List ℕ) (m : Markers) (number : ℕ) (output answer : List ℕ) where
-  pub write-unlisted : length answer ≢ 1 → record { refusal = 3; state = ws; scratch = scratch; output = output; answer = answer }
+  pub write-unlisted : (why : ℕ) → why ≡ 3 → length answer ≢ 1 → record { refusal = why; state = ws; scratch = scratch; output = output; answer = answer }
       ≡ write_call ws scratch p body m number output answer
   unfolding write_call
-  write-unlisted h = rw (ne_eqb (length answer) 1 h)
+  write-unlisted why e h = rw (ne_eqb (length answer) 1 h, e)
 
   pub write-listed : (r : WriteAnswer) (vs s o l : List ℕ) → length answer ≡ 1
       → record { answer = r; state = vs; scratch = s; output = o } ≡ write ws scratch p body m number output → l ≡ r.bytes ∷ []

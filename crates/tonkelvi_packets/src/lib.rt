@@ -24,10 +24,10 @@ pub fn measure(
         answer.old }
 {
     if answer.len() != 2 {
-        return Refusal::LIST;
+        return u32::from(Refusal::List);
     }
     let r = t2_measure::measure(state, scratch, counts, lengths, marks, Markers { sop, eph });
-    tonkelvi_answers::put_two(answer, r.header, r.body);
+    lists::copy(&[r.header, r.body], answer);
     r.refusal
 }
 
@@ -57,7 +57,7 @@ pub fn write(
         (record { sop = sop; eph = eph }) number output.old answer.old }
 {
     if answer.len() != 1 {
-        return Refusal::LIST;
+        return u32::from(Refusal::List);
     }
     let r = t2_write::write(
         state,
@@ -70,6 +70,6 @@ pub fn write(
         number,
         output,
     );
-    tonkelvi_answers::put_one(answer, r.bytes);
+    lists::copy(&[r.bytes], answer);
     r.refusal
 }

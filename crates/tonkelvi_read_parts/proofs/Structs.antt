@@ -173,11 +173,11 @@ module _ (ws scratch : List ℕ) (m : Markers) (src reports : List ℕ) where
 -- ---- the read on the work list, with its answer words
 
 module _ (ws scratch : List ℕ) (m : Markers) (src reports work : List ℕ) (room : ℕ) (answer : List ℕ) where
-  pub read-unlisted : length answer ≢ 6
-      → record { result = read_result as_words ws scratch reports work (refused_answer 3); answer = answer }
+  pub read-unlisted : (r : ReadAnswer) → r ≡ refused_answer 3 → length answer ≢ 6
+      → record { result = read_result as_words ws scratch reports work r; answer = answer }
       ≡ numbers_call ws scratch m src reports work room answer
   unfolding numbers_call
-  read-unlisted h = rw (ne_eqb (length answer) 6 h)
+  read-unlisted r e h = rw (ne_eqb (length answer) 6 h, e)
 
   pub read-listed : (r : ReadAnswer) (vs s p q l : List ℕ) → length answer ≡ 6 → read_result as_words vs s p q r
       ≡ read_numbers ws scratch m src reports work room → l ≡ read_words r

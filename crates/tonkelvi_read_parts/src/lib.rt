@@ -28,26 +28,18 @@ pub fn read_words(
         reports.old work.old room answer.old }
 {
     if answer.len() != 6 {
-        return ReadAnswer {
-            refusal: Refusal::LIST,
-            present: 0,
-            taken: 0,
-            segments: 0,
-            sop: 0,
-            eph: 0,
-            past: 0,
-        };
+        return ReadAnswer::refused(Refusal::List);
     }
     let markers = Markers { sop, eph };
     let r = t2_read_numbers::read_numbers(state, scratch, src, markers, reports, work, room);
-    tonkelvi_answers::put_six(
-        answer,
-        r.present as u64,
+    let words = [
+        u64::from(r.present),
         r.taken,
         r.segments,
-        r.sop as u64,
-        r.eph as u64,
+        u64::from(r.sop),
+        u64::from(r.eph),
         r.past,
-    );
+    ];
+    lists::copy(&words, answer);
     r
 }

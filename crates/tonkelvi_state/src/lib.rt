@@ -29,15 +29,15 @@ pub fn describe(state: &[u32], answer: &mut [u64]) -> u32
     ensures { record { refusal = result; answer = answer.new } ≡ describe_call state.now answer.old }
 {
     if answer.len() != 3 {
-        return Refusal::LIST;
+        return u32::from(Refusal::List);
     }
     if !any_state(state) {
-        tonkelvi_answers::put_three(answer, 0, 0, 0);
-        return Refusal::STATE;
+        lists::copy(&[0, 0, 0], answer);
+        return u32::from(Refusal::State);
     }
     let role = tcd_first_words::word(state, 0) as u64;
     let layer = tcd_first_words::word(state, 3) as u64;
     let blocks = num_blocks(state) as u64;
-    tonkelvi_answers::put_three(answer, role, layer, blocks);
+    lists::copy(&[role, layer, blocks], answer);
     0
 }

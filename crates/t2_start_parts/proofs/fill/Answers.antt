@@ -5,7 +5,7 @@ use Prim.Native.Nat.{ℕ}
 use lib.ListN.{length, take}
 use lib.Seq.{sets}
 use Rattle.t800.specs.State.{state_length}
-use Rattle.t800.specs.Start.{band_words, fresh_bands}
+use Rattle.t800.specs.Start.{band_words, fresh_bands, fresh_state}
 use Rattle.t800_laws.proofs.Laws.Layout.{end_after}
 use Rattle.t800_laws.proofs.Laws.Accepted.{all_given}
 use Rattle.t2_start_parts.proofs.Laws.FreshParts.{state_set}
@@ -37,5 +37,6 @@ returns c =
     ∙ ap (λ (z : List ℕ). sets z 13 (fresh_bands bs)) c.put_bands.ensures
     ∙ ap (λ (z : List ℕ). sets (sets z 4 (band_words bs 3)) 13 (fresh_bands bs))
     c.first_words.ensures
-    ∙ state_set s.args.state.now s.args.role s.args.count s.args.style bs
+    ∙ state_set s.args.state.now s.args.role s.args.count c.from.result bs
     (all_given s.args.count s.args.bands (omega (arith, s.requires.0))) s.requires.2
+    ∙ ap (λ (k : ℕ). fresh_state s.args.role k bs) c.from.ensures

@@ -1,7 +1,7 @@
 use native.Mathlib.Omega.{arith}
 use mathlib.Core.Path.{◌≡◌, refl, ap, ◌∙◌}
 use mathlib.Core.List.{List}
-use Prim.Native.Nat.{ℕ, ◌+◌, ◌-◌}
+use Prim.Native.Nat.{ℕ, ◌+◌, ◌-◌, ◌*◌}
 use lib.ListN.{take, drop}
 use lib.Seq.{sets}
 use Rattle.t800.specs.Start.{band_words}
@@ -9,40 +9,28 @@ use Rattle.t2_start_parts.proofs.Laws.FreshParts.{put_turn}
 use Rattle.t2_start_parts.proofs.put_bands.Goals as goal
 
 pub loop-i-init : goal.loop-i-init
-loop-i-init c = (omega arith, omega arith, refl, refl)
-
-pub used_band-band-requires : goal.used_band-band-requires
-used_band-band-requires c = c.requires.0
+loop-i-init c = (refl, refl)
 
 pub put_band-requires : goal.put_band-requires
-put_band-requires c = omega (arith, c.requires.1, c.loop-i.invariant.2)
-
-pub overflow_add-at : goal.overflow_add-at
-overflow_add-at c = omega (arith, c.loop-i.invariant.1)
+put_band-requires c = omega (arith, c.requires.1, c.loop-i.invariant.0)
 
 pub loop-i-preserved : goal.loop-i-preserved
 loop-i-preserved c =
     let s = c.args in
     let l = c.loop-i in
-    let rest : List ℕ = band_words (drop (l.i + 1) (take s.n s.bands)) (3 - (l.i + 1)) in (
-      omega arith,
-      omega arith,
-      c.put_band.auto.state ∙ l.invariant.2,
-      ap (λ (z : List ℕ). sets z (l.at + 3) rest) c.put_band.ensures
-          ∙ put_turn l.state (take s.n s.bands) l.i l.at _ (omega arith)
+    let rest : List ℕ = band_words (drop (l.i + 1) (take s.n s.bands)) (3 - (l.i + 1)) in
+    let next : 4 + 3 * (l.i + 1) ≡ 4 + 3 * l.i + 3 = omega arith in (
+      c.put_band.auto.state ∙ l.invariant.0,
+      ap (λ (k : ℕ). sets c.put_band.new.state k rest) next
+          ∙ ap (λ (z : List ℕ). sets z (4 + 3 * l.i + 3) rest) c.put_band.ensures
+          ∙ put_turn l.state (take s.n s.bands) l.i (4 + 3 * l.i) _ (omega arith)
           c.used_band-band.ensures
-          ∙ l.invariant.3,
+          ∙ l.invariant.1,
     )
 
 pub shape_of-state : goal.shape_of-state
-shape_of-state c = c.loop-i.invariant.2
+shape_of-state c = c.loop-i.invariant.0
 
 pub returns : goal.returns
 unfolding band_words
-returns c = let l = c.loop-i in let e : l.i ≡ 3 = omega arith in rw e at l.invariant.3
-
-pub overflow_add-i : goal.overflow_add-i
-overflow_add-i c = omega arith
-
-pub loop-i-smaller : goal.loop-i-smaller
-loop-i-smaller c = omega arith
+returns c = let l = c.loop-i in let e : l.i ≡ 3 = omega arith in rw e at l.invariant.1

@@ -1,5 +1,6 @@
-use mathlib.Core.Path.{◌≡◌, ◌∙◌, sym}
+use mathlib.Core.Path.{◌≡◌, ◌∙◌, ap, sym}
 use lib.ListN.{length}
+use Rattle.t800.specs.Ranges.{bad_style}
 use Rattle.tcd_laws.proofs.Laws.Bands.{shape_not_refused}
 use Rattle.t2_start_parts.proofs.Laws.Checks.{gives_1, gives_2, gives_3, gives_4, gives_none}
 use borrow.Author.Rules.{rules}
@@ -10,13 +11,13 @@ returns-then-bad_shape c = let s = c.args in
     sym (gives_1 s.role s.count s.bands s.style s.planes.now s.state.now
     (sym c.bad_shape.ensures ∙ c.if-bad_shape.true))
 
-pub returns-then-refused : goal.returns-then-refused
-returns-then-refused c =
+pub returns-then-is_refused : goal.returns-then-is_refused
+returns-then-is_refused c =
     let s = c.args in
     let g : length s.bands ≡ 3 = search rules in
     sym (gives_2 s.role s.count s.bands s.style s.planes.now s.state.now g
     (sym c.bad_shape.ensures ∙ c.if-bad_shape.false)
-    (sym c.is_refused-refused.ensures ∙ c.if-refused.true))
+    (ap bad_style (sym c.from-bits.ensures) ∙ sym c.is_refused.ensures ∙ c.if-is_refused.true))
 
 pub wrong_list-requires : goal.wrong_list-requires
 wrong_list-requires c = let s = c.args in let h =
@@ -29,7 +30,7 @@ returns-then-wrong_list c =
     let g : length s.bands ≡ 3 = search rules in
     sym (gives_3 s.role s.count s.bands s.style s.planes.now s.state.now g
     (sym c.bad_shape.ensures ∙ c.if-bad_shape.false)
-    (sym c.is_refused-refused.ensures ∙ c.if-refused.false)
+    (ap bad_style (sym c.from-bits.ensures) ∙ sym c.is_refused.ensures ∙ c.if-is_refused.false)
     (sym c.wrong_list.ensures ∙ c.if-wrong_list.true))
 
 pub too_deep-requires : goal.too_deep-requires
@@ -45,7 +46,7 @@ returns-then-too_deep c =
     sym (gives_4 s.role s.count s.bands s.style s.planes.now s.state.now g
     (sym c.bad_shape.ensures
     ∙ c.if-bad_shape.false)
-    (sym c.is_refused-refused.ensures ∙ c.if-refused.false)
+    (ap bad_style (sym c.from-bits.ensures) ∙ sym c.is_refused.ensures ∙ c.if-is_refused.false)
     (sym c.wrong_list.ensures ∙ c.if-wrong_list.false)
     (sym c.too_deep.ensures ∙ c.if-too_deep.true))
 
@@ -56,6 +57,6 @@ returns c =
     sym (gives_none s.role s.count s.bands s.style s.planes.now s.state.now g
     (sym c.bad_shape.ensures
     ∙ c.if-bad_shape.false)
-    (sym c.is_refused-refused.ensures ∙ c.if-refused.false)
+    (ap bad_style (sym c.from-bits.ensures) ∙ sym c.is_refused.ensures ∙ c.if-is_refused.false)
     (sym c.wrong_list.ensures ∙ c.if-wrong_list.false)
     (sym c.too_deep.ensures ∙ c.if-too_deep.false))

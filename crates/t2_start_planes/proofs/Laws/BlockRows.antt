@@ -1,28 +1,37 @@
 -- The blocks of a band row by row: the block in row y, column x of a band whose words begin at `at` is `block_of at b (y * across + x)`, and
 -- its path is the one that the row's first nodes give.
 use mathlib.Core.Path.{◌≡◌, refl, sym, ap, ap₂, ◌∙◌, subst}
-use mathlib.Core.List.{List, [], ◌++◌}
+use mathlib.Core.List.{List, [], ◌∷◌, ◌++◌}
 use Prim.Native.Nat.{ℕ, ◌+◌, ◌-◌, ◌*◌, ◌≤◌, ◌<◌}
 use native.Mathlib.Nat.{mul-le-mul, le_refl, le_trans, le_of_eq, mul_comm}
+use native.Mathlib.Numerals.{add-one}
 use native.Mathlib.Omega.{arith}
 use lib.ListN.{length, get_or, take, drop}
+use lib.Seq.{drop-cons}
 use Rattle.t800.specs.declared.Band.{Band}
 use Rattle.t800.specs.declared.Level.{Level}
 use Rattle.t800.specs.TagTree.{levels, nodes, path_to_root}
 use Rattle.t800.specs.State.{blocks_in, band_nodes, band_length, blocks_from, end_of}
 use Rattle.t800_laws.proofs.Laws.Layout.{band_length_lem, end_after}
 use Rattle.tcd_laws.specs.Geometry.{no_band, padded}
-use Rattle.tcd_laws.proofs.Laws.Bands.{end_turn, blocks-split}
+use Rattle.tcd_laws.proofs.Laws.Bands.{blocks-split}
 use Rattle.tcd_laws.proofs.Laws.TreeLevels.{padded-front}
 use Rattle.tgt.specs.Path.{row_over, path_over, PathIn}
 use Rattle.tgt.proofs.Laws.Path.{TreeLevels, climb, path_climbs, path_in}
 use Rattle.t2_start_planes.specs.Rows.{ColumnsIn}
 
--- band i of the first n, the words of which begin at `at`, ends before the last of them does
-pub band_inside : (bs : List Band) (n i at size : ℕ) → n ≤ length bs → i < n → end_of at (drop i (take n bs)) ≡ size
-    → at + band_length (get_or bs i no_band) ≤ size
-band_inside bs n i at size h k e =
-    le_trans (end_after (at + band_length (get_or bs i no_band)) (drop (i + 1) (take n bs))) (le_of_eq (end_turn bs n i at h k ∙ e))
+-- the band at an index, and those after it
+module _ (bs : List Band) (i : ℕ) (h : i < length bs) where
+  pub band_then : drop i bs ≡ get_or bs i no_band ∷ drop (i + 1) bs
+  band_then = rw (add-one, drop-cons bs i no_band h)
+
+  pub band_ends : (at : ℕ) → end_of (at + band_length (get_or bs i no_band)) (drop (i + 1) bs) ≡ end_of at (drop i bs)
+  unfolding end_of
+  band_ends at = sym (ap (end_of at) band_then)
+
+  pub band_within : (at size : ℕ) → end_of at (drop i bs) ≡ size → at + band_length (get_or bs i no_band) ≤ size
+  band_within at size e =
+      le_trans (end_after (at + band_length (get_or bs i no_band)) (drop (i + 1) bs)) (le_of_eq (band_ends at ∙ e))
 
 module _ (at : ℕ) (b : Band) where
   -- row y, and the rows below it

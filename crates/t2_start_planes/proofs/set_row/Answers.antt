@@ -11,7 +11,7 @@ use Rattle.t2_start_planes.proofs.Laws.ZeroPlanes.{none_at, column_turn}
 use Rattle.t2_start_planes.proofs.set_row.Goals as goal
 
 pub loop-x-init : goal.loop-x-init
-loop-x-init c = (omega arith, refl, refl)
+loop-x-init c = (refl, refl)
 
 pub overflow_sub-zero : goal.overflow_sub-zero
 overflow_sub-zero c = let s = c in let l = c.loop-x in
@@ -21,37 +21,24 @@ pub opj_tgt_setvalue-requires : goal.opj_tgt_setvalue-requires
 opj_tgt_setvalue-requires c =
     let s = c in
     let l = c.loop-x in
-    subst (λ (k : ℕ). PathIn k s.args.base s.args.row.now s.args.depth l.x) (sym l.invariant.1)
+    subst (λ (k : ℕ). PathIn k s.args.base s.args.row.now s.args.depth l.x) (sym l.invariant.0)
     (s.requires.0 l.x (omega arith))
 
 pub loop-x-preserved : goal.loop-x-preserved
 loop-x-preserved c =
     let s = c.args in
     let l = c.loop-x in (
-      omega arith,
-      c.opj_tgt_setvalue.auto.words ∙ l.invariant.1,
+      c.opj_tgt_setvalue.auto.words ∙ l.invariant.0,
       ap (λ (z : List ℕ). set_row s.base s.row.now s.depth s.most (l.x + 1) (drop (l.x + 1) s.planes.now) z)
           c.opj_tgt_setvalue.ensures
           ∙ column_turn s.base s.row.now s.depth s.most l.x s.planes.now l.state (omega arith)
-          ∙ l.invariant.2,
+          ∙ l.invariant.1,
     )
 
 pub shape_of-state : goal.shape_of-state
-shape_of-state c = c.loop-x.invariant.1
+shape_of-state c = c.loop-x.invariant.0
 
 pub returns : goal.returns
 unfolding set_row
 returns c = let l = c.loop-x in let z =
-    drop_of_length-le c.args.planes.now {i = l.x} (omega arith) in rw z at l.invariant.2
-
-pub offset_bounds-planes-x : goal.offset_bounds-planes-x
-offset_bounds-planes-x c = omega arith
-
-pub bounds-planes-x : goal.bounds-planes-x
-bounds-planes-x c = omega arith
-
-pub overflow_add-x : goal.overflow_add-x
-overflow_add-x c = omega arith
-
-pub loop-x-smaller : goal.loop-x-smaller
-loop-x-smaller c = omega arith
+    drop_of_length-le c.args.planes.now {i = l.x} (omega arith) in rw z at l.invariant.1

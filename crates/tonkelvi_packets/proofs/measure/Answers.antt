@@ -6,7 +6,7 @@ pub returns-then-answer-ne2 : goal.returns-then-answer-ne2
 returns-then-answer-ne2 c =
     let a = c.args in
     measure-unlisted a.state.now a.scratch.now (contribution a.counts.now a.lengths.now a.marks.now)
-    (record { sop = a.sop; eph = a.eph }) a.answer.now c.if-answer-ne2.true
+    (record { sop = a.sop; eph = a.eph }) a.answer.now _ c.from.ensures c.if-answer-ne2.true
 
 pub returns : goal.returns
 returns c =
@@ -15,4 +15,4 @@ returns c =
     measure-listed a.state.now a.scratch.now (contribution a.counts.now a.lengths.now a.marks.now)
     (record { sop = a.sop; eph = a.eph }) a.answer.now
     f.result _ _ c.if-answer-ne2.false f.ensures
-    c.put_two.ensures
+    c.copy.ensures

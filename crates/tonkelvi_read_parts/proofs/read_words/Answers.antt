@@ -1,3 +1,5 @@
+use mathlib.Core.Path.{◌∙◌}
+use mathlib.Core.List.{[], ◌∷◌}
 use Rattle.tonkelvi_read_parts.proofs.Structs.{read-unlisted, read-listed}
 use Rattle.tonkelvi_read_parts.proofs.read_words.Goals as goal
 
@@ -5,7 +7,7 @@ pub returns-then-answer-ne6 : goal.returns-then-answer-ne6
 returns-then-answer-ne6 c =
     let a = c.args in
     read-unlisted a.state.now a.scratch.now (record { sop = a.sop; eph = a.eph }) a.src.now a.reports.now
-    a.work.now a.room a.answer.now c.if-answer-ne6.true
+    a.work.now a.room a.answer.now _ c.refused.ensures c.if-answer-ne6.true
 
 pub returns : goal.returns
 returns c =
@@ -14,4 +16,6 @@ returns c =
     read-listed a.state.now a.scratch.now (record { sop = a.sop; eph = a.eph }) a.src.now a.reports.now
     a.work.now a.room a.answer.now
     f.result _ _ _ _ _
-    c.if-answer-ne6.false f.ensures c.put_six.ensures
+    c.if-answer-ne6.false f.ensures
+    (c.copy.ensures
+    ∙ (λ i. c.from.ensures i ∷ f.result.taken ∷ f.result.segments ∷ c.from-2.ensures i ∷ c.from-3.ensures i ∷ f.result.past ∷ []))

@@ -34,15 +34,15 @@ module _ (ws : List ℕ) where
       by_role false p e = of reader e
 
   module _ (answer : List ℕ) where
-    pub describe_unlisted : length answer ≢ 3 → record { refusal = 3; answer = answer } ≡ describe_call ws answer
+    pub describe_unlisted : (why : ℕ) → why ≡ 3 → length answer ≢ 3 → record { refusal = why; answer = answer } ≡ describe_call ws answer
     unfolding describe_call
-    describe_unlisted h = rw (ne_eqb (length answer) 3 h)
+    describe_unlisted why e h = rw (ne_eqb (length answer) 3 h, e)
 
     module _ (three : length answer ≡ 3) where
-      pub out_of_range : (l : List ℕ) → any_state ws ≡ false → l ≡ 0 ∷ 0 ∷ 0 ∷ [] → record { refusal = 5; answer = l }
-          ≡ describe_call ws answer
+      pub out_of_range : (l : List ℕ) (why : ℕ) → any_state ws ≡ false → l ≡ 0 ∷ 0 ∷ 0 ∷ [] → why ≡ 5
+          → record { refusal = why; answer = l } ≡ describe_call ws answer
       unfolding describe_call
-      out_of_range l e g = rw (eq-eqb (length answer) 3 three, e, g)
+      out_of_range l why e g f = rw (eq-eqb (length answer) 3 three, e, g, f)
 
       pub described : (l : List ℕ) (r y k : ℕ) → any_state ws ≡ true → r ≡ role ws → y ≡ layer ws → k ≡ length (blocks (bands ws)) → l
           ≡ r ∷ y ∷ k ∷ [] → record { refusal = 0; answer = l } ≡ describe_call ws answer
