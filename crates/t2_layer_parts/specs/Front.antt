@@ -1,8 +1,10 @@
 -- The precinct in front of a layer's lists (t800's Layer.antt), in the parts that the code has.
-use Rattle.std.specs.Prelude.{◌≡◌, cond, [], ◌++◌, ℕ, min, length, take, drop, eqb, ltb}
+use Rattle.std.specs.Prelude.{◌≡◌, cond, [], ◌++◌, ℕ, min, length, take, drop, eqb, ltb, Result, Ok, Err}
 use Rattle.t800.specs.declared.Markers.{Markers}
+use Rattle.t800.specs.declared.Refusal.{Refusal}
 use Rattle.t800.specs.declared.WriteAnswer.{WriteAnswer}
 use Rattle.t800.specs.Base.{Words, Bytes, sum}
+use Rattle.t800.specs.RefusalNumbers.{number_of}
 use Rattle.t800.specs.Refusals.{body_refusal}
 use Rattle.t800.specs.WriteHeader.{Contribution, contribution}
 use Rattle.t800.specs.Layer.{Rest, Asks, asks, in_front, single, wrote}
@@ -18,6 +20,10 @@ lists_of n counts lengths marks = record {
   marks = min (sum (take n counts)) marks;
   passes = sum (take n counts);
 }
+
+-- what it asks, as the code has it
+abbrev pub asks_of : Front → Asks
+asks_of f = record { words = f.words; blocks = f.blocks; passes = f.passes; bytes = f.bytes }
 
 -- what it asks; scratch, bodies and output have no part in that
 abbrev pub asked : (states : Words) → Contribution → Asks
@@ -37,10 +43,10 @@ front_refusal states p bodies =
     let why = measure_refusal_for (state_of states p) (length (state_of states p)) (part_of states p) in
     cond (eqb why 0) (cond (ltb bodies (asked states p).bytes) body_refusal 0) why
 
-pub record FrontIs (states : Words) (p : Contribution) (bodies : ℕ) (r : Front) : Type 0 where
-  pub refusal : r.refusal ≡ front_refusal states p bodies
-  pub sizes : r.refusal ≡ 0
-      → record { words = r.words; blocks = r.blocks; passes = r.passes; bytes = r.bytes } ≡ asked states p
+-- that, or what it asks
+abbrev pub FrontIs : (states : Words) → Contribution → (bodies : ℕ) → Result Front Refusal → Type 0
+FrontIs states p bodies (Ok f) = (0 ≡ front_refusal states p bodies) × (asks_of f ≡ asked states p)
+FrontIs states p bodies (Err why) = number_of why ≡ front_refusal states p bodies
 
 -- ---- its packet
 
@@ -55,11 +61,15 @@ pub record PutInFront (l : Rest) (m : Markers) (number : ℕ) (r : WriteAnswer) 
       → scratch_then ≡ (wrote (single m number (in_front l))).scratch ++ drop (asks l).words l.scratch
   pub output-if : r.refusal ≡ 0 → output_then ≡ (wrote (single m number (in_front l))).output
 
--- Written with the answer r, but that the state isn't settled.
-pub record WrittenInFront (l : Rest) (m : Markers) (number : ℕ) (r : Front) (scratch_then : Words) (output_then : Bytes) : Type 0 where
-  pub refusal : r.refusal ≡ (wrote (single m number (in_front l))).answer.refusal
-  pub sizes : r.refusal ≡ 0 → record { words = r.words; blocks = r.blocks; passes = r.passes; bytes = r.bytes } ≡ asks l
-  pub end : r.refusal ≡ 0 → r.end ≡ (wrote (single m number (in_front l))).answer.bytes
-  pub scratch_if : r.refusal ≡ 0
-      → scratch_then ≡ (wrote (single m number (in_front l))).scratch ++ drop (asks l).words l.scratch
-  pub output-if : r.refusal ≡ 0 → output_then ≡ (wrote (single m number (in_front l))).output
+-- Written with the front f and so many bytes, but that the state isn't settled.
+pub record Written (l : Rest) (m : Markers) (number : ℕ) (f : Front) (packet : ℕ) (scratch_then : Words) (output_then : Bytes) : Type 0 where
+  pub accepted : 0 ≡ (wrote (single m number (in_front l))).answer.refusal
+  pub sizes : asks_of f ≡ asks l
+  pub bytes : packet ≡ (wrote (single m number (in_front l))).answer.bytes
+  pub scratch : scratch_then ≡ (wrote (single m number (in_front l))).scratch ++ drop (asks l).words l.scratch
+  pub output : output_then ≡ (wrote (single m number (in_front l))).output
+
+-- that, or its refusal
+abbrev pub WrittenInFront : Rest → Markers → (number : ℕ) → Result (Front × ℕ) Refusal → (scratch_then : Words) → (output_then : Bytes) → Type 0
+WrittenInFront l m number (Ok w) scratch_then output_then = Written l m number w.0 w.1 scratch_then output_then
+WrittenInFront l m number (Err why) scratch_then output_then = number_of why ≡ (wrote (single m number (in_front l))).answer.refusal

@@ -8,16 +8,6 @@ ghost use Rattle.t800.specs.Layer.{write_layer};
 
 use t800::{LayerAnswer, Markers, Refusal};
 
-fn no_bytes(refusal: u32) -> LayerAnswer
-    ensures { result ≡ record { refusal = refusal; place = 0; bytes = 0 } }
-{
-    LayerAnswer {
-        refusal,
-        place: 0,
-        bytes: 0,
-    }
-}
-
 fn none_of_it(scratch: &mut [u32], output: &mut [u8], answer: LayerAnswer) -> LayerAnswer
     ensures { (result ≡ answer) × (scratch.new ≡ wiped scratch.old)
         × (output.new ≡ wiped output.old) }
@@ -49,13 +39,17 @@ pub fn write_layer(
         }) }
 {
     if 16 < numbers.len() {
-        return no_bytes(Refusal::PRECINCTS);
+        return LayerAnswer::refused(Refusal::Precincts, 0);
     }
-    if numbers.len() == 0 {
-        return no_bytes(0);
+    if numbers.is_empty() {
+        return LayerAnswer {
+            refusal: 0,
+            place: 0,
+            bytes: 0,
+        };
     }
     if scratch.len() != states.len() {
-        return none_of_it(scratch, output, no_bytes(Refusal::STATE));
+        return none_of_it(scratch, output, LayerAnswer::refused(Refusal::State, 0));
     }
     let r = t2_write_precincts::write_precincts(
         numbers, states, scratch, counts, lengths, marks, bodies, markers, output,

@@ -7,16 +7,6 @@ ghost use Rattle.t2_write_precincts.specs.Layer.{LayerWritten};
 
 use t800::{LayerAnswer, Markers};
 
-fn refused(refusal: u32, place: usize) -> LayerAnswer
-    ensures { result ≡ record { refusal = refusal; place = place; bytes = 0 } }
-{
-    LayerAnswer {
-        refusal,
-        place: place as u64,
-        bytes: 0,
-    }
-}
-
 // What is left in scratch and output with a refusal is for the caller to wipe.
 pub fn write_precincts(
     numbers: &[u32],
@@ -47,9 +37,8 @@ pub fn write_precincts(
     let mut pass: usize = 0;
     let mut byte: usize = 0;
     let mut end: usize = 0;
-    let mut i: usize = 0;
-    while i < last {
-        let front = t2_layer_parts::write_in_front(
+    for i in 0..last {
+        let (front, packet) = match t2_layer_parts::write_in_front(
             &states[word..],
             &mut scratch[word..],
             &counts[block..],
@@ -59,18 +48,17 @@ pub fn write_precincts(
             markers,
             numbers[i],
             &mut output[end..],
-        );
-        if front.refusal != 0 {
-            return refused(front.refusal, i);
-        }
+        ) {
+            Ok(written) => written,
+            Err(why) => return LayerAnswer::refused(why, i),
+        };
         words[i] = front.words;
         passes[i] = front.passes;
         word += front.words;
         block += front.blocks;
         pass += front.passes;
         byte += front.bytes;
-        end += front.end;
-        i += 1;
+        end += packet;
     }
     let a = t2_write::write(
         &mut states[word..],
@@ -84,7 +72,11 @@ pub fn write_precincts(
         &mut output[end..],
     );
     if a.refusal != 0 {
-        return refused(a.refusal, last);
+        return LayerAnswer {
+            refusal: a.refusal,
+            place: last as u64,
+            bytes: 0,
+        };
     }
     t2_settle_states::settle_states(scratch, states, &words, &passes, last);
     LayerAnswer {

@@ -1,9 +1,10 @@
 -- The precinct in front: its blocks, its parts as the code cuts them, and what turns it away.
+use Rattle.std.specs.Prelude.{Ok}
 use mathlib.Core.Path.{◌≡◌, refl, sym, ap, ◌∙◌, subst}
 use mathlib.Core.Logic.{◌≢◌}
 use mathlib.Core.Bool.{true, false, cond, ◌||◌}
 use mathlib.Core.List.{List, [], map}
-use Prim.Native.Nat.{ℕ, zero, suc, ◌+◌, ◌*◌, ◌-◌, ◌≤◌, ◌<◌, min}
+use Prim.Native.Nat.{ℕ, zero, suc, ◌+◌, ◌*◌, ◌≤◌, ◌<◌, min}
 use native.Mathlib.Omega.{arith}
 use lib.ListN.{length, get_or, take, length-take}
 use lib.Seq.{get_or-take, take_all}
@@ -25,7 +26,6 @@ use Rattle.tcd_state.specs.Front.{words_in_front}
 use Rattle.tcd_state.proofs.Laws.Front.{thirteen_asked, valid_in_front}
 use Rattle.t2_refusal_laws.specs.Refusals.{measure_refusal_for}
 use Rattle.t2_refusal_laws.proofs.Laws.NotRefused.{NotRefused, not_refused_for}
-use Rattle.t2_layer_parts.specs.declared.Front.{Front}
 use Rattle.t2_layer_parts.specs.declared.Lists.{Lists}
 use Rattle.t2_layer_parts.specs.Front.{lists_of, asked, state_of, part_of, front_refusal, FrontIs}
 
@@ -69,26 +69,26 @@ module _ (ws : List ℕ) (h : 1 ≤ words_in_front writer ws) where
 
 -- ---- the parts, as the code cuts them
 
-pub take-least : (n : ℕ) (l : List ℕ) → take (min n (length l) - 0) l ≡ take n l
+pub take-least : (n : ℕ) (l : List ℕ) → take (min n (length l)) l ≡ take n l
 take-least n l =
-    on-le n (length l) (λ h. let e : min n (length l) - 0 ≡ n = omega arith in ap (λ (k : ℕ). take k l) e)
-    (λ h. take_all (min n (length l) - 0) l (omega arith) ∙ sym (take_all n l (omega arith)))
+    on-le n (length l) (λ h. let e : min n (length l) ≡ n = omega arith in ap (λ (k : ℕ). take k l) e)
+    (λ h. take_all (min n (length l)) l (omega arith) ∙ sym (take_all n l (omega arith)))
 
-pub take_words : (ws : List ℕ) (n : ℕ) (p : Contribution) → n ≡ words_in_front writer ws → 1 ≤ n → take (n - 0) ws ≡ state_of ws p
+pub take_words : (ws : List ℕ) (n : ℕ) (p : Contribution) → n ≡ words_in_front writer ws → 1 ≤ n → take n ws ≡ state_of ws p
 unfolding asks
 take_words ws n p e h =
     let v = valid_in_front writer ws (omega (arith, e)) in
-    let m : n - 0 ≡ state_length (bands ws) = omega (arith, e, v.words_are) in
+    let m : n ≡ state_length (bands ws) = omega (arith, e, v.words_are) in
     ap (λ (k : ℕ). take k ws) m
 
 pub lists_cut : (ws counts : List ℕ) (lengths marks n b passes l m : ℕ) → n ≡ length (blocks (bands ws)) → b ≡ min n (length counts)
-    → passes ≡ sum (take (b - 0) counts) → l ≡ min passes lengths → m ≡ min passes marks
+    → passes ≡ sum (take b counts) → l ≡ min passes lengths → m ≡ min passes marks
     → ◌≡◌ {A = Lists} (record { counts = b; lengths = l; marks = m; passes = passes })
     (lists_of (length (blocks (bands ws))) counts lengths marks)
 lists_cut ws counts lengths marks n b passes l m en eb ep el em =
     let blocked : b ≡ min (length (blocks (bands ws))) (length counts) = omega (arith, en, eb) in
     let summed : passes ≡ sum (take (length (blocks (bands ws))) counts) =
-    ep ∙ ap (λ (z : ℕ). sum (take (z - 0) counts)) blocked ∙ ap sum (take-least (length (blocks (bands ws))) counts) in
+    ep ∙ ap (λ (z : ℕ). sum (take z counts)) blocked ∙ ap sum (take-least (length (blocks (bands ws))) counts) in
     λ i. record {
       counts = blocked i;
       lengths = (el ∙ ap (λ (z : ℕ). min z lengths) summed) i;
@@ -97,21 +97,21 @@ lists_cut ws counts lengths marks n b passes l m en eb ep el em =
     }
 
 pub counts_add_up : (ws counts : List ℕ) (lengths marks : ℕ) (k : Lists) → k ≡ lists_of (length (blocks (bands ws))) counts lengths marks
-    → k.passes ≡ sum (take (k.counts - 0) counts)
+    → k.passes ≡ sum (take k.counts counts)
 counts_add_up ws counts lengths marks k e =
     ap (λ (z : Lists). z.passes) e
     ∙ ap sum (sym (take-least (length (blocks (bands ws))) counts))
-    ∙ ap (λ (z : Lists). sum (take (z.counts - 0) counts)) (sym e)
+    ∙ ap (λ (z : Lists). sum (take z.counts counts)) (sym e)
 
 module _ (ws : List ℕ) (p : Contribution) (k : Lists)
     (e : k ≡ lists_of (length (blocks (bands ws))) p.counts (length p.lengths) (length p.marks)) where
-  pub part_is : contribution (take (k.counts - 0) p.counts) (take (k.lengths - 0) p.lengths) (take (k.marks - 0) p.marks)
+  pub part_is : contribution (take k.counts p.counts) (take k.lengths p.lengths) (take k.marks p.marks)
       ≡ part_of ws p
   unfolding asks
   part_is =
       let n : ℕ = length (blocks (bands ws)) in
       let passes : ℕ = sum (take n p.counts) in
-      (λ i. contribution (take ((e i).counts - 0) p.counts) (take ((e i).lengths - 0) p.lengths) (take ((e i).marks - 0) p.marks))
+      (λ i. contribution (take (e i).counts p.counts) (take (e i).lengths p.lengths) (take (e i).marks p.marks))
       ∙ (λ i. contribution (take-least n p.counts i) (take-least passes p.lengths i) (take-least passes p.marks i))
 
 -- ---- what turns it away
@@ -140,15 +140,7 @@ module _ (ws : List ℕ) (p : Contribution) (bodies : ℕ) where
     pub front-accepted : why ≡ 0 → (asked ws p).bytes ≤ bodies → 0 ≡ front_refusal ws p bodies
     front-accepted z h = sym (if-false (ltb bodies (asked ws p).bytes) 10 0 (le-ltb bodies (asked ws p).bytes h)) ∙ by_why 0 z
 
--- a refusal has no sizes
-pub refused-front : (ws : List ℕ) (p : Contribution) (bodies : ℕ) (r : Front) (why : ℕ)
-    → r ≡ record { refusal = why; words = 0; blocks = 0; passes = 0; bytes = 0; end = 0 } → why ≢ 0 → why ≡ front_refusal ws p bodies
-    → FrontIs ws p bodies r
-refused-front ws p bodies r why e h f =
-    let w : r.refusal ≡ why = ap (λ (k : Front). k.refusal) e in
-    record { refusal = w ∙ f; sizes = λ z. absurd (h (sym w ∙ z)) }
-
-pub valid_part : (ws : List ℕ) (n : ℕ) → n ≡ words_in_front writer ws → 1 ≤ n → valid_state writer (take (n - 0) ws) (length (take (n - 0) ws))
+pub valid_part : (ws : List ℕ) (n : ℕ) → n ≡ words_in_front writer ws → 1 ≤ n → valid_state writer (take n ws) (length (take n ws))
     ≡ true
 unfolding asks
 valid_part ws n e h =
@@ -158,8 +150,8 @@ valid_part ws n e h =
 -- the parts that were lent, and what was found of them
 module _ (ws : List ℕ) (p : Contribution) (n : ℕ) (k : Lists) (why : ℕ) (words : n ≡ words_in_front writer ws) (some : 1 ≤ n)
     (lists : k ≡ lists_of (length (blocks (bands ws))) p.counts (length p.lengths) (length p.marks))
-    (is : why ≡ measure_refusal_for (take (n - 0) ws) (length (take (n - 0) ws))
-    (contribution (take (k.counts - 0) p.counts) (take (k.lengths - 0) p.lengths) (take (k.marks - 0) p.marks))) where
+    (is : why ≡ measure_refusal_for (take n ws) (length (take n ws))
+    (contribution (take k.counts p.counts) (take k.lengths p.lengths) (take k.marks p.marks))) where
   pub why_is : why ≡ measure_refusal_for (state_of ws p) (length (state_of ws p)) (part_of ws p)
   why_is = is ∙ (λ i. measure_refusal_for (take_words ws n p words some i) (length (take_words ws n p words some i)) (part_is ws p k lists i))
 
@@ -167,24 +159,21 @@ module _ (ws : List ℕ) (p : Contribution) (n : ℕ) (k : Lists) (why : ℕ) (w
     not_refused : NotRefused (state_of ws p) (length (state_of ws p)) (part_of ws p)
     not_refused = not_refused_for (state_of ws p) (length (state_of ws p)) (part_of ws p) (sym why_is ∙ z)
 
-    pub lengths_few : length (take (k.lengths - 0) p.lengths) ≤ 4294967296
+    pub lengths_few : length (take k.lengths p.lengths) ≤ 4294967296
     lengths_few =
         let r = not_refused in
         omega (arith, ap (λ (q : Contribution). length q.lengths) (part_is ws p k lists), r.lengths_are_lem, r.passes_are)
 
-    module _ (bodies bytes : ℕ) (sums : bytes ≡ sum (take (k.lengths - 0) p.lengths)) where
+    module _ (bodies bytes : ℕ) (sums : bytes ≡ sum (take k.lengths p.lengths)) where
       bytes_asked : bytes ≡ (asked ws p).bytes
       unfolding asks
       bytes_asked = sums ∙ ap (λ (q : Contribution). sum q.lengths) (part_is ws p k lists)
 
-      pub body_refused_front : (r : Front) → bodies < bytes
-          → r ≡ record { refusal = 10; words = 0; blocks = 0; passes = 0; bytes = 0; end = 0 } → FrontIs ws p bodies r
-      body_refused_front r h e =
-          refused-front ws p bodies r 10 e (omega arith)
-          (front-body_refused ws p bodies why why_is z (omega (arith, h, bytes_asked)))
+      pub body_refused_front : bodies < bytes → 10 ≡ front_refusal ws p bodies
+      body_refused_front h = front-body_refused ws p bodies why why_is z (omega (arith, h, bytes_asked))
 
       pub accepted_front : bytes ≤ bodies
-          → FrontIs ws p bodies (record { refusal = 0; words = n; blocks = k.counts; passes = k.lengths; bytes = bytes; end = 0 })
+          → FrontIs ws p bodies (Ok (record { words = n; blocks = k.counts; passes = k.lengths; bytes = bytes }))
       unfolding asks
       accepted_front h =
           let v = valid_in_front writer ws (omega (arith, words)) in
@@ -200,8 +189,7 @@ module _ (ws : List ℕ) (p : Contribution) (n : ℕ) (k : Lists) (why : ℕ) (w
             r.counts_are ∙ ap (λ (bs : List Band). length (blocks bs)) same,
           ) in
           let passed : k.lengths ≡ passes =
-          omega (arith, ap (λ (q : Lists). q.lengths) lists, length-take passes p.lengths, r.lengths_are_lem) in
-          record {
-            refusal = front-accepted ws p bodies why why_is z (omega (arith, h, bytes_asked));
-            sizes = λ e i. record { words = (words ∙ v.words_are) i; blocks = blocked i; passes = passed i; bytes = bytes_asked i };
-          }
+          omega (arith, ap (λ (q : Lists). q.lengths) lists, length-take passes p.lengths, r.lengths_are_lem) in (
+            front-accepted ws p bodies why why_is z (omega (arith, h, bytes_asked)),
+            λ i. record { words = (words ∙ v.words_are) i; blocks = blocked i; passes = passed i; bytes = bytes_asked i },
+          )

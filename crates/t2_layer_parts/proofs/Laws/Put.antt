@@ -1,15 +1,18 @@
 -- The packet of the precinct in front: what of the lists it has, and that it is the single call's.
+use Rattle.std.specs.Prelude.{Result, Ok, Err}
 use mathlib.Core.Path.{◌≡◌, refl, sym, ap, ◌∙◌, subst}
 use mathlib.Core.Logic.{◌≢◌}
 use mathlib.Core.List.{List, ◌++◌}
-use Prim.Native.Nat.{ℕ, ◌-◌, ◌≤◌, min}
+use Prim.Native.Nat.{ℕ, ◌≤◌, min}
 use native.Mathlib.Omega.{arith}
 use lib.ListN.{length, take, drop, length-take}
 use lib.Dec.{ltb}
 use borrow.Author.Tests.{ltb-false}
 use Rattle.t800.specs.declared.Band.{Band}
 use Rattle.t800.specs.declared.Markers.{Markers}
+use Rattle.t800.specs.declared.Refusal.{Refusal}
 use Rattle.t800.specs.declared.WriteAnswer.{WriteAnswer}
+use Rattle.t800.specs.RefusalNumbers.{number_of}
 use Rattle.t800.specs.Base.{sum, wiped}
 use Rattle.t800.specs.State.{writer, bands, blocks, state_length}
 use Rattle.t800.specs.WriteHeader.{Contribution, contribution}
@@ -21,7 +24,8 @@ use Rattle.tcd_laws.proofs.Laws.ValidStates.{valid_state_lem}
 use Rattle.tcd_state.proofs.Laws.Front.{thirteen_asked}
 use Rattle.t2_refusal_laws.specs.Refusals.{measure_refusal_for}
 use Rattle.t2_refusal_laws.proofs.Laws.NotRefused.{NotRefused, not_refused_for}
-use Rattle.t2_put_packet.specs.Put.{PacketPut}
+use Rattle.t2_refusal_laws.proofs.Laws.Numbers.{number-not_0}
+use Rattle.t2_put_packet.specs.Put.{PacketPut, answer_of}
 use Rattle.t2_write.proofs.Laws.Written.{write-refused, write-body_refused, write-without_room, write_done}
 use Rattle.t2_layer_parts.specs.declared.Front.{Front}
 use Rattle.t2_layer_parts.specs.Front.{asked, state_of, part_of, front_refusal, FrontIs, rest, PutInFront, WrittenInFront}
@@ -156,99 +160,90 @@ module _ (ws scratch : List ℕ) (p : Contribution) (bodies : List ℕ) (m : Mar
 
 -- ---- with the sizes that the code has
 
-module _ (ws : List ℕ) (p : Contribution) (bodies : ℕ) (f : Front) (is : FrontIs ws p bodies f) (z : f.refusal ≡ 0) where
+module _ (ws : List ℕ) (p : Contribution) (bodies : ℕ) (f : Front) (is : FrontIs ws p bodies (Ok f)) where
   pub none_refused : front_refusal ws p bodies ≡ 0
-  none_refused = sym is.refusal ∙ z
+  none_refused = sym is.0
 
   pub words_asked : f.words ≡ (asked ws p).words
-  words_asked = ap (λ (a : Asks). a.words) (is.sizes z)
+  words_asked = ap (λ (a : Asks). a.words) is.1
 
   pub blocks-asked : f.blocks ≡ (asked ws p).blocks
-  blocks-asked = ap (λ (a : Asks). a.blocks) (is.sizes z)
+  blocks-asked = ap (λ (a : Asks). a.blocks) is.1
 
   pub passes_asked : f.passes ≡ (asked ws p).passes
-  passes_asked = ap (λ (a : Asks). a.passes) (is.sizes z)
+  passes_asked = ap (λ (a : Asks). a.passes) is.1
 
   pub bytes_asked : f.bytes ≡ (asked ws p).bytes
-  bytes_asked = ap (λ (a : Asks). a.bytes) (is.sizes z)
+  bytes_asked = ap (λ (a : Asks). a.bytes) is.1
 
   -- a part from the front on, as the code writes it
-  cut : (n k : ℕ) (l : List ℕ) → n ≡ k → take (n - 0) l ≡ take k l
-  cut n k l e = let m : n - 0 ≡ k = omega (arith, e) in ap (λ (i : ℕ). take i l) m
+  cut : (n k : ℕ) (l : List ℕ) → n ≡ k → take n l ≡ take k l
+  cut n k l e = ap (λ (i : ℕ). take i l) e
 
-  pub state_cut : take (f.words - 0) ws ≡ state_of ws p
+  pub state_cut : take f.words ws ≡ state_of ws p
   state_cut = cut f.words (asked ws p).words ws words_asked
 
-  pub scratch_cut : (scratch : List ℕ) → take (f.words - 0) scratch ≡ take (asked ws p).words scratch
+  pub scratch_cut : (scratch : List ℕ) → take f.words scratch ≡ take (asked ws p).words scratch
   scratch_cut scratch = cut f.words (asked ws p).words scratch words_asked
 
-  pub part_cut : contribution (take (f.blocks - 0) p.counts) (take (f.passes - 0) p.lengths) (take (f.passes - 0) p.marks)
+  pub part_cut : contribution (take f.blocks p.counts) (take f.passes p.lengths) (take f.passes p.marks)
       ≡ part_of ws p
   part_cut = λ i. contribution (cut f.blocks (asked ws p).blocks p.counts blocks-asked i)
       (cut f.passes (asked ws p).passes p.lengths passes_asked i) (cut f.passes (asked ws p).passes p.marks passes_asked i)
 
-  pub body_cut : (body : List ℕ) → take (f.bytes - 0) body ≡ take (asked ws p).bytes body
+  pub body_cut : (body : List ℕ) → take f.bytes body ≡ take (asked ws p).bytes body
   body_cut body = cut f.bytes (asked ws p).bytes body bytes_asked
 
   pub parts_accepted : (scratch : List ℕ) → length scratch ≡ length ws
-      → measure_refusal_for (take (f.words - 0) ws) (length (take (f.words - 0) scratch))
-      (contribution (take (f.blocks - 0) p.counts) (take (f.passes - 0) p.lengths) (take (f.passes - 0) p.marks)) ≡ 0
+      → measure_refusal_for (take f.words ws) (length (take f.words scratch))
+      (contribution (take f.blocks p.counts) (take f.passes p.lengths) (take f.passes p.marks)) ≡ 0
   parts_accepted scratch l =
       (λ i. measure_refusal_for (state_cut i) (length (scratch_cut scratch i)) (part_cut i))
       ∙ ap (λ (n : ℕ). measure_refusal_for (state_of ws p) n (part_of ws p))
       (length-take (asked ws p).words scratch ∙ ap (min (asked ws p).words) l ∙ sym (length-take (asked ws p).words ws))
       ∙ none_of_measuring ws p bodies none_refused
 
-module _ (ws : List ℕ) (p : Contribution) (bodies : List ℕ) (f : Front) (is : FrontIs ws p (length bodies) f) (z : f.refusal ≡ 0)
+module _ (ws : List ℕ) (p : Contribution) (bodies : List ℕ) (f : Front) (is : FrontIs ws p (length bodies) (Ok f))
     (scratch : List ℕ) (l : length scratch ≡ length ws) (m : Markers) (number : ℕ) (output : List ℕ) where
   pub put_parts : (r : WriteAnswer) (vs os : List ℕ)
-      → PacketPut (take (f.words - 0) ws)
-      (contribution (take (f.blocks - 0) p.counts) (take (f.passes - 0) p.lengths) (take (f.passes - 0) p.marks))
-      (take (f.bytes - 0) bodies) m number output r vs os
-      → length vs ≡ length (take (f.words - 0) scratch) → length os ≡ length output
-      → PutInFront (rest ws scratch p bodies output) m number r (vs ++ drop (f.words - 0) scratch) os
+      → PacketPut (take f.words ws)
+      (contribution (take f.blocks p.counts) (take f.passes p.lengths) (take f.passes p.marks))
+      (take f.bytes bodies) m number output r vs os
+      → length vs ≡ length (take f.words scratch) → length os ≡ length output
+      → PutInFront (rest ws scratch p bodies output) m number r (vs ++ drop f.words scratch) os
   put_parts r vs os q v o =
-      let n : f.words - 0 ≡ (asked ws p).words = omega (arith, words_asked ws p (length bodies) f is z) in
-      subst (λ (k : ℕ). PutInFront (rest ws scratch p bodies output) m number r (vs ++ drop k scratch) os) (sym n)
-      (put_in_front_lem ws scratch p bodies m number output l (none_refused ws p (length bodies) f is z) r vs os
-      (subst (λ (b : List ℕ). PacketPut (state_of ws p) (part_of ws p) b m number output r vs os) (body_cut ws p (length bodies) f is z
+      subst (λ (k : ℕ). PutInFront (rest ws scratch p bodies output) m number r (vs ++ drop k scratch) os) (sym (words_asked ws p (length bodies) f is))
+      (put_in_front_lem ws scratch p bodies m number output l (none_refused ws p (length bodies) f is) r vs os
+      (subst (λ (b : List ℕ). PacketPut (state_of ws p) (part_of ws p) b m number output r vs os) (body_cut ws p (length bodies) f is
       bodies)
-      (subst (λ (x : Contribution). PacketPut (state_of ws p) x (take (f.bytes - 0) bodies) m number output r vs os)
-      (part_cut ws p (length bodies) f is z)
+      (subst (λ (x : Contribution). PacketPut (state_of ws p) x (take f.bytes bodies) m number output r vs os)
+      (part_cut ws p (length bodies) f is)
       (subst (λ (x : List ℕ). PacketPut x
-      (contribution (take (f.blocks - 0) p.counts) (take (f.passes - 0) p.lengths) (take (f.passes - 0) p.marks))
-      (take (f.bytes - 0) bodies) m number output r vs os) (state_cut ws p (length bodies) f is z) q)))
-      (v ∙ ap length (scratch_cut ws p (length bodies) f is z scratch)) o)
+      (contribution (take f.blocks p.counts) (take f.passes p.lengths) (take f.passes p.marks))
+      (take f.bytes bodies) m number output r vs os) (state_cut ws p (length bodies) f is) q)))
+      (v ∙ ap length (scratch_cut ws p (length bodies) f is scratch)) o)
 
 -- ---- written
 
 module _ (ws scratch : List ℕ) (p : Contribution) (bodies : List ℕ) (m : Markers) (number : ℕ) (output : List ℕ)
-    (l : length scratch ≡ length ws) (f : Front) (is : FrontIs ws p (length bodies) f) where
-  pub refused-as_single : f.refusal ≢ 0 → WrittenInFront (rest ws scratch p bodies output) m number f scratch output
-  refused-as_single n = record {
-    refusal = sym (refused-in_front ws scratch p bodies m number output l f.refusal is.refusal n);
-    sizes = λ z. absurd (n z);
-    end = λ z. absurd (n z);
-    scratch_if = λ z. absurd (n z);
-    output-if = λ z. absurd (n z);
-  }
+    (l : length scratch ≡ length ws) where
+  abbrev lent : Rest
+  lent = rest ws scratch p bodies output
 
-  pub written_as_single : f.refusal ≡ 0 → (r : WriteAnswer) (vs os : List ℕ)
-      → PutInFront (rest ws scratch p bodies output) m number r vs os
-      → WrittenInFront (rest ws scratch p bodies output) m number
-      (record {
-        refusal = r.refusal;
-        words = f.words;
-        blocks = f.blocks;
-        passes = f.passes;
-        bytes = f.bytes;
-        end = r.bytes;
-      }) vs os
+  pub refused-as_single : (why : Refusal) (vs os : List ℕ) → FrontIs ws p (length bodies) (Err why)
+      → WrittenInFront lent m number (Err why) vs os
+  refused-as_single reason vs os is =
+      sym (refused-in_front ws scratch p bodies m number output l (number_of reason) is (number-not_0 reason))
+
+  pub written_as_single : (f : Front) → FrontIs ws p (length bodies) (Ok f) → (packet : ℕ) (r : Result ℕ Refusal) (vs os : List ℕ)
+      → r ≡ Ok packet → PutInFront lent m number (answer_of r) vs os → WrittenInFront lent m number (Ok (f, packet)) vs os
   unfolding asks
-  written_as_single z r vs os q = record {
-    refusal = ap (λ (a : WriteAnswer). a.refusal) q.answer;
-    sizes = λ e. is.sizes z;
-    end = λ e. ap (λ (a : WriteAnswer). a.bytes) q.answer;
-    scratch_if = q.scratch_if;
-    output-if = q.output-if;
-  }
+  written_as_single f is packet r vs os e q =
+      let z : (answer_of r).refusal ≡ 0 = ap (λ (x : Result ℕ Refusal). (answer_of x).refusal) e in
+      record {
+        accepted = sym z ∙ ap (λ (a : WriteAnswer). a.refusal) q.answer;
+        sizes = is.1;
+        bytes = sym (ap (λ (x : Result ℕ Refusal). (answer_of x).bytes) e) ∙ ap (λ (a : WriteAnswer). a.bytes) q.answer;
+        scratch = q.scratch_if z;
+        output = q.output-if z;
+      }

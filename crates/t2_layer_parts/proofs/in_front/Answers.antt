@@ -1,6 +1,5 @@
-use lib.ListN.{length}
-use mathlib.Core.Path.{◌∙◌, ◌≡◌, ap, sym}
-use mathlib.Core.Logic.{◌≢◌}
+use lib.ListN.{length, length-take}
+use mathlib.Core.Path.{◌∙◌, ap, sym}
 use native.Mathlib.Omega.{arith}
 use Rattle.t800.specs.RefusalNumbers.{word_of}
 use Rattle.t800.specs.State.{writer}
@@ -8,19 +7,16 @@ use Rattle.t800.specs.WriteHeader.{contribution}
 use Rattle.tcd_state.specs.Front.{words_in_front}
 use Rattle.tcd_state.proofs.Laws.Front.{no_words, some_words, valid_in_front}
 use Rattle.t2_refusal_laws.proofs.Laws.Numbers.{number-not_0}
-use Rattle.t2_layer_parts.specs.declared.Lists.{Lists}
 use Rattle.t2_layer_parts.proofs.Laws.Front.{valid_part, counts_add_up, why_is, front-state_refused}
-use Rattle.t2_layer_parts.proofs.Laws.Front.{front-refused, refused-front, body_refused_front, accepted_front, lengths_few}
+use Rattle.t2_layer_parts.proofs.Laws.Front.{front-refused, body_refused_front, accepted_front, lengths_few}
 use Rattle.t2_layer_parts.proofs.in_front.Goals as goal
 
 pub returns-in_default : goal.returns-in_default
 unfolding writer
 returns-in_default c =
     let a = c.args in
-    let p = contribution a.counts.now a.lengths.now a.marks.now in
-    refused-front a.states.now p a.bodies _ 5 c.refused.ensures (omega arith)
-    (front-state_refused a.states.now p a.bodies
-    (no_words (words_in_front writer a.states.now) (sym c.in_default.is ∙ c.state_in_front.ensures)))
+    front-state_refused a.states.now (contribution a.counts.now a.lengths.now a.marks.now) a.bodies
+    (no_words (words_in_front writer a.states.now) (sym c.in_default.is ∙ c.state_in_front.ensures))
 
 pub lists_of-lists-requires : goal.lists_of-lists-requires
 unfolding writer
@@ -29,20 +25,10 @@ lists_of-lists-requires c = omega (arith, some_words (words_in_front writer c.ar
 pub slice_bounds-refusal_of_valid-end : goal.slice_bounds-refusal_of_valid-end
 unfolding writer
 slice_bounds-refusal_of_valid-end c =
-    let a = c.args in
-    let f = some_words (words_in_front writer a.states.now) c.in-Some.ensures in
-    let v = valid_in_front writer a.states.now (omega (arith, f)) in
-    omega (arith, f, v.words_are, v.there)
-
-pub slice_bounds-refusal_of_valid-end-2 : goal.slice_bounds-refusal_of_valid-end-2
-slice_bounds-refusal_of_valid-end-2 c = let e : _ ≡ _ = ap (λ (k : Lists). k.counts) c.lists_of-lists.ensures in omega (arith, e)
-
-pub slice_bounds-refusal_of_valid-end-3 : goal.slice_bounds-refusal_of_valid-end-3
-slice_bounds-refusal_of_valid-end-3 c = let e : _ ≡ _ = ap (λ (k : Lists). k.lengths) c.lists_of-lists.ensures in omega (arith, e)
-
-pub slice_bounds-refusal_of_valid-end-4 : goal.slice_bounds-refusal_of_valid-end-4
-slice_bounds-refusal_of_valid-end-4 c = let e : _ ≡ _ = ap (λ (k : Lists). k.marks) c.lists_of-lists.ensures in omega
-    (arith, e)
+    let ws = c.args.states.now in
+    let f = some_words (words_in_front writer ws) c.in-Some.ensures in
+    let v = valid_in_front writer ws (omega (arith, f)) in
+    omega (arith, length-take c.in-Some.words ws, f, v.words_are, v.there)
 
 pub refusal_of_valid-requires : goal.refusal_of_valid-requires
 unfolding writer
@@ -59,14 +45,9 @@ returns-in-Some-refusal_of_valid c =
     let a = c.args in
     let p = contribution a.counts.now a.lengths.now a.marks.now in
     let f = some_words (words_in_front writer a.states.now) c.in-Some.ensures in
-    let e = c.from.ensures ∙ sym (ap word_of c.in-Some-refusal_of_valid.is) ∙ c.refusal_of_valid.ensures in
-    let n : c.from.result ≢ 0 = λ z. number-not_0 c.in-Some-refusal_of_valid.why (sym c.from.ensures ∙ z) in
-    refused-front a.states.now p a.bodies _ _ c.refused-in-Some-refusal_of_valid.ensures n
-    (front-refused a.states.now p a.bodies _ (why_is a.states.now p _ _ _ f.0 f.1 c.lists_of-lists.ensures e) n)
-
-pub slice_bounds-total-end : goal.slice_bounds-total-end
-slice_bounds-total-end c = let e : _ ≡ _ = ap (λ (k : Lists). k.lengths) c.lists_of-lists.ensures in
-    omega (arith, e)
+    let e = sym (ap word_of c.in-Some-refusal_of_valid.is) ∙ c.refusal_of_valid.ensures in
+    front-refused a.states.now p a.bodies _ (why_is a.states.now p _ _ _ f.0 f.1 c.lists_of-lists.ensures e)
+    (number-not_0 c.in-Some-refusal_of_valid.why)
 
 pub total-bytes-requires : goal.total-bytes-requires
 unfolding writer
@@ -74,8 +55,7 @@ total-bytes-requires c =
     let a = c.args in
     let p = contribution a.counts.now a.lengths.now a.marks.now in
     let f = some_words (words_in_front writer a.states.now) c.in-Some.ensures in
-    lengths_few a.states.now p _ _ _ f.0 f.1 c.lists_of-lists.ensures
-    c.refusal_of_valid.ensures (ap word_of c.in_default-refusal_of_valid.is)
+    lengths_few a.states.now p _ _ _ f.0 f.1 c.lists_of-lists.ensures c.refusal_of_valid.ensures (ap word_of c.in_default-refusal_of_valid.is)
 
 pub returns-then-bodies-bytes : goal.returns-then-bodies-bytes
 unfolding writer
@@ -83,9 +63,8 @@ returns-then-bodies-bytes c =
     let a = c.args in
     let p = contribution a.counts.now a.lengths.now a.marks.now in
     let f = some_words (words_in_front writer a.states.now) c.in-Some.ensures in
-    body_refused_front a.states.now p _ _ _ f.0 f.1
-    c.lists_of-lists.ensures c.refusal_of_valid.ensures (ap word_of c.in_default-refusal_of_valid.is) a.bodies _ c.total-bytes.ensures _
-    c.if-bodies-bytes.true c.refused-then-bodies-bytes.ensures
+    body_refused_front a.states.now p _ _ _ f.0 f.1 c.lists_of-lists.ensures c.refusal_of_valid.ensures
+    (ap word_of c.in_default-refusal_of_valid.is) a.bodies _ c.total-bytes.ensures c.if-bodies-bytes.true
 
 pub returns : goal.returns
 unfolding writer
@@ -93,5 +72,5 @@ returns c =
     let a = c.args in
     let p = contribution a.counts.now a.lengths.now a.marks.now in
     let f = some_words (words_in_front writer a.states.now) c.in-Some.ensures in
-    accepted_front a.states.now p _ _ _ f.0 f.1
-    c.lists_of-lists.ensures c.refusal_of_valid.ensures (ap word_of c.in_default-refusal_of_valid.is) a.bodies _ c.total-bytes.ensures c.if-bodies-bytes.false
+    accepted_front a.states.now p _ _ _ f.0 f.1 c.lists_of-lists.ensures c.refusal_of_valid.ensures
+    (ap word_of c.in_default-refusal_of_valid.is) a.bodies _ c.total-bytes.ensures c.if-bodies-bytes.false

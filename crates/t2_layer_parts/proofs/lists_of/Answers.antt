@@ -1,4 +1,3 @@
-use Prim.Native.Nat.{◌-◌}
 use lib.ListN.{length-take}
 use native.Mathlib.Omega.{arith}
 use Rattle.t2_layer_parts.proofs.Laws.Front.{few_blocks, lists_cut}
@@ -9,8 +8,8 @@ total-passes-requires c =
     let s = c in
     omega (
       arith,
-      length-take (c.least-blocks.result - 0) s.args.counts.now,
-      c.least-blocks.ensures,
+      length-take c.min-blocks.result s.args.counts.now,
+      c.min-blocks.ensures,
       c.num_blocks.ensures,
       few_blocks s.args.states.now s.requires,
     )
@@ -19,5 +18,5 @@ pub returns : goal.returns
 returns c =
     let a = c.args in
     lists_cut a.states.now a.counts.now a.lengths a.marks _ _ _ _ _
-    c.num_blocks.ensures c.least-blocks.ensures
-    c.total-passes.ensures c.least.ensures c.least-2.ensures
+    c.num_blocks.ensures c.min-blocks.ensures
+    c.total-passes.ensures c.min.ensures c.min-2.ensures

@@ -14,7 +14,7 @@ use Rattle.t800.specs.Layer.{none_of_it, write_layer}
 use Rattle.whole_layer.specs.SingleCalls.{AllAccepted, LooksAtEach, refused_at}
 use Rattle.whole_layer.proofs.Refusals.{refused-here}
 use Rattle.t2_layer_parts.specs.declared.Front.{Front}
-use Rattle.t2_layer_parts.specs.Front.{rest, WrittenInFront}
+use Rattle.t2_layer_parts.specs.Front.{rest, Written}
 use Rattle.t2_write_precincts.proofs.Laws.Lists.{one_more, without_it, place_is, as_parts, joined}
 use Rattle.t2_write_precincts.proofs.Laws.Front.{accepted, words_asked, blocks-asked, passes_asked, bytes_asked, states_there}
 use Rattle.t2_write_precincts.proofs.Laws.Front.{counts_there, lengths_there, marks_there, bodies_there, end_is, output-then}
@@ -97,8 +97,7 @@ module _ (states : List ℕ) (c : LayerCall) where
 
   module _ (i word block pass byte end : ℕ) (scratch output words passes : List ℕ)
       (a : Along i word block pass byte end scratch output words passes) (h : i + 1 < length c.numbers)
-      (few : length c.numbers ≤ 16) (f : Front) (vs os : List ℕ)
-      (w : WrittenInFront (left word block pass byte end scratch output) c.markers (get_or c.numbers i 0) f vs os) where
+      (few : length c.numbers ≤ 16) where
     abbrev number : ℕ
     number = get_or c.numbers i 0
 
@@ -124,13 +123,14 @@ module _ (states : List ℕ) (c : LayerCall) where
         ∙ ap (λ (ns : List ℕ). singles c.markers ns l) e
         ∙ ap (λ (ns : List ℕ). first ∷ singles c.markers ns (behind l (length (packet_of first)))) (sym d)
 
-    pub refused-on_the_way : LooksAtEach states c → f.refusal ≢ 0 → write_layer states c ≡ none_of_it states c (refused_at f.refusal i)
-    refused-on_the_way k n =
+    pub refused-on_the_way : LooksAtEach states c → (why : ℕ) → why ≡ (wrote first).answer.refusal → why ≢ 0
+        → write_layer states c ≡ none_of_it states c (refused_at why i)
+    refused-on_the_way k why w n =
         refused-here states c k (take i ss) others first (as_parts ss i first others first_here, a.none_refused)
-        (λ e. n (w.refusal ∙ e))
-        ∙ ap₂ (λ (why place : ℕ). none_of_it states c (refused_at why place)) (sym w.refusal) (place_is ss i first others first_here)
+        (λ e. n (w ∙ e))
+        ∙ ap₂ (λ (z place : ℕ). none_of_it states c (refused_at z place)) (sym w) (place_is ss i first others first_here)
 
-    module _ (z : f.refusal ≡ 0) (lv : length vs ≡ length l.scratch) (lo : length os ≡ length l.output) where
+    module _ (f : Front) (packet : ℕ) (vs os : List ℕ) (w : Written l c.markers number f packet vs os) (lv : length vs ≡ length l.scratch) (lo : length os ≡ length l.output) where
       abbrev m : Markers
       m = c.markers
 
@@ -141,28 +141,28 @@ module _ (states : List ℕ) (c : LayerCall) where
       output-now = take end output ++ os
 
       scratch_lent : vs ≡ (wrote first).scratch ++ drop f.words l.scratch
-      scratch_lent = w.scratch_if z
-          ∙ ap (λ (k : ℕ). (wrote first).scratch ++ drop k l.scratch) (sym (words_asked l m number f vs os w z))
+      scratch_lent = w.scratch
+          ∙ ap (λ (k : ℕ). (wrote first).scratch ++ drop k l.scratch) (sym (words_asked l m number f packet vs os w))
 
       in_front_lem : take f.words vs ≡ (wrote first).scratch
       in_front_lem =
           ap (take f.words) scratch_lent
-          ∙ take_at (wrote first).scratch (drop f.words l.scratch) f.words (scratch_length_lem l m number f vs os w z)
+          ∙ take_at (wrote first).scratch (drop f.words l.scratch) f.words (scratch_length_lem l m number f packet vs os w)
 
       scratch_behind : drop f.words vs ≡ drop f.words l.scratch
       scratch_behind =
           ap (drop f.words) scratch_lent
-          ∙ drop_at (wrote first).scratch (drop f.words l.scratch) f.words (scratch_length_lem l m number f vs os w z)
+          ∙ drop_at (wrote first).scratch (drop f.words l.scratch) f.words (scratch_length_lem l m number f packet vs os w)
 
-      packet-in_front : take f.end os ≡ packet_of first
+      packet-in_front : take packet os ≡ packet_of first
       packet-in_front =
-          ap (take f.end) (output-then l m number f vs os w z)
-          ∙ take_at (packet_of first) (drop (length (packet_of first)) l.output) f.end (sym (end_is l m number f vs os w z))
+          ap (take packet) (output-then l m number f packet vs os w)
+          ∙ take_at (packet_of first) (drop (length (packet_of first)) l.output) packet (sym (end_is l m number f packet vs os w))
 
-      packet-behind : drop f.end os ≡ drop (length (packet_of first)) l.output
+      packet-behind : drop packet os ≡ drop (length (packet_of first)) l.output
       packet-behind =
-          ap (drop f.end) (output-then l m number f vs os w z)
-          ∙ drop_at (packet_of first) (drop (length (packet_of first)) l.output) f.end (sym (end_is l m number f vs os w z))
+          ap (drop packet) (output-then l m number f packet vs os w)
+          ∙ drop_at (packet_of first) (drop (length (packet_of first)) l.output) packet (sym (end_is l m number f packet vs os w))
 
       -- the lists from a place on, in both ways
       further : (n k : ℕ) (xs : List ℕ) → drop (n + k) xs ≡ drop k (drop n xs)
@@ -172,27 +172,27 @@ module _ (states : List ℕ) (c : LayerCall) where
       further_scratch =
           ap (λ (n : ℕ). drop (n + f.words) scratch_then_lem) (sym (scratch_front a)) ∙ drop-append-add (take word scratch) vs f.words
 
-      further_output : drop (end + f.end) output-now ≡ drop f.end os
+      further_output : drop (end + packet) output-now ≡ drop packet os
       further_output =
-          ap (λ (n : ℕ). drop (n + f.end) output-now) (sym (output-front a)) ∙ drop-append-add (take end output) os f.end
+          ap (λ (n : ℕ). drop (n + packet) output-now) (sym (output-front a)) ∙ drop-append-add (take end output) os packet
 
-      left_then : left (word + f.words) (block + f.blocks) (pass + f.passes) (byte + f.bytes) (end + f.end) scratch_then_lem output-now
+      left_then : left (word + f.words) (block + f.blocks) (pass + f.passes) (byte + f.bytes) (end + packet) scratch_then_lem output-now
           ≡ behind l (length (packet_of first))
       unfolding behind
       left_then =
           let p = c.contribution in
           λ j. rest
-          ((further word f.words states ∙ ap (λ (n : ℕ). drop n (drop word states)) (words_asked l m number f vs os w z)) j)
-          ((further_scratch ∙ scratch_behind ∙ ap (λ (n : ℕ). drop n (drop word scratch)) (words_asked l m number f vs os w z)) j)
+          ((further word f.words states ∙ ap (λ (n : ℕ). drop n (drop word states)) (words_asked l m number f packet vs os w)) j)
+          ((further_scratch ∙ scratch_behind ∙ ap (λ (n : ℕ). drop n (drop word scratch)) (words_asked l m number f packet vs os w)) j)
           (contribution
           ((further block f.blocks p.counts
-          ∙ ap (λ (n : ℕ). drop n (drop block p.counts)) (blocks-asked l m number f vs os w z)) j)
+          ∙ ap (λ (n : ℕ). drop n (drop block p.counts)) (blocks-asked l m number f packet vs os w)) j)
           ((further pass f.passes p.lengths
-          ∙ ap (λ (n : ℕ). drop n (drop pass p.lengths)) (passes_asked l m number f vs os w z)) j)
+          ∙ ap (λ (n : ℕ). drop n (drop pass p.lengths)) (passes_asked l m number f packet vs os w)) j)
           ((further pass f.passes p.marks
-          ∙ ap (λ (n : ℕ). drop n (drop pass p.marks)) (passes_asked l m number f vs os w z)) j))
+          ∙ ap (λ (n : ℕ). drop n (drop pass p.marks)) (passes_asked l m number f packet vs os w)) j))
           ((further byte f.bytes c.bodies
-          ∙ ap (λ (n : ℕ). drop n (drop byte c.bodies)) (bytes_asked l m number f vs os w z)) j)
+          ∙ ap (λ (n : ℕ). drop n (drop byte c.bodies)) (bytes_asked l m number f packet vs os w)) j)
           ((further_output ∙ packet-behind) j)
 
       one : take (i + 1) ss ≡ take i ss ++ (first ∷ [])
@@ -208,31 +208,31 @@ module _ (states : List ℕ) (c : LayerCall) where
           ∙ sym (map-append of (take i ss) (first ∷ []))
           ∙ ap (map of) (sym one)
 
-      pub goes_on : Along (i + 1) (word + f.words) (block + f.blocks) (pass + f.passes) (byte + f.bytes) (end + f.end) scratch_then_lem
+      pub goes_on : Along (i + 1) (word + f.words) (block + f.blocks) (pass + f.passes) (byte + f.bytes) (end + packet) scratch_then_lem
           output-now (set words i f.words) (set passes i f.passes)
       goes_on = record {
         here = without_it ss i first others first_here
             ∙ ap (singles m (drop (i + 1) c.numbers)) (sym left_then);
         none_refused = subst AllAccepted (sym one)
-            (accepted_one_more (take i ss) first a.none_refused (accepted l m number f vs os w z));
+            (accepted_one_more (take i ss) first a.none_refused (accepted l m number f packet vs os w));
         states_are = take-add word f.words states
             ∙ joined (λ s. s.state) (take (i + 1) ss) (take i ss) first one (take word states) (take f.words (drop word states))
             a.states_are
-            (state_cut l m number f vs os w z);
+            (state_cut l m number f packet vs os w);
         scratch_is = ap (λ (n : ℕ). take (n + f.words) scratch_then_lem) (sym (scratch_front a))
             ∙ take-append-add (take word scratch) vs f.words
             ∙ joined (λ s. (wrote s).scratch) (take (i + 1) ss) (take i ss) first one (take word scratch) (take f.words vs)
             a.scratch_is in_front_lem;
-        output-is = ap (λ (n : ℕ). take (n + f.end) output-now) (sym (output-front a))
-            ∙ take-append-add (take end output) os f.end
-            ∙ joined packet_of (take (i + 1) ss) (take i ss) first one (take end output) (take f.end os) a.output-is packet-in_front;
+        output-is = ap (λ (n : ℕ). take (n + packet) output-now) (sym (output-front a))
+            ∙ take-append-add (take end output) os packet
+            ∙ joined packet_of (take (i + 1) ss) (take i ss) first one (take end output) (take packet os) a.output-is packet-in_front;
         output-behind = further_output ∙ packet-behind
-            ∙ ap (λ (n : ℕ). drop n (drop end output)) (sym (end_is l m number f vs os w z))
-            ∙ ap (drop f.end) a.output-behind
-            ∙ drop-drop f.end end c.output;
-        words_of_each = one_more_of words_of words a.sixteen_words a.words_of_each f.words (words_are l m number f vs os w z);
+            ∙ ap (λ (n : ℕ). drop n (drop end output)) (sym (end_is l m number f packet vs os w))
+            ∙ ap (drop packet) a.output-behind
+            ∙ drop-drop packet end c.output;
+        words_of_each = one_more_of words_of words a.sixteen_words a.words_of_each f.words (words_are l m number f packet vs os w);
         passes_of_each = one_more_of passes_of passes a.sixteen_passes a.passes_of_each f.passes
-            (passes_are l m number f vs os w z);
+            (passes_are l m number f packet vs os w);
         sixteen_words = length-set words i _ ∙ a.sixteen_words;
         sixteen_passes = length-set passes i _ ∙ a.sixteen_passes;
         as_long = omega (
@@ -253,14 +253,14 @@ module _ (states : List ℕ) (c : LayerCall) where
           a.output-as_long,
           a.output-in,
         );
-        words_in = omega (arith, states_there l m number f vs os w z, length-drop word states, a.words_in);
-        counts_in = omega (arith, counts_there l m number f vs os w z, length-drop block c.contribution.counts, a.counts_in);
-        lengths_in = omega (arith, lengths_there l m number f vs os w z, length-drop pass c.contribution.lengths, a.lengths_in);
-        marks_in = omega (arith, marks_there l m number f vs os w z, length-drop pass c.contribution.marks, a.marks_in);
-        bodies_in = omega (arith, bodies_there l m number f vs os w z, length-drop byte c.bodies, a.bodies_in);
+        words_in = omega (arith, states_there l m number f packet vs os w, length-drop word states, a.words_in);
+        counts_in = omega (arith, counts_there l m number f packet vs os w, length-drop block c.contribution.counts, a.counts_in);
+        lengths_in = omega (arith, lengths_there l m number f packet vs os w, length-drop pass c.contribution.lengths, a.lengths_in);
+        marks_in = omega (arith, marks_there l m number f packet vs os w, length-drop pass c.contribution.marks, a.marks_in);
+        bodies_in = omega (arith, bodies_there l m number f packet vs os w, length-drop byte c.bodies, a.bodies_in);
         output-in = omega (
           arith,
-          room_there l m number f vs os w z lo,
+          room_there l m number f packet vs os w lo,
           length-drop end output,
           a.output-as_long,
           a.output-in,

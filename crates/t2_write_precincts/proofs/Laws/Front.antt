@@ -19,7 +19,7 @@ use Rattle.tcd_laws.proofs.Laws.FirstWords.{bands-in_front}
 use Rattle.whole_layer.proofs.Cuts.{Fits, fits, state_kept}
 use Rattle.whole_layer.proofs.SingleCalls.{bytes_are, output-is}
 use Rattle.t2_layer_parts.specs.declared.Front.{Front}
-use Rattle.t2_layer_parts.specs.Front.{WrittenInFront}
+use Rattle.t2_layer_parts.specs.Front.{Written}
 
 -- an accepted call leaves the same in state and scratch
 pub left_same : (s : Single) → (wrote s).answer.refusal ≡ 0 → (wrote s).state ≡ (wrote s).scratch
@@ -42,13 +42,13 @@ words_of s = length s.state
 abbrev pub passes_of : Single → ℕ
 passes_of s = length s.call.contribution.lengths
 
-module _ (l : Rest) (m : Markers) (number : ℕ) (f : Front) (vs os : List ℕ) (w : WrittenInFront l m number f vs os)
-    (z : f.refusal ≡ 0) where
+module _ (l : Rest) (m : Markers) (number : ℕ) (f : Front) (packet : ℕ) (vs os : List ℕ)
+    (w : Written l m number f packet vs os) where
   abbrev first : Single
   first = single m number (in_front l)
 
   pub accepted : (wrote first).answer.refusal ≡ 0
-  accepted = sym w.refusal ∙ z
+  accepted = sym w.accepted
 
   fit : Fits first
   fit = fits first accepted
@@ -64,16 +64,16 @@ module _ (l : Rest) (m : Markers) (number : ℕ) (f : Front) (vs os : List ℕ) 
   same_bands = bands-in_front l.states (asks l).words thirteen
 
   pub words_asked : f.words ≡ (asks l).words
-  words_asked = ap (λ (a : Asks). a.words) (w.sizes z)
+  words_asked = ap (λ (a : Asks). a.words) w.sizes
 
   pub blocks-asked : f.blocks ≡ (asks l).blocks
-  blocks-asked = ap (λ (a : Asks). a.blocks) (w.sizes z)
+  blocks-asked = ap (λ (a : Asks). a.blocks) w.sizes
 
   pub passes_asked : f.passes ≡ (asks l).passes
-  passes_asked = ap (λ (a : Asks). a.passes) (w.sizes z)
+  passes_asked = ap (λ (a : Asks). a.passes) w.sizes
 
   pub bytes_asked : f.bytes ≡ (asks l).bytes
-  bytes_asked = ap (λ (a : Asks). a.bytes) (w.sizes z)
+  bytes_asked = ap (λ (a : Asks). a.bytes) w.sizes
 
   pub states_there : f.words ≤ length l.states
   unfolding in_front asks
@@ -109,14 +109,14 @@ module _ (l : Rest) (m : Markers) (number : ℕ) (f : Front) (vs os : List ℕ) 
 
   -- ---- the packet in the output
 
-  pub end_is : f.end ≡ length (packet_of first)
-  end_is = w.end z ∙ bytes_are first accepted
+  pub end_is : packet ≡ length (packet_of first)
+  end_is = w.bytes ∙ bytes_are first accepted
 
   pub output-then : os ≡ packet_of first ++ drop (length (packet_of first)) l.output
   unfolding in_front
-  output-then = w.output-if z ∙ output-is first accepted
+  output-then = w.output ∙ output-is first accepted
 
-  pub room_there : length os ≡ length l.output → f.end ≤ length l.output
+  pub room_there : length os ≡ length l.output → packet ≤ length l.output
   room_there e =
       omega (
         arith,

@@ -1,4 +1,5 @@
 -- The same of the lists as they are lent, from where the packets before end, and back in their place.
+use Rattle.std.specs.Prelude.{Ok, Err}
 use mathlib.Core.Path.{◌≡◌, sym, ap, ap₂, ◌∙◌, subst}
 use mathlib.Core.Logic.{◌≢◌}
 use mathlib.Core.List.{List, ◌++◌}
@@ -6,15 +7,18 @@ use Prim.Native.Nat.{ℕ, ◌+◌, ◌≤◌, ◌<◌}
 use native.Mathlib.Omega.{arith}
 use lib.ListN.{length, get_or, set, take, drop, length-drop}
 use Rattle.t800.specs.declared.LayerAnswer.{LayerAnswer}
+use Rattle.t800.specs.declared.Refusal.{Refusal}
 use Rattle.t800.specs.declared.WriteAnswer.{WriteAnswer}
+use Rattle.t800.specs.RefusalNumbers.{number_of}
 use Rattle.t800.specs.Base.{sum}
 use Rattle.t800.specs.WriteHeader.{contribution}
 use Rattle.t800.specs.Packet.{write}
 use Rattle.t800.specs.Layer.{Rest, LayerCall, LayerResult, none_of_it, write_layer}
 use Rattle.whole_layer.specs.SingleCalls.{LooksAtEach, refused_at}
 use Rattle.t2_settle_states.specs.Settle.{Settles}
+use Rattle.t2_refusal_laws.proofs.Laws.Numbers.{number-not_0}
 use Rattle.t2_layer_parts.specs.declared.Front.{Front}
-use Rattle.t2_layer_parts.specs.Front.{rest, WrittenInFront}
+use Rattle.t2_layer_parts.specs.Front.{rest, Written, WrittenInFront}
 use Rattle.t2_write_precincts.specs.Layer.{LayerWritten}
 use Rattle.t2_write_precincts.proofs.Laws.Lists.{from, from_is, back, back_is, back_length}
 use Rattle.t2_write_precincts.proofs.Laws.Along.{left, Along, refused-on_the_way, goes_on}
@@ -64,28 +68,31 @@ module _ {states : List ℕ} {c : LayerCall} where
 
     -- ---- a precinct with others behind it
 
-    module _ (h : i + 1 < length c.numbers) (few : length c.numbers ≤ 16) (f : Front) (vs os : List ℕ)
-        (w : WrittenInFront lent c.markers (get_or c.numbers i 0) f vs os) where
-      written : WrittenInFront (left states c word block pass byte end scratch output) c.markers (get_or c.numbers i 0) f vs os
-      written = subst (λ (l : Rest). WrittenInFront l c.markers (get_or c.numbers i 0) f vs os) lent_is w
+    module _ (h : i + 1 < length c.numbers) (few : length c.numbers ≤ 16) where
+      pub front-refused : LooksAtEach states c → (why : Refusal) (vs os : List ℕ)
+          → WrittenInFront lent c.markers (get_or c.numbers i 0) (Err why) vs os
+          → (r : LayerAnswer) → r ≡ refused_at (number_of why) i → (us ys : List ℕ) → LayerWritten states c r states us ys
+      front-refused k why vs os w r e us ys =
+          refused-is (number_of why) i r states us ys (number-not_0 why) e
+          (refused-on_the_way states c i word block pass byte end scratch output words passes a h few k (number_of why)
+          (subst (λ (l : Rest). WrittenInFront l c.markers (get_or c.numbers i 0) (Err why) vs os) lent_is w) (number-not_0 why))
+          (λ j. states)
 
-      pub front-refused : LooksAtEach states c → f.refusal ≢ 0 → (r : LayerAnswer) → r ≡ refused_at f.refusal i → (us ys : List ℕ)
-          → LayerWritten states c r states us ys
-      front-refused k n r e us ys =
-          refused-is f.refusal i r states us ys n e
-          (refused-on_the_way states c i word block pass byte end scratch output words passes a h few f vs os written k n) (λ j. states)
-
-      pub front-written : f.refusal ≡ 0 → length vs ≡ length lent.scratch → length os ≡ length lent.output
-          → Along states c (i + 1) (word + f.words) (block + f.blocks) (pass + f.passes) (byte + f.bytes) (end + f.end)
+      pub front-written : (f : Front) (packet : ℕ) (vs os : List ℕ)
+          → WrittenInFront lent c.markers (get_or c.numbers i 0) (Ok (f, packet)) vs os
+          → length vs ≡ length lent.scratch → length os ≡ length lent.output
+          → Along states c (i + 1) (word + f.words) (block + f.blocks) (pass + f.passes) (byte + f.bytes) (end + packet)
           (back word scratch vs) (back end output os) (set words i f.words) (set passes i f.passes)
-      front-written z lv lo =
+      front-written f packet vs os w lv lo =
           let ws : List ℕ = set words i f.words in
           let ps : List ℕ = set passes i f.passes in
+          let written : Written (left states c word block pass byte end scratch output) c.markers (get_or c.numbers i 0) f packet vs os =
+          subst (λ (l : Rest). Written l c.markers (get_or c.numbers i 0) f packet vs os) lent_is w in
           subst (λ (xs : List ℕ). Along states c (i + 1) (word + f.words) (block + f.blocks) (pass + f.passes) (byte + f.bytes)
-          (end + f.end) xs (back end output os) ws ps) (sym (back_is word scratch vs))
+          (end + packet) xs (back end output os) ws ps) (sym (back_is word scratch vs))
           (subst (λ (ys : List ℕ). Along states c (i + 1) (word + f.words) (block + f.blocks) (pass + f.passes) (byte + f.bytes)
-          (end + f.end) (take word scratch ++ vs) ys ws ps) (sym (back_is end output os))
-          (goes_on states c i word block pass byte end scratch output words passes a h few f vs os written z
+          (end + packet) (take word scratch ++ vs) ys ws ps) (sym (back_is end output os))
+          (goes_on states c i word block pass byte end scratch output words passes a h few f packet vs os written
           (lv ∙ ap length (from_is word scratch)) (lo ∙ ap length (from_is end output))))
 
     -- ---- the last one

@@ -1,6 +1,6 @@
 use mathlib.Core.Path.{◌≡◌}
 use mathlib.Core.List.{List}
-use Prim.Native.Nat.{ℕ, ◌+◌, ◌-◌, ◌≤◌}
+use Prim.Native.Nat.{ℕ, ◌+◌}
 use lib.ListN.{length}
 use Rattle.t800.specs.declared.Markers.{Markers}
 use Rattle.t800.specs.WriteHeader.{contribution}
@@ -20,9 +20,6 @@ call numbers scratch counts lengths marks bodies m output = record {
 
 abbrev pub invariant-loop-i : goal.invariant-loop-i
 invariant-loop-i l =
-    (l.last + 1 ≡ length l.numbers) × (l.i ≤ l.last)
+    (l.last + 1 ≡ length l.numbers)
     × Along l.states (call l.numbers l.initial.scratch l.counts l.lengths l.marks l.bodies l.markers l.initial.output) l.i l.word l.block l.pass l.byte l.end l.scratch l.output l.words
     l.passes
-
-abbrev pub decreases-loop-i : goal.decreases-loop-i
-decreases-loop-i l = l.last - l.i
