@@ -184,40 +184,6 @@ pub enum Refusal {
     Packed,
 }
 
-impl Refusal {
-    pub const SHAPE: u32 = 1;
-
-    pub const STYLE: u32 = 2;
-
-    pub const LIST: u32 = 3;
-
-    pub const PLANES: u32 = 4;
-
-    pub const STATE: u32 = 5;
-
-    pub const LAYERS: u32 = 6;
-
-    pub const PASSES: u32 = 7;
-
-    pub const LENGTH: u32 = 8;
-
-    pub const WIDTH: u32 = 9;
-
-    pub const BODY: u32 = 10;
-
-    pub const SPACE: u32 = 11;
-
-    pub const HEADER_END: u32 = 12;
-
-    pub const RECORDS: u32 = 13;
-
-    pub const PRECINCTS: u32 = 14;
-
-    pub const SEGMENTS: u32 = 15;
-
-    pub const PACKED: u32 = 16;
-}
-
 impl From<Refusal> for u32 {
     ghost from_gives = { λ why n. n ≡ number_of why };
 

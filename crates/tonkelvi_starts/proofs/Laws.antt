@@ -10,9 +10,10 @@ use Rattle.t800.specs.Start.{StartResult, start}
 use Rattle.t800.specs.Exports.{bands_in, start_call}
 
 module _ (r n : ℕ) (bands : List ℕ) (style : ℕ) (planes lent : List ℕ) where
-  pub start-unlisted : length bands ≢ 9 → record { answer = 3; state = lent } ≡ start_call r n bands style planes lent
+  pub start-unlisted : (why : ℕ) → why ≡ 3 → length bands ≢ 9
+      → record { answer = why; state = lent } ≡ start_call r n bands style planes lent
   unfolding start_call
-  start-unlisted h = rw (ne_eqb (length bands) 9 h)
+  start-unlisted why e h = rw (ne_eqb (length bands) 9 h, e)
 
   pub start-listed : (x : StartResult) (bs : List Band) → length bands ≡ 9 → x ≡ start r n bs style planes lent → bs ≡ bands_in bands → x
       ≡ start_call r n bands style planes lent

@@ -13,7 +13,7 @@ pub fn start_writer(count: u32, bands: &[u32], style: u8, planes: &[u32], state:
         ≡ start_call writer count bands.now style planes.now state.old }
 {
     if bands.len() != 9 {
-        return Refusal::LIST;
+        return u32::from(Refusal::List);
     }
     let given = tonkelvi_bands::bands_in(bands);
     t2_start::start_writer(count, given, style, planes, state)
@@ -25,7 +25,7 @@ pub fn start_reader(count: u32, bands: &[u32], style: u8, planes: &[u32], state:
         ≡ start_call reader count bands.now style planes.now state.old }
 {
     if bands.len() != 9 {
-        return Refusal::LIST;
+        return u32::from(Refusal::List);
     }
     let given = tonkelvi_bands::bands_in(bands);
     t2_start::start_reader(count, given, style, planes, state)

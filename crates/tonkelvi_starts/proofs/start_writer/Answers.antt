@@ -5,7 +5,7 @@ use Rattle.tonkelvi_starts.proofs.start_writer.Goals as goal
 pub returns-then-bands-ne9 : goal.returns-then-bands-ne9
 returns-then-bands-ne9 c =
     let a = c.args in
-    start-unlisted writer a.count a.bands.now a.style a.planes.now a.state.now c.if-bands-ne9.true
+    start-unlisted writer a.count a.bands.now a.style a.planes.now a.state.now _ c.from.ensures c.if-bands-ne9.true
 
 pub returns : goal.returns
 returns c =
