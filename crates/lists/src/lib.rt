@@ -2,7 +2,6 @@
 #![tactic(auto)]
 
 ghost use Rattle.std.specs.Prelude.{◌≡◌, length, replicate};
-ghost use Rattle.t800.specs.Base.{wiped};
 ghost use Rattle.lists.specs.Rows.{put_row, put_report, put_record};
 
 use t800::RECORD_WIDTH;
@@ -16,13 +15,6 @@ pub fn copy<T: Copy>(from: &[T], to: &mut [T])
     for i in 0..from.len() {
         to[i] = from[i];
     }
-}
-
-pub fn copy_bytes(bytes: &[u8], to: &mut [u8])
-    requires { length bytes.now ≡ length to.old }
-    ensures { to.new ≡ bytes.now }
-{
-    copy(bytes, to);
 }
 
 // A type of numbers, with its 0.
@@ -50,12 +42,6 @@ pub fn wipe<T: Zero>(list: &mut [T])
     for entry in list {
         *entry = T::ZERO;
     }
-}
-
-pub fn wipe_bytes(bytes: &mut [u8])
-    ensures { bytes.new ≡ wiped bytes.old }
-{
-    wipe(bytes);
 }
 
 // ---- reports and records

@@ -10,10 +10,10 @@ ghost use Rattle.t2_skip_packet.specs.Parts.{SkipsPacket, skipped};
 ghost use Rattle.t2_skip_windows.specs.Windows.{window_bytes, most_of_block, WindowOn, Somewhere};
 ghost use Rattle.t2_skip_gathered.specs.Headers.{start_run, StandsBefore, first_in, SkipsAfter, SkipsUpTo, taken_of, EndsInWindow};
 
+use t2_read_segments::Run;
 use t2_skip_header::ROOM_FOR_ALL;
 use t2_skip_packet::Parts;
 use t2_skip_windows::{InWindow, LAST_PLACE};
-use t2_read_segments::Run;
 use t800::{Markers, Refusal};
 use tcd_style::Marker;
 

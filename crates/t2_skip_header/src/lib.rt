@@ -27,14 +27,7 @@ pub fn opj_t2_skip_packet_header(words: &mut [u32], src: &[u8], b: Bio) -> Skipp
 {
     let mut reports = [0u32; 0];
     let mut records = [0u32; 0];
-    let run = t2_read_header::read_header(
-        words,
-        &mut reports,
-        &mut records,
-        src,
-        b,
-        ROOM_FOR_ALL,
-    );
+    let run = t2_read_header::read_header(words, &mut reports, &mut records, src, b, ROOM_FOR_ALL);
     let bio = run.bio;
     Skipped {
         bio,

@@ -27,7 +27,9 @@ fn spread_all(
         row.old scratch.new row.new result }
 {
     lists::copy(states, scratch);
-    let o = t2_spread_row::spread_packets(segments, plain, bodies, states, scratch, places, m, row)?;
+    let o = t2_spread_row::spread_packets(
+        segments, plain, bodies, states, scratch, places, m, row,
+    )?;
     if o.headers < plain {
         return Err(Refusal::Body);
     }

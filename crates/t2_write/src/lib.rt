@@ -41,7 +41,7 @@ pub fn write(
         }
         Err(why) => {
             lists::wipe(scratch);
-            lists::wipe_bytes(output);
+            lists::wipe(output);
             WriteAnswer::refused(why)
         }
     }

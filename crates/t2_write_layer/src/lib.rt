@@ -13,7 +13,7 @@ fn none_of_it(scratch: &mut [u32], output: &mut [u8], answer: LayerAnswer) -> La
         × (output.new ≡ wiped output.old) }
 {
     lists::wipe(scratch);
-    lists::wipe_bytes(output);
+    lists::wipe(output);
     answer
 }
 

@@ -77,6 +77,6 @@ pub fn put_body(out: &mut [u8], at: usize, body: &[u8]) -> usize
     ensures { bytes_put out.new result ≡ put_bytes (bytes_put out.old at) body.now }
 {
     let end = at + body.len();
-    lists::copy_bytes(body, &mut out[at..end]);
+    lists::copy(body, &mut out[at..end]);
     end
 }

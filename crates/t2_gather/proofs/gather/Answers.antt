@@ -21,9 +21,11 @@ copy-requires c =
 
 pub gather_packets-requires : goal.gather_packets-requires
 gather_packets-requires c =
-    let a = c.args in
-    (subst (λ (n : ℕ). bad_states a.states.now n a.places.now ≡ false) (sym c.copy.auto.to)
-    (not_found _ _ c.states_fit.ensures c.if-not-states_fit.false), c.copy.ensures)
+    let a = c.args in (
+      subst (λ (n : ℕ). bad_states a.states.now n a.places.now ≡ false) (sym c.copy.auto.to)
+          (not_found _ _ c.states_fit.ensures c.if-not-states_fit.false),
+      c.copy.ensures,
+    )
 
 -- ---- after the packets
 

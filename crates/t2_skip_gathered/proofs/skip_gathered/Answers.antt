@@ -73,9 +73,11 @@ pub returns-in-Some : goal.returns-in-Some
 returns-in-Some c =
     let a = c.args in
     let bytes = (unpacked a.segments.now).bytes in
-    let k = c.skip_header-o in
-    (blocks-refused a.words.now a.m bytes a.bodies.now a.at c.requires.0 c.if-layer-eq-NOT_YET_INCLUDED.false k.new.words k.result
-    k.ensures.arrives c.in-Some.why c.in-Some.ensures k.new.words, k.ensures.window_on)
+    let k = c.skip_header-o in (
+      blocks-refused a.words.now a.m bytes a.bodies.now a.at c.requires.0 c.if-layer-eq-NOT_YET_INCLUDED.false k.new.words k.result
+          k.ensures.arrives c.in-Some.why c.in-Some.ensures k.new.words,
+      k.ensures.window_on,
+    )
 
 pub header_end-requires : goal.header_end-requires
 header_end-requires c =
@@ -99,10 +101,12 @@ pub returns-in_default-header_end : goal.returns-in_default-header_end
 returns-in_default-header_end c =
     let a = c.args in
     let bytes = (unpacked a.segments.now).bytes in
-    let k = c.skip_header-o in
-    (end_refused a.words.now a.m bytes a.bodies.now a.at c.requires.0 c.if-layer-eq-NOT_YET_INCLUDED.false k.new.words k.result
-    k.ensures.arrives (sym c.in_default.ensures) (c.in_default-header_end.ensures bytes k.ensures.window_on.holds c.requires.2)
-    k.new.words, k.ensures.window_on)
+    let k = c.skip_header-o in (
+      end_refused a.words.now a.m bytes a.bodies.now a.at c.requires.0 c.if-layer-eq-NOT_YET_INCLUDED.false k.new.words k.result
+          k.ensures.arrives (sym c.in_default.ensures) (c.in_default-header_end.ensures bytes k.ensures.window_on.holds c.requires.2)
+          k.new.words,
+      k.ensures.window_on,
+    )
 
 pub overflow_add-words : goal.overflow_add-words
 overflow_add-words c =
@@ -121,11 +125,13 @@ pub returns : goal.returns
 returns c =
     let a = c.args in
     let bytes = (unpacked a.segments.now).bytes in
-    let k = c.skip_header-o in
-    (all_gathered_lem a.words.now a.m bytes a.bodies.now a.at c.requires.0 c.if-layer-eq-NOT_YET_INCLUDED.false k.new.words k.result
-    k.ensures.arrives (sym c.in_default.ensures) c.in-Some-header_end.header
-    (c.in-Some-header_end.ensures bytes k.ensures.window_on.holds c.requires.2) _ (marker_read c.read_marker-sop.result) refl
-    c.read_marker-sop.ensures, k.ensures.window_on)
+    let k = c.skip_header-o in (
+      all_gathered_lem a.words.now a.m bytes a.bodies.now a.at c.requires.0 c.if-layer-eq-NOT_YET_INCLUDED.false k.new.words k.result
+          k.ensures.arrives (sym c.in_default.ensures) c.in-Some-header_end.header
+          (c.in-Some-header_end.ensures bytes k.ensures.window_on.holds c.requires.2) _ (marker_read c.read_marker-sop.result) refl
+          c.read_marker-sop.ensures,
+      k.ensures.window_on,
+    )
 
 pub shape_of-words : goal.shape_of-words
 shape_of-words c = simp length-set c.skip_header-o.auto.words

@@ -6,9 +6,13 @@ use Rattle.t2_spread_row.proofs.spread_places.Goals as goal
 
 pub loop-place-init : goal.loop-place-init
 loop-place-init c =
-    let a = c.args in
-    (refl, refl, refl, first_one a.segments.now a.bodies.now a.m a.states.now a.places.now a.row.now _ c.requires.0 _ _
-    c.requires.2 c.requires.3)
+    let a = c.args in (
+      refl,
+      refl,
+      refl,
+      first_one a.segments.now a.bodies.now a.m a.states.now a.places.now a.row.now _ c.requires.0 _ _
+          c.requires.2 c.requires.3,
+    )
 
 pub find_state-f-requires : goal.find_state-f-requires
 find_state-f-requires c =

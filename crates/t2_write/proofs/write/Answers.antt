@@ -5,7 +5,7 @@ use Rattle.t800.specs.WriteHeader.{contribution}
 use Rattle.t2_refusal_laws.proofs.Laws.Accepted.{accepted, as_long}
 use Rattle.t2_refusal_laws.proofs.Laws.Numbers.{number-not_0}
 use Rattle.t2_refusal_laws.proofs.Laws.WriterState.{first_words_lem}
-use Rattle.t2_put_packet.specs.Put.{answer_of, PacketPut}
+use Rattle.t2_put_packet.specs.Put.{answer_of}
 use Rattle.t2_put_packet.proofs.Laws.Put.{layer-alone}
 use Rattle.t2_write.proofs.Laws.Written.{write-refused, write-body_refused, write-without_room, write_done}
 use Rattle.t2_write.proofs.write.Goals as goal
@@ -74,9 +74,9 @@ returns-in-Err c =
       answer = (c.refused-in-Err.ensures ∙ sym (ap answer_of c.in-Err.is)) i;
       state = a.state.now;
       scratch = c.wipe.new.list;
-      output = c.wipe_bytes.new.bytes;
+      output = c.wipe-in-Err.new.list;
     })
     ∙ write-without_room a.state.now a.scratch.now p a.body.now a.markers a.number a.output.now _
     c.measure_refusal.ensures (ap word_of c.in_default.is) _ c.total.ensures c.if-body-total.false _ _ _ k.ensures _ _
     (λ e. number-not_0 c.in-Err.why (sym (ap (λ x. (answer_of x).refusal) c.in-Err.is) ∙ e))
-    k.auto.scratch k.auto.output c.wipe.ensures c.wipe_bytes.ensures
+    k.auto.scratch k.auto.output c.wipe.ensures c.wipe-in-Err.ensures

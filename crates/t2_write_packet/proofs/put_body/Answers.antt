@@ -4,4 +4,4 @@ use Rattle.t2_write_packet.proofs.put_body.Goals as goal
 
 pub returns : goal.returns
 returns c = let s = c in
-    part_put s.args.out.now s.args.at _ s.args.body.now _ s.requires refl c.copy_bytes.ensures
+    part_put s.args.out.now s.args.at _ s.args.body.now _ s.requires refl c.copy.ensures
