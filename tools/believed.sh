@@ -14,9 +14,10 @@ row() {
 rows() {
     specs=crates/t800/specs
     row "the definitions" "t800/specs/, but for those below" \
-        $specs/Base.antt $specs/Refusals.antt $specs/Bits.antt $specs/TagTree.antt $specs/PassCount.antt $specs/Segments.antt \
-        $specs/State.antt $specs/Ranges.antt $specs/Start.antt $specs/Reports.antt $specs/WriteHeader.antt $specs/ReadHeader.antt \
-        $specs/MarkerSegments.antt $specs/Packet.antt $specs/Layer.antt $specs/PackedHeaders.antt $specs/Gathered.antt $specs/Book.antt
+        $specs/Base.antt $specs/Refusals.antt $specs/RefusalNumbers.antt $specs/Bits.antt $specs/TagTree.antt $specs/PassCount.antt \
+        $specs/Segments.antt $specs/State.antt $specs/Ranges.antt $specs/Start.antt $specs/Reports.antt $specs/WriteHeader.antt \
+        $specs/ReadHeader.antt $specs/MarkerSegments.antt $specs/Packet.antt $specs/Layer.antt $specs/PackedHeaders.antt \
+        $specs/Gathered.antt $specs/Book.antt
     row "what the exported calls add to them" "t800/specs/Exports.antt" $specs/Exports.antt
     row "the structs and names that definitions and code share" "t800/src/lib.rt" crates/t800/src/lib.rt
     row "the contracts of the calls" "src/lib.rt of t2_start, t2_measure, t2_write, t2_write_layer, t2_read_packet, t2_read_gathered, t2_gather, t2_spread and tonkelvi; their code is proved" \
