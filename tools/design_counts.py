@@ -10,12 +10,12 @@ POINTS = [
     ("1 a refusal's number in a struct of values", r"^\s+(?:pub )?refusal: u32,"),
     ("1 a refusal tested as a number", r"\b(?:\w+\.)?(?:refusal|why|refused|answer|first|second) (?:!=|==) 0\b"),
     ("1 a flag beside values", r"^\s+(?:pub )?(?:ok|good|whole|below|past): bool,"),
-    ("1 a number for none: `return 0` of a place or size", r"(?s)\n(?:pub )?fn (?:state_in_front|bands_in_range|size_at)\b"),
+    ("1 a place or size where 0 says none", r"\bfn (?:state_in_front|bands_in_range)\([^)]*\) -> usize|\bfn size_at\(segments[^)]*\) -> usize"),
     ("1 constants that number kinds", r"^(?:pub )?const (?:LOAD|START|MEASURE|READ|POKE|WRITER|READER): u(?:8|32|64) ="),
     ("1 a kind tested as a number", r"\bkind(?:\.value)? == (?:\d+|[A-Z]+)\b"),
     ("3 loops that count by hand", r"\bwhile (?:\w+ (?:<|<=) [^{]*|0 < \w+) \{"),
     ("4 conversions and comparisons by hand",
-     r"^(?:pub )?fn (?:wide|wide_word|smaller|least|to_word|to_size|to_byte|plus|one_less|half_up|both|included|reached|print)\b"),
+     r"^(?:pub )?fn (?:wide|wide_word|smaller|least|to_word|to_size|to_byte|one_less|half_up|both|included|reached|bytes_from)\b"),
     ("5 functions with `counts`, `lengths` and `marks`", r"lengths: &\[u32\],\s+marks: &\[u8\]"),
     ("5 functions with `base`, `row`, `depth` and `x`", r"base: usize,\s+row: &\[usize; 7\],\s+(?:depth|levels): usize,\s+x: usize"),
     ("5 functions with `bands` and how many", r"bands: \[Band; 3\],\s+n: usize"),
@@ -36,8 +36,8 @@ def twins(files):
     bodies = collections.defaultdict(list)
     for path, text in files:
         for m in re.finditer(r"(?ms)^(?:pub )?fn (\w+)(.*?)^\}", text):
-            body = m.group(2)[m.group(2).find("\n{"):]
-            body = re.sub(r"\bt2_within_", "t2_read_", body)
+            body = m.group(2)[re.search(r"\{\n", m.group(2)).start():]
+            body = re.sub(r"\bt2_within_", "t2_read_", body)  # names of crates that are now one
             bodies[m.group(1)].append((path.parts[-3], re.sub(r"\s+", " ", body)))
     return {n: [c for c, _ in l] for n, l in bodies.items() if len(l) > 1 and len({b for _, b in l}) < len(l)}
 

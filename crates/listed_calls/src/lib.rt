@@ -275,3 +275,24 @@ impl fmt::Display for Score {
         write!(f, "{good} of {of}")
     }
 }
+
+#[cfg(test)]
+mod tests {
+    use super::*;
+    use std::test::Fail;
+
+    #[test]
+    fn lists_are_made(rt: HostRuntime) -> Result<(), Fail> {
+        let alloc = rt.alloc();
+        let file = list_in(&rt, "/proc/version").expect(&rt, "the file is there");
+        assert!(rt; 0 < file.len());
+        let list = [0u8, 0, 0, 2, 1, 2, 3, 4, 0, 0, 0, 9];
+        let mut reader = Reader::new(&list);
+        let n = reader.size();
+        let words = reader.words(alloc, n)?;
+        assert_eq!(rt; words.as_slice(), [0x0102_0304u32, 9].as_slice());
+        let body = body_of(alloc, 3)?;
+        assert_eq!(rt; body.as_slice(), [3u8, 10, 17].as_slice());
+        Ok(())
+    }
+}
