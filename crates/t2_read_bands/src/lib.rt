@@ -116,20 +116,21 @@ pub fn read_bands(
         ≡ next_blocks src.now layer 0 (blocks (take n bands))
         (reading words.old reports.old records.old r) }
 {
+    let trees = tcd_levels::band_levels(bands);
     let mut run = r;
     let mut start = 13;
     let mut block = 0;
-    for band in &bands[..n] {
-        let tree = tcd_levels::levels(band.across, band.down);
-        let g = tcd_places::grid_of(*band, start);
+    for i in 0..n {
+        let band = bands[i];
+        let g = tcd_places::grid_of(band, start);
         run = read_band(
-            words, reports, records, src, run, *band, tree, g, layer, block,
+            words, reports, records, src, run, band, trees[i], g, layer, block,
         );
         if run.refusal != 0 {
             return run;
         }
-        start = tcd_places::grid_end(*band, g);
-        block += tcd_layout::band_blocks(*band);
+        start = tcd_places::grid_end(band, g);
+        block += tcd_layout::band_blocks(band);
     }
     run
 }
