@@ -22,7 +22,7 @@ pub fn read_blocks(
     src: &[u8],
     r: Run,
     band: Band,
-    tree: [Level; 7],
+    tree: &[Level; 7],
     g: Grid,
     layer: u32,
     block: usize,
@@ -32,7 +32,7 @@ pub fn read_blocks(
     end: usize,
 ) -> Run
     requires { (BitsIn src.now r.bio) × (r.refusal ≡ 0) × (BandIn (length words.old) g.start band)
-        × (g ≡ grid_of g.start band) × (tree ≡ padded (levels band.across band.down)) × (layer < not_yet_included)
+        × (g ≡ grid_of g.start band) × (tree.now ≡ padded (levels band.across band.down)) × (layer < not_yet_included)
         × (block ≤ 12288) × (BlocksFit words.old (g.start + 6 * band_nodes band + 4 * i) (end - i)) × (end ≤ blocks_in band)
         × (i < end → (i ≡ y * band.across + x) × (x < band.across)) }
     ensures { reading words.new reports.new records.new result
@@ -45,7 +45,7 @@ pub fn read_blocks(
     let mut at = i;
     while at < end {
         let mut row = [0usize; 7];
-        tgt::opj_tgt_row(tree, g.depth, line, &mut row);
+        tgt::opj_tgt_row(*tree, g.depth, line, &mut row);
         let start = tcd_places::row_place(g, line);
         let place = tcd_places::place_at(start, column);
         let n = (g.w - column).min(end - at);
@@ -81,13 +81,13 @@ fn read_band(
     src: &[u8],
     r: Run,
     band: Band,
-    tree: [Level; 7],
+    tree: &[Level; 7],
     g: Grid,
     layer: u32,
     block: usize,
 ) -> Run
     requires { (BitsIn src.now r.bio) × (r.refusal ≡ 0) × (BandIn (length words.old) g.start band)
-        × (g ≡ grid_of g.start band) × (tree ≡ padded (levels band.across band.down)) × (layer < not_yet_included)
+        × (g ≡ grid_of g.start band) × (tree.now ≡ padded (levels band.across band.down)) × (layer < not_yet_included)
         × (block ≤ 12288) × (BandFits words.old g.start band) }
     ensures { reading words.new reports.new records.new result
         ≡ next_blocks src.now layer block (band_blocks g.start band)
@@ -99,7 +99,8 @@ fn read_band(
     )
 }
 
-// The first n bands.
+// The first n bands. Inlined, as a call's arguments cost a good part of what a block does.
+#[inline(always)]
 pub fn read_bands(
     words: &mut [u32],
     reports: &mut [u32],
@@ -116,15 +117,15 @@ pub fn read_bands(
         ≡ next_blocks src.now layer 0 (blocks (take n bands))
         (reading words.old reports.old records.old r) }
 {
-    let trees = tcd_levels::band_levels(bands);
     let mut run = r;
     let mut start = 13;
     let mut block = 0;
     for i in 0..n {
         let band = bands[i];
+        let tree = tcd_levels::levels(band.across, band.down);
         let g = tcd_places::grid_of(band, start);
         run = read_band(
-            words, reports, records, src, run, band, trees[i], g, layer, block,
+            words, reports, records, src, run, band, &tree, g, layer, block,
         );
         if run.refusal != 0 {
             return run;

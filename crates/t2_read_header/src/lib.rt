@@ -11,7 +11,9 @@ ghost use Rattle.t800.specs.Reports.{report_width};
 use t2_read_segments::Run;
 use t800::{Bio, RECORD_WIDTH, Refusal};
 
-// Of the state in `words`, after the first bit, with room for so many records, of which those are stored that are lent.
+// Of the state in `words`, after the first bit, with room for so many records, of which those are stored that are lent. Inlined, as
+// a call's arguments cost a good part of what a block does.
+#[inline(always)]
 pub fn read_header(
     words: &mut [u32],
     reports: &mut [u32],

@@ -106,7 +106,7 @@ fn skip_block(
         window,
         r,
         band,
-        tree,
+        &tree,
         g,
         layer,
         block,

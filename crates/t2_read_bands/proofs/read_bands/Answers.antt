@@ -1,16 +1,15 @@
 use mathlib.Core.Path.{◌≡◌, refl, sym, ap, ◌∙◌, subst}
-use mathlib.Core.List.{List, []}
+use mathlib.Core.List.{List}
 use Prim.Native.Nat.{ℕ, ◌+◌, ◌*◌, ◌^◌, ◌<◌, ◌≤◌}
 use mir.Syntax.{w64}
 use mir.Val.{Fits}
 use native.Mathlib.Omega.{arith}
 use lib.ListN.{length, get_or, take, drop}
 use Rattle.t800.specs.declared.Band.{Band}
-use Rattle.t800.specs.declared.Level.{Level}
 use Rattle.t800.specs.State.{blocks, blocks_at, band_length, end_of}
 use Rattle.t800_laws.proofs.Laws.Layout.{end_after}
 use Rattle.tcd_laws.specs.Geometry.{no_band, SidesUpTo64}
-use Rattle.tcd_laws.proofs.Laws.Bands.{next_band, no_more_bands, sides_of_first, blocks-up_to_4096, band_levels_at, end_turn}
+use Rattle.tcd_laws.proofs.Laws.Bands.{next_band, no_more_bands, sides_of_first, blocks-up_to_4096, end_turn}
 use Rattle.t2_read_segments.specs.Reading.{reading}
 use Rattle.t2_read_block_parts.specs.Blocks.{next_blocks}
 use Rattle.t2_read_block_parts.proofs.Laws.Kept.{Keeps}
@@ -29,9 +28,6 @@ all_three s = let g : length s.args.bands ≡ 3 = search rules in omega (arith, 
 
 room : (s : Start) → length s.args.words.now * 4 < 2 ^ 64
 room s = search rules
-
-band-there : (i n k : ℕ) → i < n → n ≤ k → i < k
-band-there i n k h m = omega arith
 
 band-ends : (end after all size words : ℕ) → end ≤ after → after ≡ all → all ≤ size → words ≡ size → end ≤ words
 band-ends end after all size words a e h k = omega arith
@@ -60,8 +56,8 @@ loop-i-init c =
     let s = c in
     (record { bits = s.requires.0; after = refl }, refl, refl, refl, omega arith, s.requires.1, omega arith, s.requires.4, s.requires.6, refl)
 
-pub bounds-trees-i : goal.bounds-trees-i
-bounds-trees-i c =
+pub bounds-bands-i : goal.bounds-bands-i
+bounds-bands-i c =
     omega (arith, c.loop-i-test.true, c.requires.2)
 
 pub grid_of-g-requires : goal.grid_of-g-requires
@@ -88,9 +84,7 @@ read_band-run-requires c =
       subst (λ (k : Grid). BandIn (length l.words) k.start b) (sym ge)
           (record { sides = m; inside = band-ends _ _ _ _ _ after v l.invariant.7 l.invariant.1 }),
       subst (λ (k : Grid). k ≡ grid_of k.start b) (sym ge) refl,
-      ap (λ (ts : List (List Level)). get_or ts l.i [])
-          c.band_levels-trees.ensures
-          ∙ band_levels_at a.bands l.i (band-there _ _ _ t (all_three (goal.at.read_band-run-requires c).Start)),
+      c.levels-tree.ensures,
       s.requires.5,
       blocks-before l.block l.i a.n l.invariant.6 t s.requires.2,
       subst (λ (k : Grid). BandFits l.words k.start b) (sym ge)
